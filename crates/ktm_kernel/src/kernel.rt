@@ -10,15 +10,16 @@ ghost use Rattle.ktm_world.specs.World.{World};
 ghost use Rattle.ktm_kernel.specs.Answers.{AnswerLeaves, CallLeaves};
 ghost use Rattle.ktm_kernel.specs.Done.{fallen};
 ghost use Rattle.ktm_log.specs.OnDisk.{on};
-ghost use Rattle.ktm_memory.specs.Route.{IsBuiltAsked, decided};
+ghost use Rattle.ktm_route.specs.Route.{IsBuiltAsked, decided};
 ghost use Rattle.ktm_kernel.specs.Stands.{KernelAt, DoesLine, IsReady};
-ghost use Rattle.ktm_memory.specs.Takes.{asked_takes_memory, takes_memory};
+ghost use Rattle.ktm_route.specs.Takes.{asked_takes_memory, takes_memory};
 
 use ktm_base::{Disk, NoMemory, Pid, Refusal};
 use ktm_built::{law_of_events, law_of_standing};
 use ktm_event::Events;
 use ktm_journal::AppendFault;
-use ktm_memory::{Asked, Decision, Memory};
+use ktm_memory::{Decision, Memory};
+use ktm_route::{Asked, decide};
 use ktm_types::{Command, Reply};
 use std::alloc::Global;
 use std::marker::Model;
@@ -114,7 +115,7 @@ impl Kernel {
         ensures enough { asked_takes_memory self.old.now asked ≡ false → IsOk result }
     {
         self.events.clear();
-        let decided = self.memory.decide(self.alloc, asked, &mut self.events)?;
+        let decided = decide(&mut self.memory, self.alloc, asked, &mut self.events)?;
         let Some(Decision { reply, settlement }) = decided else {
             self.memory.fall();
             return Ok(Reply::Refused(Refusal::LogFull));

@@ -1,5 +1,5 @@
 -- Decisions of the layers.
-use Rattle.std.proofs.Common.{◌≡◌, ◌≢◌, ℕ, ◌-◌, true, false, List, [], Some, None, refl, sym, ◌∙◌, ap, subst}
+use Rattle.std.proofs.Common.{◌≡◌, ◌≢◌, ℕ, ◌-◌, false, List, [], Some, None, refl, sym, ◌∙◌, ap, subst}
 use Rattle.arrayvec.specs.ArrayVec.{ArrayVec}
 use Rattle.ktm_types.specs.declared.step.Step.{Step}
 use Rattle.ktm_base.specs.declared.id.Label.{Label}
@@ -16,7 +16,7 @@ use Rattle.ktm_types.specs.declared.reply.Reply.TheVariants.{Done, Guid, Refused
 use Rattle.ktm_world.specs.Decide.{of_keys}
 use Rattle.ktm_world.specs.FileUses.{file_changes_waiting}
 use Rattle.ktm_world.specs.KeyCalls.{KeyOutcome}
-use Rattle.ktm_world.specs.Outcome.{Outcome, apply, is_full, only_reply}
+use Rattle.ktm_world.specs.Outcome.{Outcome, is_full, only_reply}
 use Rattle.ktm_world.specs.Present.{Present}
 use Rattle.ktm_world.specs.Steps.{run}
 use Rattle.ktm_world.specs.TransactionCalls.{arrived, course_of, create_transaction, get_transaction_information, information_of, tick}
@@ -27,48 +27,14 @@ use Rattle.ktm_records.proofs.offered.AgreementOfCourses.{arrival}
 use Rattle.ktm_built.proofs.offered.Applied.{apply-reply}
 use Rattle.ktm_built.proofs.offered.Decided.{done_tick}
 use Rattle.ktm_memory.specs.declared.settlement.Labels.{Labels}
-use Rattle.ktm_memory.specs.declared.settlement.Settlement.{Settlement}
 use Rattle.ktm_memory.specs.declared.settlement.Settlement.TheVariants.{Nothing, Begin, Course, Handles, Pass}
-use Rattle.ktm_memory.specs.declared.decide.Asked.{Asked}
-use Rattle.ktm_memory.specs.Route.{asked_outcome}
-use Rattle.ktm_memory.proofs.Routes.{up_or}
 use Rattle.ktm_memory.proofs.Left.{create_silent}
+use Rattle.ktm_memory.proofs.offered.Decided.{decided, quiet_decided}
 use Rattle.ktm_memory.specs.Decided.{Decides, IsDone}
 use Rattle.ktm_records.proofs.offered.NoMore.{fits-within}
 use Rattle.ktm_memory.proofs.offered.Standing.{built, kept}
 use Rattle.ktm_memory.specs.Memory.{CanGoOn, Held, MayHandle, MaySettle, MemoryState, held, now_of, present_of}
-use Rattle.ktm_memory.specs.Settled.{labels_outcome, left_to_do}
-
--- ---- what changes nothing of what memory holds before it is recorded
-
--- what is left to do comes to what the outcome comes to
-pub decided : (h : Held) (n : MemoryState) (o : Outcome) (reply : Reply) (then : Settlement) (events : EventsState) → IsBuiltNow (now_of h) → reply ≡ o.reply → Holds events o.events → is_full (now_of h).machine.left o.events ≡ false
-    → held n ≡ h → (left_to_do (now_of h) then).events ≡ o.events → apply (now_of h) (left_to_do (now_of h) then) ≡ apply (now_of h) o → MaySettle n then
-    → (o.events ≢ [] → (refusal : Refusal) → reply ≢ Refused refusal) → Decides h o reply then events n
-decided h n o reply then events built says holds room same group comes may answers = record {
-  says = says;
-  records = holds;
-  room = room;
-  journal = ap (λ (g : Held). g.journal) same;
-  group = ap (λ (g : Held). (left_to_do (now_of g) then).events) same ∙ group;
-  comes_to = ap (λ (g : Held). apply (now_of g) (left_to_do (now_of g) then)) same ∙ comes;
-  built = subst (λ (g : Held). IsBuiltNow (now_of g)) (sym same) built;
-  may = may;
-  waits = λ some. same;
-  answers = answers;
-}
-
--- the same of what records nothing
-pub quiet_decided : (h : Held) (n : MemoryState) (o : Outcome) (reply : Reply) (then : Settlement) (events : EventsState) → IsBuiltNow (now_of h) → reply ≡ o.reply → o.events ≡ [] → held n ≡ h
-    → (left_to_do (now_of h) then).events ≡ o.events → apply (now_of h) (left_to_do (now_of h) then) ≡ apply (now_of h) o → MaySettle n then → Holds events [] → Decides h o reply then events n
-quiet_decided h n o reply then events built says none same group comes may holds =
-    decided h n o reply then events built says (subst (Holds events) (sym none) holds) (ap (is_full (now_of h).machine.left) none) same group comes may (λ some. absurd (some none))
-
--- a reply, and nothing left to do
-pub only_decided : (m : MemoryState) (o : Outcome) (reply : Reply) (events : EventsState) → IsBuiltNow (present_of m) → o ≡ only_reply (present_of m) reply → Holds events []
-    → Decides (held m) o reply Nothing events m
-only_decided m o reply events built is holds =
-    subst (λ o. Decides (held m) o reply Nothing events m) (sym is) (quiet_decided (held m) m (only_reply (present_of m) reply) reply Nothing events built refl refl refl refl refl tt holds)
+use Rattle.ktm_memory.specs.Settled.{labels_outcome}
 
 -- ---- calls on keys
 
@@ -106,13 +72,12 @@ information_is x t reply is = ap (only_reply x) (sym is)
 -- ---- time
 
 -- what is to be for the passing of time
-pub tick_decided : (m : MemoryState) (ms : ℕ) (events : EventsState) → m.is_up ≡ true → IsStandingNow (present_of m) → Holds events (tick (present_of m) ms).events → is_full (present_of m).machine.left (tick (present_of m) ms).events ≡ false
-    → Decides (held m) (asked_outcome (present_of m) (Asked.Tick ms)) Done (Pass ms) events m
-tick_decided m ms events up standing holds room =
+pub tick_decided : (m : MemoryState) (ms : ℕ) (events : EventsState) → IsStandingNow (present_of m) → Holds events (tick (present_of m) ms).events → is_full (present_of m).machine.left (tick (present_of m) ms).events ≡ false
+    → Decides (held m) (tick (present_of m) ms) Done (Pass ms) events m
+tick_decided m ms events standing holds room =
     let x = present_of m in
-    subst (λ o. Decides (held m) o Done (Pass ms) events m) (sym (up_or x [] (tick x ms) up))
-    (decided (held m) m (tick x ms) Done (Pass ms) events (built x standing) (sym (done_tick x ms).says) holds room refl refl refl
-    ((kept x standing).sound.course.transactions.rise, (fits-within x (kept x standing).within).live) (λ some refusal e. absurd (cc)))
+    decided (held m) m (tick x ms) Done (Pass ms) events (built x standing) (sym (done_tick x ms).says) holds room refl refl refl
+    ((kept x standing).sound.course.transactions.rise, (fits-within x (kept x standing).within).live) (λ some refusal e. absurd (cc))
 
 -- ---- CreateTransaction
 

@@ -29,11 +29,12 @@ use Rattle.ktm_built.proofs.offered.Applied.{apply-reply}
 use Rattle.ktm_memory.specs.declared.settlement.Settlement.TheVariants.{Change as PlainChange}
 use Rattle.ktm_memory.specs.Decided.{CanAnswer, Decides, bind_opened}
 use Rattle.ktm_memory.specs.Memory.{CanMakePlain, Held, MayBind, MaySettle, MemoryState, held, now_of, present_of}
-use Rattle.ktm_memory.specs.Route.{IsFreeLabel, IsReadyCall}
+use Rattle.ktm_memory.specs.Routed.{IsFreeLabel, IsReadyCall}
 use Rattle.ktm_memory.specs.Opening.{files_outcome}
 use Rattle.ktm_memory.specs.Takes.{is_quiet}
-use Rattle.ktm_memory.proofs.Decides.{decided}
-use Rattle.ktm_memory.proofs.Left.{bound_leaves, events_in, left_by, no_group, reply_of}
+use Rattle.ktm_memory.proofs.offered.Decided.{decided}
+use Rattle.ktm_memory.proofs.Left.{bound_leaves, left_by, no_group}
+use Rattle.ktm_memory.proofs.offered.Opening.{events_in, reply_of}
 use Rattle.ktm_memory.specs.Settled.{handles_then, left_to_do}
 use Rattle.ktm_types.specs.declared.object.Object.TheVariants.{File as FileObject}
 use Rattle.txf_calls.specs.Calls.{file_effect, file_outcome, file_tests, unless_refused}

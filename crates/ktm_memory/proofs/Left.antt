@@ -7,9 +7,7 @@ use Rattle.ktm_types.specs.declared.event.Event.{Event}
 use Rattle.ktm_types.specs.declared.object.Object.{Object}
 use Rattle.ktm_types.specs.declared.object.Transaction.{Transaction}
 use Rattle.ktm_base.specs.declared.id.Id.{Id}
-use Rattle.ktm_world.specs.Decide.{events_of, opening}
 use Rattle.ktm_world.specs.FileOutcome.{FileOutcome}
-use Rattle.ktm_world.specs.Files.{OpenFile}
 use Rattle.ktm_types.specs.declared.object.Handle.{Handle}
 use Rattle.ktm_world.specs.HandleCalls.{bind_to, duplicate_handle}
 use Rattle.ktm_world.specs.Handles.{object_at}
@@ -27,6 +25,7 @@ use Rattle.ktm_built.proofs.offered.Effects.{effects_law}
 use Rattle.ktm_built.proofs.offered.Quiet.{quiet_close, quiet_exit}
 use Rattle.ktm_journal.specs.Image.{JournalState}
 use Rattle.ktm_memory.specs.Memory.{Held, MemoryState, appended, held, logged, now_of, present_of}
+use Rattle.ktm_memory.proofs.offered.Opening.{events_in}
 use Rattle.ktm_memory.proofs.offered.Settling.{built_on}
 use Rattle.ktm_memory.specs.Opening.{files_outcome}
 use Rattle.ktm_memory.specs.Decided.{IsDone}
@@ -107,23 +106,7 @@ labels_done x process (Duplicate label from source) built = go (object_at x.hand
 labels_done x process (Unbind label) built = record { replies = (done_close x process label).says; records = (quiet_close x process label built).silent.records }
 labels_done x process UnbindAll built = record { replies = (done_exit x process).says; records = (quiet_exit x process built).silent.records }
 
--- ---- what an outcome of files answers and records
-
-pub reply_of : (x : Present) (process : Pid) (who : Option Id) (label : Option Label) (o : FileOutcome) → (files_outcome x process who label o).reply ≡ o.reply
-reply_of x process who None o = refl
-reply_of x process who (Some l) o = go o.opened
-  where
-    go : (opened : Option OpenFile) → (opening x process l who (record o { opened = opened })).reply ≡ o.reply
-    go None = refl
-    go (Some file) = refl
-
-pub events_in : (x : Present) (process : Pid) (who : Option Id) (label : Option Label) (o : FileOutcome) → (files_outcome x process who label o).events ≡ events_of who o.change
-events_in x process who None o = refl
-events_in x process who (Some l) o = go o.opened
-  where
-    go : (opened : Option OpenFile) → (opening x process l who (record o { opened = opened })).events ≡ events_of who o.change
-    go None = refl
-    go (Some file) = refl
+-- ---- what an outcome of files leaves
 
 -- what it leaves
 pub left_by : (x : Present) (process : Pid) (who : Option Id) (label : Option Label) (o : FileOutcome) → IsBuiltNow x

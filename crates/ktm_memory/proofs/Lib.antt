@@ -1,6 +1,4 @@
-mod Routes
 mod Rooms
-mod FileRoutes
 mod Decides
 mod FilesDecided
 mod CommitGroups

@@ -1,4 +1,7 @@
 -- Lemmas that other crates cite.
+pub mod Decided
+pub mod Opening
 pub mod Settling
 pub mod Standing
 pub mod Takes
+pub mod Tests

@@ -3,5 +3,5 @@ pub mod Opening
 pub mod Settled
 pub mod Recorded
 pub mod Takes
-pub mod Route
+pub mod Routed
 pub mod Decided

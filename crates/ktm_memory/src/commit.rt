@@ -9,7 +9,7 @@ ghost use Rattle.ktm_course.specs.Recorded.{basis_of, steps_events};
 ghost use Rattle.ktm_built.specs.Effects.{changes_of};
 ghost use Rattle.ktm_memory.specs.Decided.{DecidesIf};
 ghost use Rattle.ktm_memory.specs.Memory.{IsRoomy, held, present_of};
-ghost use Rattle.ktm_memory.specs.Route.{IsReadyCommit};
+ghost use Rattle.ktm_memory.specs.Routed.{IsReadyCommit};
 ghost use Rattle.ktm_built.specs.Standing.{IsStandingNow};
 ghost use Rattle.ktm_types.specs.declared.change.Change.{Change as Made};
 ghost use Rattle.ktm_types.specs.declared.event.Event.{Event as Recorded};

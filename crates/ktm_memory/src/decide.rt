@@ -1,44 +1,32 @@
-// Deciding what a command comes to.
+// Deciding what a call comes to whose labels are known, and the passing of time.
 ghost use Rattle.std.specs.Prelude.{◌≡◌, ◌≤◌, ◌∷◌, true, false, None, Some, [], IfOk, IsOk, OnErr, is_none};
 ghost use Rattle.ktm_built.specs.Standing.{IsBuiltNow, IsStandingNow};
 ghost use Rattle.ktm_event.specs.Kept.{EventsState, Holds};
 ghost use Rattle.ktm_memory.specs.Decided.{Decides, DecidesIf, IsDone};
 ghost use Rattle.ktm_memory.specs.Settled.{labels_outcome};
 ghost use Rattle.ktm_memory.specs.Memory.{IsRoomy, MayHandle, MemoryState, held, present_of};
-ghost use Rattle.ktm_memory.specs.Route.{asked_outcome, outcome_of, AreReady, IsBuiltAsked, IsReadyFor};
-ghost use Rattle.ktm_memory.specs.Takes.{asked_takes_memory, labels_take_memory, routed_takes_memory, takes_memory};
-ghost use Rattle.ktm_memory.specs.declared.decide.Asked.TheVariants.{Tick as OfTick};
-ghost use Rattle.ktm_memory.specs.declared.route.Routed.TheVariants.{Create, Handles as OfLabels};
+ghost use Rattle.ktm_memory.specs.Routed.{outcome_of, AreReady, IsReadyFor};
+ghost use Rattle.ktm_memory.specs.Takes.{labels_take_memory, routed_takes_memory};
+ghost use Rattle.ktm_memory.specs.declared.routed.Routed.TheVariants.{Create, Handles as OfLabels};
 ghost use Rattle.ktm_object.specs.Table.{handles_of};
-ghost use Rattle.ktm_forms.specs.Built.{is_built_command};
-ghost use Rattle.ktm_world.specs.Decide.{of_keys, with_room};
+ghost use Rattle.ktm_world.specs.Decide.{of_keys};
 ghost use Rattle.ktm_world.specs.Handles.{object_at};
 ghost use Rattle.ktm_world.specs.Outcome.{first_refusal, refuse_or};
-ghost use Rattle.ktm_world.specs.TransactionCalls.{handle_test, information_of};
+ghost use Rattle.ktm_world.specs.TransactionCalls.{handle_test, information_of, tick};
 ghost use Rattle.ktm_world.specs.Uses.{key_room};
-ghost use Rattle.ktm_types.specs.Values.{IsCommand};
 ghost use Rattle.kv_rm.specs.Calls.{is_refused, key_outcome};
 
 use crate::commit::has_room;
 use crate::memory::Memory;
-use crate::route::Routed;
+use crate::routed::Routed;
 use crate::settlement::{Decision, Labels, Settlement};
 use crate::undone::{record_undone, undone_size};
 use ktm_base::{Id, Label, NoMemory, ObjectKind, Pid, Refusal, guid};
 use ktm_event::Events;
 use ktm_tm::state_of;
-use ktm_types::{Command, Reply, Transaction};
+use ktm_types::{Reply, Transaction};
 use kv_rm::KvCall;
 use std::alloc::Global;
-
-/// What the machine is to decide.
-#[derive(Drop)]
-pub enum Asked {
-    /// A process calls.
-    Call(Pid, Command),
-    /// So many milliseconds pass.
-    Tick(u32),
-}
 
 impl Memory {
     // How a transaction stands.
@@ -128,8 +116,8 @@ impl Memory {
         Ok(Decision::only(self.keys.call(who, call, room)?))
     }
 
-    // A call whose labels are known is decided by its layer.
-    fn decide_routed(
+    /// A call whose labels are known is decided by its layer.
+    pub fn decide_routed(
         &mut self,
         alloc: Global,
         process: Pid,
@@ -161,38 +149,12 @@ impl Memory {
         }
     }
 
-    // A call is decided.
-    fn decide_call(
-        &mut self,
-        alloc: Global,
-        process: Pid,
-        command: Command,
-        events: &mut Events,
-    ) -> Result<Option<Decision>, NoMemory>
-        requires up { self.old.is_up ≡ true }
-        requires command { IsCommand command }
-        requires built { is_built_command command ≡ true }
-        requires standing { IsStandingNow (present_of self.old) }
-        requires empty { Holds events.old [] }
-        requires roomy { IsRoomy self.old.journal events.old }
-        ensures ok { IfOk result (λ d. DecidesIf (held self.old) (with_room (present_of self.old) process command) d events.new self.new) }
-        ensures room { events.new.room ≡ events.old.room }
-        ensures no_memory { OnErr result (held self.new ≡ held self.old) }
-        ensures enough { takes_memory (present_of self.old) process command ≡ false → IsOk result }
-    {
-        match self.route(process, command) {
-            Ok(routed) => self.decide_routed(alloc, process, routed, events),
-            Err(refusal) => Ok(Some(Decision::only(Reply::Refused(refusal)))),
-        }
-    }
-
-    // Time passes, where the log has room for what that records.
-    fn decide_tick(&self, ms: u32, events: &mut Events) -> Option<Decision>
-        requires up { self.now.is_up ≡ true }
+    /// Time passes, where the log has room for what that records.
+    pub fn decide_tick(&self, ms: u32, events: &mut Events) -> Option<Decision>
         requires standing { IsStandingNow (present_of self.now) }
         requires empty { Holds events.old [] }
         requires roomy { IsRoomy self.now.journal events.old }
-        ensures ok { DecidesIf (held self.now) (asked_outcome (present_of self.now) (OfTick ms)) result events.new self.now }
+        ensures ok { DecidesIf (held self.now) (tick (present_of self.now) ms) result events.new self.now }
         ensures room { events.new.room ≡ events.old.room }
     {
         if !has_room(&self.journal, undone_size(&self.tm, ms)) {
@@ -200,29 +162,5 @@ impl Memory {
         }
         record_undone(&self.tm, ms, events);
         Some(Decision::done(Settlement::Pass(ms)))
-    }
-
-    /// What is asked is decided: its reply, its events, which are put into the list, and what is left to do once they are
-    /// recorded. Nothing that is recorded changes before that. It is not decided where the log has no room for its events.
-    pub fn decide(
-        &mut self,
-        alloc: Global,
-        asked: Asked,
-        events: &mut Events,
-    ) -> Result<Option<Decision>, NoMemory>
-        requires up { self.old.is_up ≡ true }
-        requires built { IsBuiltAsked asked }
-        requires standing { IsStandingNow (present_of self.old) }
-        requires empty { Holds events.old [] }
-        requires roomy { IsRoomy self.old.journal events.old }
-        ensures ok { IfOk result (λ d. DecidesIf (held self.old) (asked_outcome (present_of self.old) asked) d events.new self.new) }
-        ensures room { events.new.room ≡ events.old.room }
-        ensures no_memory { OnErr result (held self.new ≡ held self.old) }
-        ensures enough { asked_takes_memory (present_of self.old) asked ≡ false → IsOk result }
-    {
-        match asked {
-            Asked::Call(process, command) => { self.decide_call(alloc, process, command, events) }
-            Asked::Tick(ms) => Ok(self.decide_tick(ms, events)),
-        }
     }
 }

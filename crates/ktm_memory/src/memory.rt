@@ -83,6 +83,27 @@ impl Memory {
         &self.journal
     }
 
+    /// The handles.
+    pub fn handles(&self) -> &Handles
+        ensures { result.now ≡ self.now.handles }
+    {
+        &self.handles
+    }
+
+    /// The transactions.
+    pub fn tm(&self) -> &Tm
+        ensures { result.now ≡ self.now.tm }
+    {
+        &self.tm
+    }
+
+    /// The files.
+    pub fn files(&self) -> &Files
+        ensures { result.now ≡ self.now.files }
+    {
+        &self.files
+    }
+
     /// The machine is down.
     pub fn fall(&mut self)
         ensures { self.new ≡ record self.old { is_up = false } }

@@ -69,7 +69,7 @@ pub struct Decision {
 
 impl Decision {
     /// A reply, and nothing left to do.
-    pub(crate) fn only(reply: Reply) -> Self
+    pub fn only(reply: Reply) -> Self
         ensures reply { result.reply ≡ reply }
         ensures settlement { result.settlement ≡ Nothing }
     {

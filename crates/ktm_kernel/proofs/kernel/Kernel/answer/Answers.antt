@@ -3,45 +3,45 @@ use Rattle.ktm_base.specs.declared.refusal.Refusal.TheVariants.{LogFull, Machine
 use Rattle.ktm_log.specs.OnDisk.{on}
 use Rattle.ktm_types.specs.declared.reply.Reply.TheVariants.{Refused}
 use Rattle.ktm_built.specs.Standing.{IsStandingNow}
-use Rattle.ktm_memory.specs.Route.{decided}
+use Rattle.ktm_route.specs.Route.{decided}
 use Rattle.ktm_memory.proofs.offered.Takes.{gave_up}
 use Rattle.ktm_kernel.proofs.Ends.{as_shown, built_then, cut_answered, done_answered, kept, may_settle, same_units, stopped_answered}
 use Rattle.ktm_kernel.specs.Stands.{KernelState, machine_of}
-use Rattle.ktm_memory.specs.Takes.{asked_takes_memory}
+use Rattle.ktm_route.specs.Takes.{asked_takes_memory}
 use Rattle.ktm_kernel.proofs.kernel.Kernel.answer.Goals as goal
 
 pub returns-in_default-clause-leaves : goal.returns-in_default-clause-leaves
 returns-in_default-clause-leaves g c =
     let none = rw c.in_default.is at c.in_ok-decided.ensures.ok in
     as_shown (λ x. decided x c.args.asked) (machine_of c.self.inside.memory) c.args.self.now _ _ (on (machine_of c.fall.new.self) _ _) (Refused LogFull) c.self.view_is
-    (stopped_answered c.self.inside.memory _ c.decide.new.self c.fall.new.self _ _
+    (stopped_answered c.self.inside.memory _ c.decide.new.memory c.fall.new.self _ _
     (subst (λ k. IsStandingNow k.now) (sym c.self.view_is) (c.requires.ready.standing c.requires.up)) none.0 none.1 c.fall.ensures (c.requires.ready.powered.power c.requires.up))
 
 pub invariant_of-self-in-Ok : goal.invariant_of-self-in-Ok
 invariant_of-self-in-Ok g c =
     kept c.self.inside.memory.journal c.settle.new.self.journal c.self.inside.events c.decide.new.events
-    (same_units c.self.inside.memory _ c.in-Some.field-0.reply c.in-Some.field-0.settlement c.decide.new.events c.decide.new.self (rw c.in-Some.is at c.in_ok-decided.ensures.ok) _ _
+    (same_units c.self.inside.memory _ c.in-Some.field-0.reply c.in-Some.field-0.settlement c.decide.new.events c.decide.new.memory (rw c.in-Some.is at c.in_ok-decided.ensures.ok) _ _
     c.record.new.self c.settle.new.self _ _ c.in-Ok.ensures c.settle.ensures.journal)
     (c.decide.ensures.room ∙ c.clear.ensures.room) c.self.invariant
 
 pub settle-requires-clause-built : goal.settle-requires-clause-built
 settle-requires-clause-built g c =
-    built_then c.self.inside.memory _ c.in-Some.field-0.reply c.in-Some.field-0.settlement c.decide.new.events c.decide.new.self (rw c.in-Some.is at c.in_ok-decided.ensures.ok) (g.D.Disk.told c.args.disk.now) (g.D.Disk.status c.args.disk.now) c.record.new.self c.in-Ok.ensures.grows
+    built_then c.self.inside.memory _ c.in-Some.field-0.reply c.in-Some.field-0.settlement c.decide.new.events c.decide.new.memory (rw c.in-Some.is at c.in_ok-decided.ensures.ok) (g.D.Disk.told c.args.disk.now) (g.D.Disk.status c.args.disk.now) c.record.new.self c.in-Ok.ensures.grows
 
 pub settle-requires-clause-may : goal.settle-requires-clause-may
 settle-requires-clause-may g c =
-    may_settle c.self.inside.memory _ c.in-Some.field-0.reply c.in-Some.field-0.settlement c.decide.new.events c.decide.new.self (rw c.in-Some.is at c.in_ok-decided.ensures.ok) (g.D.Disk.told c.args.disk.now) (g.D.Disk.status c.args.disk.now) c.record.new.self c.in-Ok.ensures.grows
+    may_settle c.self.inside.memory _ c.in-Some.field-0.reply c.in-Some.field-0.settlement c.decide.new.events c.decide.new.memory (rw c.in-Some.is at c.in_ok-decided.ensures.ok) (g.D.Disk.told c.args.disk.now) (g.D.Disk.status c.args.disk.now) c.record.new.self c.in-Ok.ensures.grows
 
 pub returns-in-Ok-clause-leaves : goal.returns-in-Ok-clause-leaves
 returns-in-Ok-clause-leaves g c =
     as_shown (λ x. decided x c.args.asked) (machine_of c.self.inside.memory) c.args.self.now _ _ (on (machine_of c.settle.new.self) _ _) c.in-Some.field-0.reply c.self.view_is
-    (done_answered c.self.inside.memory _ c.in-Some.field-0.reply c.in-Some.field-0.settlement c.decide.new.events c.decide.new.self (rw c.in-Some.is at c.in_ok-decided.ensures.ok) _ _
+    (done_answered c.self.inside.memory _ c.in-Some.field-0.reply c.in-Some.field-0.settlement c.decide.new.events c.decide.new.memory (rw c.in-Some.is at c.in_ok-decided.ensures.ok) _ _
     c.record.new.self c.settle.new.self _ _ c.in-Ok.ensures c.settle.ensures.now c.settle.ensures.journal)
 
 pub returns-in-Err-Down-clause-leaves : goal.returns-in-Err-Down-clause-leaves
 returns-in-Err-Down-clause-leaves g c =
     as_shown (λ x. decided x c.args.asked) (machine_of c.self.inside.memory) c.args.self.now _ _ (on (machine_of c.fall-in-Err-Down.new.self) _ _) (Refused MachineDown) c.self.view_is
-    (cut_answered c.self.inside.memory _ c.in-Some.field-0.reply c.in-Some.field-0.settlement c.decide.new.events c.decide.new.self (rw c.in-Some.is at c.in_ok-decided.ensures.ok) _ _
+    (cut_answered c.self.inside.memory _ c.in-Some.field-0.reply c.in-Some.field-0.settlement c.decide.new.events c.decide.new.memory (rw c.in-Some.is at c.in_ok-decided.ensures.ok) _ _
     c.record.new.self c.fall-in-Err-Down.new.self _ _ (rw c.in-Err-Down.field-0-is at c.in-Err-Down.ensures) c.fall-in-Err-Down.ensures)
 
 pub returns-in_err-decided-clause-enough : goal.returns-in_err-decided-clause-enough

@@ -8,8 +8,9 @@ use Rattle.ktm_world.specs.Handles.{no_handle_left, object_at}
 use Rattle.ktm_world.specs.TransactionCalls.{create_transaction, no_transaction_left}
 use Rattle.ktm_types.specs.declared.reply.Reply.TheVariants.{Refused}
 use Rattle.ktm_memory.specs.Memory.{held, present_of}
-use Rattle.ktm_memory.proofs.Decides.{create_decided, create_says, only_decided}
-use Rattle.ktm_memory.proofs.Routes.{test_passes, test_refuses}
+use Rattle.ktm_memory.proofs.Decides.{create_decided, create_says}
+use Rattle.ktm_memory.proofs.offered.Decided.{only_decided}
+use Rattle.ktm_memory.proofs.offered.Tests.{test_passes, test_refuses}
 use Rattle.ktm_memory.proofs.offered.Standing.{built}
 use Rattle.ktm_memory.proofs.memory.Memory.decide_create.Goals as goal
 use Rattle.ktm_memory.proofs.offered.Takes.{gave_up, not_refused}

@@ -7,7 +7,7 @@ use Rattle.txf_volume.specs.Held.{files_of}
 use Rattle.ktm_memory.specs.Decided.{CanAnswer, Decides}
 use Rattle.ktm_memory.specs.Memory.{held, present_of}
 use Rattle.ktm_memory.specs.Opening.{files_outcome}
-use Rattle.ktm_memory.proofs.Decides.{only_decided}
+use Rattle.ktm_memory.proofs.offered.Decided.{only_decided}
 use Rattle.ktm_memory.proofs.FilesDecided.{may_make, planned, quiet_outcome}
 use Rattle.ktm_memory.proofs.offered.Standing.{built}
 use Rattle.ktm_memory.proofs.offered.Takes.{gave_up, own_quiet, plain_full, quick_decision}

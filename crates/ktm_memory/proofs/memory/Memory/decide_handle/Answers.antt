@@ -5,8 +5,9 @@ use Rattle.ktm_types.specs.declared.reply.Reply.TheVariants.{Refused}
 use Rattle.ktm_world.specs.Handles.{no_handle_left}
 use Rattle.ktm_memory.specs.Memory.{MemoryState, held, present_of}
 use Rattle.ktm_memory.specs.Settled.{labels_outcome}
-use Rattle.ktm_memory.proofs.Decides.{handles_decided, only_decided}
-use Rattle.ktm_memory.proofs.Routes.{test_passes, test_refuses}
+use Rattle.ktm_memory.proofs.Decides.{handles_decided}
+use Rattle.ktm_memory.proofs.offered.Decided.{only_decided}
+use Rattle.ktm_memory.proofs.offered.Tests.{test_passes, test_refuses}
 use Rattle.ktm_memory.proofs.offered.Takes.{gave_up, not_refused}
 use Rattle.ktm_memory.proofs.memory.Memory.decide_handle.Goals as goal
 

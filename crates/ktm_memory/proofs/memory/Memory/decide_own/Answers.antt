@@ -4,7 +4,7 @@ use Rattle.ktm_world.specs.FileOutcome.{files_after}
 use Rattle.txf_opens.specs.Acts.{open_of}
 use Rattle.std.specs.Option.{option_map}
 use Rattle.ktm_memory.specs.Memory.{Held, MemoryState, held, now_of}
-use Rattle.ktm_memory.specs.Route.{IsFreeLabel}
+use Rattle.ktm_memory.specs.Routed.{IsFreeLabel}
 use Rattle.ktm_memory.proofs.FilesDecided.{may_bind, opens_some, own_decided}
 use Rattle.txf_volume.specs.Transacted.{HasRoom}
 use Rattle.ktm_memory.proofs.offered.Takes.{gave_up}

@@ -1,7 +1,8 @@
 use Rattle.std.proofs.Common.{Some}
 use Rattle.ktm_memory.specs.Memory.{present_of}
 use Rattle.ktm_world.specs.TransactionCalls.{get_transaction_information}
-use Rattle.ktm_memory.proofs.Decides.{information_is, only_decided}
+use Rattle.ktm_memory.proofs.Decides.{information_is}
+use Rattle.ktm_memory.proofs.offered.Decided.{only_decided}
 use Rattle.ktm_memory.proofs.offered.Standing.{built}
 use Rattle.ktm_memory.proofs.CommitGroups.{idle_keys, idle_may, idle_names}
 use Rattle.ktm_memory.proofs.offered.Takes.{from_not, gave_up}

@@ -1,17 +1,16 @@
-use Rattle.std.proofs.Common.{◌≡◌, ℕ, ◌-◌, not, Bool, true, false, List, [], All, filter, refl, sym, ap, subst, ◌∙◌}
+use Rattle.std.proofs.Common.{◌≡◌, ℕ, ◌-◌, not, Bool, true, false, List, All, filter, refl, sym, ap, subst, ◌∙◌}
 use Rattle.std.specs.List.{flat_map}
 use Rattle.ktm_built.specs.Effects.{undo_of}
 use Rattle.ktm_built.proofs.offered.Undone.{undone_spelled}
 use Rattle.ktm_event.specs.Kept.{Holds}
 use Rattle.ktm_event.specs.Spelling.{IsSpellableEvent}
 use Rattle.ktm_types.specs.declared.event.Event.{Event}
-use Rattle.ktm_world.specs.Outcome.{Outcome, is_full}
-use Rattle.ktm_world.specs.TransactionCalls.{later, tick}
+use Rattle.ktm_world.specs.Outcome.{is_full}
+use Rattle.ktm_world.specs.TransactionCalls.{later}
 use Rattle.ktm_world.specs.Transactions.{is_live}
 use Rattle.ktm_memory.specs.Memory.{IsRoomy, MemoryState, present_of}
 use Rattle.ktm_memory.proofs.CommitGroups.{room_from}
 use Rattle.ktm_memory.proofs.Decides.{tick_decided}
-use Rattle.ktm_memory.proofs.Routes.{up_or}
 use Rattle.ktm_memory.proofs.UndoneLive.{tick_undoes, undone_live}
 use Rattle.ktm_memory.proofs.offered.Standing.{kept}
 use Rattle.ktm_memory.proofs.memory.Memory.decide_tick.Goals as goal
@@ -33,7 +32,7 @@ returns-then-not-has_room-clause-ok c =
     let x = present_of c.args.self.now in
     let undoes = tick_undoes x c.args.ms (kept x c.requires.standing).sound.course in
     let too_much = full_from _ (sym (c.has_room.ensures.room _ (sym c.undone_size.ensures)) ∙ c.if-not-has_room.true) in (
-      ap (λ (o : Outcome). is_full x.machine.left o.events) (up_or x [] (tick x c.args.ms) c.requires.up) ∙ ap (is_full x.machine.left) (sym undoes) ∙ sym (ap (λ m. is_too_much m c.args.ms) c.self.view_is) ∙ too_much,
+      ap (is_full x.machine.left) (sym undoes) ∙ sym (ap (λ m. is_too_much m c.args.ms) c.self.view_is) ∙ too_much,
       refl,
     )
 
@@ -53,5 +52,5 @@ returns-clause-ok c =
     let undoes = ap (λ m. undone m c.args.ms) c.self.view_is ∙ tick_undoes x c.args.ms (kept x c.requires.standing).sound.course in
     let room = room_from _ (sym c.if-not-has_room.false ∙ c.has_room.ensures.room _ (sym c.undone_size.ensures)) in
     rw (c.done.ensures.reply, c.done.ensures.settlement)
-    (tick_decided c.args.self.now c.args.ms c.record_undone.new.events c.requires.up c.requires.standing (subst (Holds c.record_undone.new.events) undoes c.record_undone.ensures.holds)
+    (tick_decided c.args.self.now c.args.ms c.record_undone.new.events c.requires.standing (subst (Holds c.record_undone.new.events) undoes c.record_undone.ensures.holds)
     (ap (is_full x.machine.left) (sym (tick_undoes x c.args.ms (kept x c.requires.standing).sound.course)) ∙ sym (ap (λ m. is_too_much m c.args.ms) c.self.view_is) ∙ room))

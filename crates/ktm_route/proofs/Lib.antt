@@ -1,0 +1,3 @@
+mod Routes
+mod Takes
+mod FileRoutes

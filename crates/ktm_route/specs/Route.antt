@@ -1,0 +1,80 @@
+-- What is asked, the call to which it is routed, and what it comes to.
+use Rattle.std.specs.Prelude.{◌≡◌, not, Bool, true, false, List, [], ◌∷◌, Option, Result, Ok, Err}
+use Rattle.ktm_base.specs.declared.id.Pid.{Pid}
+use Rattle.ktm_base.specs.declared.refusal.Refusal.{Refusal}
+use Rattle.ktm_base.specs.declared.refusal.Refusal.TheVariants.{HandleNoLongerValid, MachineDown}
+use Rattle.ktm_types.specs.declared.command.Command.{Command}
+use Rattle.ktm_types.specs.declared.command.Command.TheVariants.{CreateFile, CreateFileTransacted, ReadFile, WriteFile, SetEndOfFile, GetFileSizeEx, FlushFileBuffers, DeleteFile, CreateDirectory, RemoveDirectory, MoveFile, DeleteFileTransacted, CreateDirectoryTransacted, RemoveDirectoryTransacted, MoveFileTransacted, FindFiles, FindFilesTransacted}
+use Rattle.ktm_types.specs.declared.object.Object.{Object}
+use Rattle.ktm_types.specs.declared.reply.Reply.TheVariants.{Refused}
+use Rattle.ktm_forms.specs.Built.{is_built_command}
+use Rattle.ktm_world.specs.Decide.{with_room}
+use Rattle.ktm_world.specs.Labels.{file_number, holds_of, invalid_handle, is_dead}
+use Rattle.ktm_world.specs.Outcome.{Outcome, first_refusal, only_reply, refuse_or, within_log}
+use Rattle.ktm_world.specs.Present.{Present}
+use Rattle.ktm_world.specs.TransactionCalls.{tick}
+use Rattle.ktm_types.specs.Values.{IsCommand}
+use Rattle.ktm_world.specs.Files.{FilesNow}
+use Rattle.ktm_route.specs.declared.asked.Asked.{Asked}
+use Rattle.ktm_route.specs.declared.asked.Asked.TheVariants.{Call, Tick}
+use Rattle.ktm_memory.specs.declared.routed.Routed.{Routed}
+use Rattle.ktm_memory.specs.Routed.{IsReadyFor, outcome_of}
+use Rattle.ktm_memory.specs.Takes.{routed_takes_memory}
+use Rattle.ktm_route.specs.Takes.{takes_memory}
+
+-- a command comes to what a call comes to, for which its labels are ready, and may take memory where the call may
+abbrev pub IsRouted : Present → Pid → Command → Routed → Type 0
+IsRouted x process command routed =
+    (with_room x process command ≡ outcome_of x process routed) × IsReadyFor x process routed × (takes_memory x process command ≡ routed_takes_memory x routed)
+
+-- a command is routed to a call, or comes to a refusal
+abbrev pub Routes : Present → Pid → Command → Result Routed Refusal → Type 0
+Routes x process command (Ok routed) = IsRouted x process command routed
+Routes x process command (Err refusal) = with_room x process command ≡ only_reply x (Refused refusal)
+
+-- is the command one on an open file
+abbrev pub is_on_open_file : Command → Bool
+is_on_open_file (ReadFile file offset many) = true
+is_on_open_file (WriteFile file offset bytes) = true
+is_on_open_file (SetEndOfFile file size) = true
+is_on_open_file (GetFileSizeEx file) = true
+is_on_open_file (FlushFileBuffers file) = true
+is_on_open_file _ = false
+
+-- is it one on a path, in a transaction
+abbrev pub is_transacted : Command → Bool
+is_transacted (CreateFileTransacted label path access share disposition transaction) = true
+is_transacted (DeleteFileTransacted path transaction) = true
+is_transacted (CreateDirectoryTransacted path transaction) = true
+is_transacted (RemoveDirectoryTransacted path transaction) = true
+is_transacted (MoveFileTransacted source target transaction) = true
+is_transacted (FindFilesTransacted searched transaction) = true
+is_transacted _ = false
+
+-- is it a plain one on a path
+abbrev pub is_on_path : Command → Bool
+is_on_path (CreateFile label path access share disposition) = true
+is_on_path (DeleteFile path) = true
+is_on_path (CreateDirectory path) = true
+is_on_path (RemoveDirectory path) = true
+is_on_path (MoveFile source target) = true
+is_on_path (FindFiles searched) = true
+is_on_path _ = false
+
+-- the tests on the handle that is duplicated
+abbrev pub source_tests : FilesNow → Option Object → List (Bool × Refusal)
+source_tests files named = invalid_handle named ∷ (holds_of (is_dead files) (file_number named), HandleNoLongerValid) ∷ []
+
+-- what is asked comes to this, where the log has room
+abbrev pub asked_outcome : Present → Asked → Outcome
+asked_outcome x (Call process command) = with_room x process command
+asked_outcome x (Tick ms) = refuse_or x (first_refusal ((not x.machine.is_up, MachineDown) ∷ [])) (tick x ms)
+
+-- it is decided once, on what is so now
+abbrev pub decided : Present → Asked → Outcome
+decided x asked = within_log x (asked_outcome x asked)
+
+-- is it built, and can it be asked
+abbrev pub IsBuiltAsked : Asked → Type 0
+IsBuiltAsked (Call process command) = IsCommand command × (is_built_command command ≡ true)
+IsBuiltAsked (Tick ms) = Unit {0}

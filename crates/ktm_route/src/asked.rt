@@ -1,0 +1,76 @@
+// Deciding what is asked.
+ghost use Rattle.std.specs.Prelude.{◌≡◌, true, false, [], IfOk, IsOk, OnErr};
+ghost use Rattle.ktm_built.specs.Standing.{IsStandingNow};
+ghost use Rattle.ktm_event.specs.Kept.{Holds};
+ghost use Rattle.ktm_forms.specs.Built.{is_built_command};
+ghost use Rattle.ktm_memory.specs.Decided.{DecidesIf};
+ghost use Rattle.ktm_memory.specs.Memory.{IsRoomy, held, present_of};
+ghost use Rattle.ktm_route.specs.Route.{IsBuiltAsked, asked_outcome};
+ghost use Rattle.ktm_route.specs.Takes.{asked_takes_memory, takes_memory};
+ghost use Rattle.ktm_types.specs.Values.{IsCommand};
+ghost use Rattle.ktm_world.specs.Decide.{with_room};
+
+use crate::route::route;
+use ktm_base::{NoMemory, Pid};
+use ktm_event::Events;
+use ktm_memory::{Decision, Memory};
+use ktm_types::{Command, Reply};
+use std::alloc::Global;
+
+/// What the machine is to decide.
+#[derive(Drop)]
+pub enum Asked {
+    /// A process calls.
+    Call(Pid, Command),
+    /// So many milliseconds pass.
+    Tick(u32),
+}
+
+// A call is decided.
+fn decide_call(
+    memory: &mut Memory,
+    alloc: Global,
+    process: Pid,
+    command: Command,
+    events: &mut Events,
+) -> Result<Option<Decision>, NoMemory>
+    requires up { memory.old.is_up ≡ true }
+    requires command { IsCommand command }
+    requires built { is_built_command command ≡ true }
+    requires standing { IsStandingNow (present_of memory.old) }
+    requires empty { Holds events.old [] }
+    requires roomy { IsRoomy memory.old.journal events.old }
+    ensures ok { IfOk result (λ d. DecidesIf (held memory.old) (with_room (present_of memory.old) process command) d events.new memory.new) }
+    ensures room { events.new.room ≡ events.old.room }
+    ensures no_memory { OnErr result (held memory.new ≡ held memory.old) }
+    ensures enough { takes_memory (present_of memory.old) process command ≡ false → IsOk result }
+{
+    match route(memory, process, command) {
+        Ok(routed) => memory.decide_routed(alloc, process, routed, events),
+        Err(refusal) => Ok(Some(Decision::only(Reply::Refused(refusal)))),
+    }
+}
+
+/// What is asked is decided: its reply, its events, which are put into the list, and what is left to do once they are
+/// recorded. Nothing that is recorded changes before that. It is not decided where the log has no room for its events.
+pub fn decide(
+    memory: &mut Memory,
+    alloc: Global,
+    asked: Asked,
+    events: &mut Events,
+) -> Result<Option<Decision>, NoMemory>
+    requires up { memory.old.is_up ≡ true }
+    requires built { IsBuiltAsked asked }
+    requires standing { IsStandingNow (present_of memory.old) }
+    requires empty { Holds events.old [] }
+    requires roomy { IsRoomy memory.old.journal events.old }
+    ensures ok { IfOk result (λ d. DecidesIf (held memory.old) (asked_outcome (present_of memory.old) asked) d events.new memory.new) }
+    ensures room { events.new.room ≡ events.old.room }
+    ensures no_memory { OnErr result (held memory.new ≡ held memory.old) }
+    ensures enough { asked_takes_memory (present_of memory.old) asked ≡ false → IsOk result }
+{
+    match asked {
+        Asked::Call(process, command) => { decide_call(memory, alloc, process, command, events) }
+        Asked::Tick(ms) => Ok(memory.decide_tick(ms, events)),
+    }
+}

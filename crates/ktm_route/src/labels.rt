@@ -1,0 +1,152 @@
+// What labels name, with the tests of their handles.
+ghost use Rattle.std.specs.Prelude.{◌≡◌, ◌∷◌, [], Some, None, IfOk, IfErr};
+ghost use Rattle.ktm_base.specs.declared.refusal.Refusal.TheVariants.{HandleNoLongerValid};
+ghost use Rattle.ktm_built.specs.Standing.{IsStandingNow};
+ghost use Rattle.ktm_memory.specs.Memory.{present_of};
+ghost use Rattle.ktm_route.specs.Route.{source_tests};
+ghost use Rattle.ktm_world.specs.Handles.{object_at, transaction_id};
+ghost use Rattle.ktm_world.specs.Labels.{file_named, file_number, file_tests, is_dead, is_suspended, transaction_named, transaction_tests, view_tests, viewer};
+ghost use Rattle.ktm_world.specs.Outcome.{first_refusal};
+ghost use Rattle.ktm_world.specs.TransactionCalls.{transaction_with};
+ghost use Rattle.txf_opens.specs.Acts.{open_of};
+ghost use Rattle.txf_volume.specs.Held.{files_of};
+
+use ktm_base::{Id, Label, ObjectKind, Pid, Refusal, id_of};
+use ktm_memory::Memory;
+use ktm_tm::{active_refusal, is_active};
+use ktm_types::{Object, Transaction, View};
+use txf_calls::OpenFile;
+use uuid::Uuid;
+
+// The transaction among the objects.
+fn transaction_id(object: Option<Object>) -> Option<Id>
+    ensures { result ≡ transaction_id object }
+{
+    match object {
+        Some(Object::Transaction(id)) => Some(id),
+        Some(Object::Manager(_)) | Some(Object::Enlistment(_)) | Some(Object::File(_)) => None,
+        None => None,
+    }
+}
+
+// The open file among the objects.
+fn file_number(object: Option<Object>) -> Option<u32>
+    ensures { result ≡ file_number object }
+{
+    match object {
+        Some(Object::File(number)) => Some(number),
+        Some(Object::Transaction(_)) | Some(Object::Manager(_)) | Some(Object::Enlistment(_)) => {
+            None
+        }
+        None => None,
+    }
+}
+
+// The object that a label of a process names.
+pub(crate) fn object_at(memory: &Memory, process: Pid, label: Label) -> Option<Object>
+    ensures { result ≡ object_at (present_of memory.now).handles process label }
+{
+    memory.handles().get(process, label)
+}
+
+// The transaction that a label of a process names.
+pub(crate) fn named(memory: &Memory, process: Pid, label: Label) -> Option<Transaction>
+    ensures { result ≡ transaction_named (present_of memory.now) process label }
+{
+    let id = transaction_id(object_at(memory, process, label))?;
+    memory.tm().find(id)
+}
+
+// The active transaction that a label names, or why there is none.
+pub(crate) fn active(memory: &Memory, process: Pid, label: Label) -> Result<Transaction, Refusal>
+    ensures ok { IfOk result (λ t. (transaction_named (present_of memory.now) process label ≡ Some t) × (first_refusal (transaction_tests (Some t)) ≡ None)) }
+    ensures err { IfErr result (λ refusal. first_refusal (transaction_tests (transaction_named (present_of memory.now) process label)) ≡ Some refusal) }
+{
+    let Some(t) = named(memory, process, label) else {
+        return Err(Refusal::InvalidHandle);
+    };
+    match active_refusal(&t) {
+        Some(refusal) => Err(refusal),
+        None => Ok(t),
+    }
+}
+
+// Through which transaction a view looks, or why it cannot.
+pub(crate) fn viewer(memory: &Memory, process: Pid, view: View) -> Result<Option<Id>, Refusal>
+    ensures ok { IfOk result (λ who. (first_refusal (view_tests (present_of memory.now) process view) ≡ None) × (viewer (present_of memory.now) process view ≡ who)) }
+    ensures err { IfErr result (λ refusal. first_refusal (view_tests (present_of memory.now) process view) ≡ Some refusal) }
+{
+    let View::Transaction(label) = view else {
+        return Ok(None);
+    };
+    match active(memory, process, label) {
+        Ok(t) => Ok(Some(t.id)),
+        Err(refusal) => Err(refusal),
+    }
+}
+
+// Why the handle of what is named cannot be duplicated, if it cannot.
+pub(crate) fn source_refusal(memory: &Memory, named: Option<Object>) -> Option<Refusal>
+    ensures { result ≡ first_refusal (source_tests (files_of memory.now.files) named) }
+{
+    match named {
+        Some(Object::File(number)) => dead_refusal(memory, number),
+        Some(Object::Transaction(_)) | Some(Object::Manager(_)) | Some(Object::Enlistment(_)) =>
+            None,
+        None => Some(Refusal::InvalidHandle),
+    }
+}
+
+// Why the handle of a file cannot be used, where it is dead.
+pub(crate) fn dead_refusal(memory: &Memory, number: u32) -> Option<Refusal>
+    ensures { result ≡ first_refusal ((is_dead (files_of memory.now.files) number, HandleNoLongerValid) ∷ []) }
+{
+    if memory.files().is_dead(number) {
+        return Some(Refusal::HandleNoLongerValid);
+    }
+    None
+}
+
+// Is the transaction of an open file not active, if it has one.
+pub(crate) fn is_suspended(memory: &Memory, file: &OpenFile) -> bool
+    ensures { result ≡ is_suspended (present_of memory.now) (open_of file.now) }
+{
+    match file.transaction {
+        Some(id) => match memory.tm().find(id) {
+            Some(t) => !is_active(&t),
+            None => false,
+        },
+        None => false,
+    }
+}
+
+// The open file that a label names, or why it cannot be used.
+pub(crate) fn open_file(memory: &Memory, process: Pid, label: Label) -> Result<OpenFile, Refusal>
+    ensures ok { IfOk result (λ file. (file_named (present_of memory.now) process label ≡ Some (open_of file)) × (first_refusal (file_tests (present_of memory.now) process label) ≡ None)) }
+    ensures err { IfErr result (λ refusal. first_refusal (file_tests (present_of memory.now) process label) ≡ Some refusal) }
+{
+    let Some(number) = file_number(object_at(memory, process, label)) else {
+        return Err(Refusal::InvalidHandle);
+    };
+    if let Some(refusal) = dead_refusal(memory, number) {
+        return Err(refusal);
+    }
+    let Some(file) = memory.files().open_file(number) else {
+        unreachable!();
+    };
+    if is_suspended(memory, &file) {
+        return Err(Refusal::TransactionNotActive);
+    }
+    Ok(file)
+}
+
+// The live transaction with a GUID.
+pub(crate) fn with_guid(memory: &Memory, guid: &Uuid) -> Option<Transaction>
+    requires { IsStandingNow (present_of memory.now) }
+    ensures { result ≡ transaction_with (present_of memory.now) guid.now }
+{
+    let Some(id) = id_of(ObjectKind::Transaction, memory.journal().image(), guid) else {
+        return None;
+    };
+    memory.tm().find_live(id)
+}

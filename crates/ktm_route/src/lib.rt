@@ -1,0 +1,11 @@
+//! From what is asked to what is decided on it: labels and GUIDs become objects, their handles and transactions are tested, and
+//! the call that comes out is decided by the machine's memory.
+#![tactic(auto)]
+
+mod asked;
+mod file_routes;
+mod labels;
+mod route;
+mod transaction_routes;
+
+pub use asked::{Asked, decide};

@@ -1,0 +1,98 @@
+// From labels to objects.
+ghost use Rattle.std.specs.Prelude.{◌≡◌, true, Some};
+ghost use Rattle.ktm_built.specs.Standing.{IsStandingNow};
+ghost use Rattle.ktm_memory.specs.Memory.{present_of};
+ghost use Rattle.ktm_route.specs.Route.{Routes};
+ghost use Rattle.ktm_types.specs.Values.{IsCommand};
+ghost use Rattle.ktm_types.specs.declared.command.Command.TheVariants.{CloseHandle, CommitTransaction, CreateTransaction, DuplicateHandle, GetTransactionInformation, OpenTransaction, RollbackTransaction};
+ghost use Rattle.ktm_forms.specs.Built.{is_built_command};
+
+use crate::file_routes::{route_open, route_path, route_transacted};
+use crate::labels::{active, viewer};
+use crate::transaction_routes::{
+    to_close, to_commit, to_create, to_duplicate, to_open, to_roll_back, to_tell,
+};
+use ktm_base::{Pid, Refusal};
+use ktm_memory::{Labels, Memory, Routed};
+use ktm_types::Command;
+use kv_rm::KvCall;
+
+/// The call, with what its labels name; or the refusal of a label, or of what it names.
+pub(crate) fn route(memory: &Memory, process: Pid, command: Command) -> Result<Routed, Refusal>
+    requires up { memory.now.is_up ≡ true }
+    requires command { IsCommand command }
+    requires built { is_built_command command ≡ true }
+    requires standing { IsStandingNow (present_of memory.now) }
+    ensures { Routes (present_of memory.now) process command result }
+{
+    match command {
+        Command::CreateTransaction { label, timeout } => {
+            to_create(memory, process, label, timeout)
+        }
+        Command::OpenTransaction { label, guid } => { to_open(memory, process, label, &guid) }
+        Command::CommitTransaction { transaction } => { to_commit(memory, process, transaction) }
+        Command::RollbackTransaction { transaction } => {
+            to_roll_back(memory, process, transaction)
+        }
+        Command::GetTransactionInformation { transaction } => {
+            to_tell(memory, process, transaction)
+        }
+        Command::CloseHandle { label } => to_close(memory, process, label),
+        Command::DuplicateHandle {
+            label,
+            process: from,
+            source,
+        } => to_duplicate(memory, process, label, from, source),
+        Command::Exit => Ok(Routed::Handles(Labels::UnbindAll)),
+        Command::KvSet {
+            transaction,
+            key,
+            value,
+        } => match active(memory, process, transaction) {
+            Ok(t) => Ok(Routed::Keys {
+                who: Some(t.id),
+                call: KvCall::Set { key, value },
+            }),
+            Err(refusal) => Err(refusal),
+        },
+        Command::KvUnset { transaction, key } => match active(memory, process, transaction) {
+            Ok(t) => Ok(Routed::Keys {
+                who: Some(t.id),
+                call: KvCall::Unset { key },
+            }),
+            Err(refusal) => Err(refusal),
+        },
+        Command::KvGet { view, key } => match viewer(memory, process, view) {
+            Ok(who) => Ok(Routed::Keys {
+                who,
+                call: KvCall::Get { key },
+            }),
+            Err(refusal) => Err(refusal),
+        },
+        Command::KvList { view } => match viewer(memory, process, view) {
+            Ok(who) => Ok(Routed::Keys {
+                who,
+                call: KvCall::List,
+            }),
+            Err(refusal) => Err(refusal),
+        },
+        Command::CreateFile { .. }
+        | Command::DeleteFile { .. }
+        | Command::CreateDirectory { .. }
+        | Command::RemoveDirectory { .. }
+        | Command::MoveFile { .. }
+        | Command::FindFiles { .. } => route_path(memory, process, command),
+        Command::ReadFile { .. }
+        | Command::WriteFile { .. }
+        | Command::SetEndOfFile { .. }
+        | Command::GetFileSizeEx { .. }
+        | Command::FlushFileBuffers { .. } => route_open(memory, process, command),
+        Command::CreateFileTransacted { .. }
+        | Command::DeleteFileTransacted { .. }
+        | Command::CreateDirectoryTransacted { .. }
+        | Command::RemoveDirectoryTransacted { .. }
+        | Command::MoveFileTransacted { .. }
+        | Command::FindFilesTransacted { .. } => { route_transacted(memory, process, command) }
+        _ => unreachable!(),
+    }
+}
