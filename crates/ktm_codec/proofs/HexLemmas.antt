@@ -1,90 +1,73 @@
 -- What is read in hexadecimal digits is what is spelled in them.
-use Rattle.std.proofs.Common.{◌≡◌, ℕ, zero, suc, ◌&&◌, Bool, true, cond, length, get_or, nat_lt, sym, ◌+◌, ◌*◌, ◌/◌, ◌%◌, ◌<◌, ◌≤◌, List, [], ◌∷◌, ◌++◌, Option, Some, None, refl, ap, ◌∙◌, arith, option_map, option_and_then, append_assoc, subst, codes, bytes_eq, nat_eq, false, inl, inr}
-use Rattle.std.proofs.lemmas.Option.{option_and_then_some, same_Some, some_pair_parts}
-use Rattle.std.proofs.lemmas.Bool.{and_parts, cases_Bool, eqb-true, le-ltb, lt-ltb}
+use Rattle.std.proofs.Common.{◌≡◌, ◌≢◌, ℕ, length, get_or, set, take, drop, sym, ◌+◌, ◌*◌, ◌/◌, ◌%◌, ◌<◌, List, [], ◌∷◌, ◌++◌, Option, Some, None, is_some, refl, ap, ◌∙◌, arith, option_map, option_and_then, append_assoc, subst, codes, bytes_eq, nat_eq, false, inl, inr}
+use Rattle.std.specs.List.{list_all}
+use Rattle.std.proofs.lemmas.List.{take_more_set, drop_more}
+use Rattle.std.proofs.lemmas.Option.{option_and_then_some, same_Some}
+use Rattle.std.proofs.lemmas.Bool.{cases_Bool}
 use Rattle.std.proofs.lemmas.Grind.{common_steps}
 use Rattle.std.proofs.lemmas.Slice.Eq.{bytes_eq-Decides}
 use Rattle.ktm_base.specs.Bytes.{AreBytes}
-use Rattle.ktm_codec.specs.Hex.{digit_value, first_pair, hex_digit, hex_of, hex_or_dash, pair_value, unhex, unhex_or_dash}
-
--- ---- a table of what bytes stand for
-
-abbrev pub number_in : ℕ → Option ℕ
-number_in v = cond (nat_lt v 16) (Some v) None
-
-abbrev pub same_number : Option ℕ → Option ℕ → Bool
-same_number None None = true
-same_number (Some a) (Some b) = nat_eq a b
-same_number None (Some b) = false
-same_number (Some a) None = false
-
-same_number-is : (a b : Option ℕ) → same_number a b ≡ true → a ≡ b
-same_number-is None None same = refl
-same_number-is (Some a) (Some b) same = ap Some (eqb-true a b same)
-same_number-is None (Some b) same = let wrong : false ≡ true = same in cc
-same_number-is (Some a) None same = let wrong : false ≡ true = same in cc
-
--- has the table, from this byte on, what each byte stands for
-abbrev pub has_numbers : ℕ → List ℕ → Bool
-has_numbers n [] = true
-has_numbers n (v ∷ vs) = same_number (number_in v) (digit_value n) && has_numbers (suc n) vs
-
-number_at-from : (n : ℕ) (vs : List ℕ) (k d : ℕ) → has_numbers n vs ≡ true → k < length vs → number_in (get_or vs k d) ≡ digit_value (n + k)
-number_at-from n [] k d has within = absurd (omega (arith, within))
-number_at-from n (v ∷ vs) zero d has within =
-    let same : n ≡ n + 0 = omega arith in
-    same_number-is _ _ (and_parts (same_number (number_in v) (digit_value n)) (has_numbers (suc n) vs) has).0 ∙ ap digit_value same
-number_at-from n (v ∷ vs) (suc k) d has within =
-    let same : suc n + k ≡ n + suc k = omega arith in
-    number_at-from (suc n) vs k d (and_parts (same_number (number_in v) (digit_value n)) (has_numbers (suc n) vs) has).1 (omega (arith, within)) ∙ ap digit_value same
-
-number_at : (vs : List ℕ) (k d : ℕ) → has_numbers 0 vs ≡ true → k < length vs → number_in (get_or vs k d) ≡ digit_value k
-number_at vs k d has within =
-    let same : 0 + k ≡ k = omega arith in
-    number_at-from 0 vs k d has within ∙ ap digit_value same
-
--- the number that stands in such a table at a digit, and 16 or more where it is none
-pub number_small : (vs : List ℕ) (k d : ℕ) → has_numbers 0 vs ≡ true → k < length vs → get_or vs k d < 16 → Some (get_or vs k d) ≡ digit_value k
-number_small vs k d has within small =
-    let test : nat_lt (get_or vs k d) 16 ≡ true = lt-ltb _ _ small in
-    ap (λ t. cond t (Some (get_or vs k d)) None) (sym test) ∙ number_at vs k d has within
-
-pub number_great : (vs : List ℕ) (k d : ℕ) → has_numbers 0 vs ≡ true → k < length vs → 16 ≤ get_or vs k d → ◌≡◌ {A = Option ℕ} None (digit_value k)
-number_great vs k d has within great =
-    let test : nat_lt (get_or vs k d) 16 ≡ false = le-ltb _ _ great in
-    ap (λ t. cond t (Some (get_or vs k d)) None) (sym test) ∙ number_at vs k d has within
+use Rattle.ktm_codec.specs.Hex.{digit_value, hex_digit, is_hex_digit, hex_of, hex_or_dash, pair_value, unhex, unhex_or_dash}
 
 map-front : (front : List ℕ) (b : ℕ) (r : Option (List ℕ)) → option_map (λ bs. (front ++ b ∷ []) ++ bs) r ≡ option_map (λ bs. front ++ bs) (option_map (λ bs. b ∷ bs) r)
 map-front front b None = refl
 map-front front b (Some bs) = ap Some (append_assoc front (b ∷ []) bs)
 
-map-pair : (front rest more : List ℕ) (b : ℕ) (o : Option ℕ) → ◌≡◌ {A = Option (ℕ × List ℕ)} (Some (b, rest)) (option_map (λ v. (v, more)) o)
-    → option_map (λ bs. (front ++ b ∷ []) ++ bs) (unhex rest) ≡ option_map (λ bs. front ++ bs) (option_and_then (λ v. option_map (λ bs. v ∷ bs) (unhex more)) o)
-map-pair front rest more b None e = cc
-map-pair front rest more b (Some v) e =
-    let parts = some_pair_parts b v rest more e in
-    rw (parts.0, parts.1) (map-front front v (unhex more))
-
 pub option_map_some : {A B P : Type 0} (f : A → B) (o : Option A) (y : B) → option_map f o ≡ Some y → ((x : A) → o ≡ Some x → f x ≡ y → P) → P
 option_map_some f None y e then = cc
 option_map_some f (Some x) y e then = then x refl (same_Some _ _ e)
 
+-- before the first pair
+pub unhex-start : (o : Option (List ℕ)) → option_map (λ bs. [] ++ bs) o ≡ o
+unhex-start None = refl
+unhex-start (Some bs) = refl
+
 -- one pair more
-pub unhex-pair : (front rest text : List ℕ) (b : ℕ) → Some (b, rest) ≡ first_pair text
-    → option_map (λ bs. (front ++ b ∷ []) ++ bs) (unhex rest) ≡ option_map (λ bs. front ++ bs) (unhex text)
-unhex-pair front rest [] b e = cc
-unhex-pair front rest (c ∷ []) b e = cc
-unhex-pair front rest (high ∷ low ∷ more) b e = map-pair front rest more b (pair_value high low) e
+unhex-pair : (front rest : List ℕ) (high low h l : ℕ) → Some h ≡ digit_value high → Some l ≡ digit_value low
+    → option_map (λ bs. (front ++ (h * 16 + l) ∷ []) ++ bs) (unhex rest) ≡ option_map (λ bs. front ++ bs) (unhex (high ∷ low ∷ rest))
+unhex-pair front rest high low h l first second = rw (← first, ← second) (map-front front (h * 16 + l) (unhex rest))
 
-none-map : {A B C : Type 0} (f : A → B) (g : A → Option C) (o : Option A) → None ≡ option_map f o → option_and_then g o ≡ None
-none-map f g None e = refl
-none-map f g (Some v) e = cc
+-- one pair of the text more is read into the bytes
+pub unhex-step : (text bytes : List ℕ) (i h l : ℕ) → 2 * i + 1 < length text → i < length bytes
+    → Some h ≡ digit_value (get_or text (2 * i) 0) → Some l ≡ digit_value (get_or text (2 * i + 1) 0)
+    → option_map (λ bs. take i bytes ++ bs) (unhex (drop (2 * i) text)) ≡ unhex text
+    → option_map (λ bs. take (i + 1) (set bytes i (h * 16 + l)) ++ bs) (unhex (drop (2 * (i + 1)) text)) ≡ unhex text
+unhex-step text bytes i h l within room first second so_far =
+    let behind : 2 * (i + 1) ≡ 2 * i + 1 + 1 = omega arith in
+    rw (take_more_set bytes i (h * 16 + l) room, behind)
+    (unhex-pair (take i bytes) (drop (2 * i + 1 + 1) text) (get_or text (2 * i) 0) (get_or text (2 * i + 1) 0) h l first second
+    ∙ ap (λ (t : List ℕ). option_map (λ bs. take i bytes ++ bs) (unhex t)) (sym (drop_more text (2 * i) 0 (omega arith) ∙ ap (λ (t : List ℕ). get_or text (2 * i) 0 ∷ t) (drop_more text (2 * i + 1) 0 within)))
+    ∙ so_far)
 
--- where no pair is at the front there is nothing, or what is there is not spelled so
-pub unhex-no_pair : (text : List ℕ) → None ≡ first_pair text → (c : ℕ) (cs : List ℕ) → text ≡ c ∷ cs → unhex text ≡ None
-unhex-no_pair [] e c cs h = cc
-unhex-no_pair (high ∷ []) e c cs h = refl
-unhex-no_pair (high ∷ low ∷ more) e c cs h = none-map (λ b. (b, more)) _ (pair_value high low) e
+none_behind : (o : Option ℕ) → option_and_then (λ b. option_map (λ (bs : List ℕ). b ∷ bs) None) o ≡ None
+none_behind None = refl
+none_behind (Some b) = refl
+
+-- an odd number of digits is no bytes
+pub unhex-odd : (text : List ℕ) → length text % 2 ≢ 0 → unhex text ≡ None
+unhex-odd [] odd = absurd (odd refl)
+unhex-odd (c ∷ []) odd = refl
+unhex-odd (high ∷ low ∷ rest) odd = rw (unhex-odd rest (λ even. odd (omega arith))) (none_behind (pair_value high low))
+
+none_of : {A : Type 0} (o : Option A) → is_some o ≡ false → o ≡ None
+none_of None e = refl
+none_of (Some x) e = cc
+
+none_low : (o : Option ℕ) → option_and_then (λ h. option_map (λ l. h * 16 + l) None) o ≡ None
+none_low None = refl
+none_low (Some h) = refl
+
+-- what has another character among them is no bytes
+pub unhex-other : (text : List ℕ) → list_all is_hex_digit text ≡ false → unhex text ≡ None
+unhex-other [] other = cc
+unhex-other (c ∷ []) other = refl
+unhex-other (high ∷ low ∷ rest) other = elim (cases_Bool (is_hex_digit high)) [
+  | inr wrong ↦ rw (none_of (digit_value high) wrong) refl
+  | inl right ↦ elim (cases_Bool (is_hex_digit low)) [
+    | inr wrong ↦ rw (none_of (digit_value low) wrong, none_low (digit_value high)) refl
+    | inl right' ↦ rw (unhex-other rest (rw (right, right') at other)) (none_behind (pair_value high low))
+  ]
+]
 
 pub digit_again : (n : ℕ) → n < 16 → digit_value (hex_digit n) ≡ Some n
 digit_again n h = grind (arith, common_steps)

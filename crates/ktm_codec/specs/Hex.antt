@@ -1,5 +1,5 @@
 -- Bytes in hexadecimal digits.
-use Rattle.std.specs.Prelude.{ℕ, ◌+◌, ◌-◌, ◌*◌, ◌/◌, ◌%◌, nat_lt, nat_le, ◌&&◌, List, [], ◌∷◌, codes, Option, Some, None, if◌then◌else◌, flat_map, option_map, option_and_then, bytes_eq}
+use Rattle.std.specs.Prelude.{ℕ, ◌+◌, ◌-◌, ◌*◌, ◌/◌, ◌%◌, nat_lt, nat_le, ◌&&◌, Bool, List, [], ◌∷◌, codes, Option, Some, None, is_some, if◌then◌else◌, flat_map, option_map, option_and_then, bytes_eq}
 
 -- the digit of a number below 16, with lower-case letters
 abbrev pub hex_digit : ℕ → ℕ
@@ -24,15 +24,13 @@ digit_value c =
     if nat_le 48 c && nat_le c 57 then Some (c - 48) else
     (if nat_le 97 c && nat_le c 102 then Some (c - 87) else None)
 
+-- is this a lower-case digit
+abbrev pub is_hex_digit : ℕ → Bool
+is_hex_digit c = is_some (digit_value c)
+
 -- the byte that two digits stand for
 abbrev pub pair_value : ℕ → ℕ → Option ℕ
 pair_value high low = option_and_then (λ h. option_map (λ l. h * 16 + l) (digit_value low)) (digit_value high)
-
--- the byte that two digits at the front stand for, and what follows them
-abbrev pub first_pair : List ℕ → Option (ℕ × List ℕ)
-first_pair [] = None
-first_pair (high ∷ []) = None
-first_pair (high ∷ low ∷ rest) = option_map (λ b. (b, rest)) (pair_value high low)
 
 -- the bytes that pairs of digits stand for
 abbrev pub unhex : List ℕ → Option (List ℕ)

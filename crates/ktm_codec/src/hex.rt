@@ -1,35 +1,33 @@
 // Bytes in hexadecimal digits.
-ghost use Rattle.std.specs.Prelude.{◌≡◌, ◌+◌, ◌<◌, ◌++◌, List, ℕ, IfOk, IfSome, OnOk, Some, length, option_map, take};
+ghost use Rattle.std.specs.Prelude.{◌≡◌, ◌*◌, ◌<◌, ◌++◌, List, ℕ, true, IfOk, OnOk, Some, length, take};
+ghost use Rattle.std.specs.List.{list_all};
 ghost use Rattle.ktm_base.specs.Bytes.{AreBytes};
-ghost use Rattle.ktm_codec.specs.Hex.{digit_value, first_pair, hex_digit, hex_of, hex_or_dash, pair_value, unhex, unhex_or_dash};
+ghost use Rattle.ktm_codec.specs.Hex.{digit_value, hex_digit, hex_of, hex_or_dash, is_hex_digit, unhex, unhex_or_dash};
 
 use ktm_base::{Bytes, NoMemory};
 use std::alloc::Global;
-
-// The digits by their numbers.
-const DIGITS: [u8; 16] = *b"0123456789abcdef";
-
-// What each byte stands for as a digit: 16 where it is none.
-const NUMBERS: [u8; 256] = [
-    16, 16, 16, 16, 16, 16, 16, 16, 16, 16, 16, 16, 16, 16, 16, 16, 16, 16, 16, 16, 16, 16, 16, 16,
-    16, 16, 16, 16, 16, 16, 16, 16, 16, 16, 16, 16, 16, 16, 16, 16, 16, 16, 16, 16, 16, 16, 16, 16,
-    0, 1, 2, 3, 4, 5, 6, 7, 8, 9, 16, 16, 16, 16, 16, 16, 16, 16, 16, 16, 16, 16, 16, 16, 16, 16,
-    16, 16, 16, 16, 16, 16, 16, 16, 16, 16, 16, 16, 16, 16, 16, 16, 16, 16, 16, 16, 16, 16, 16, 10,
-    11, 12, 13, 14, 15, 16, 16, 16, 16, 16, 16, 16, 16, 16, 16, 16, 16, 16, 16, 16, 16, 16, 16, 16,
-    16, 16, 16, 16, 16, 16, 16, 16, 16, 16, 16, 16, 16, 16, 16, 16, 16, 16, 16, 16, 16, 16, 16, 16,
-    16, 16, 16, 16, 16, 16, 16, 16, 16, 16, 16, 16, 16, 16, 16, 16, 16, 16, 16, 16, 16, 16, 16, 16,
-    16, 16, 16, 16, 16, 16, 16, 16, 16, 16, 16, 16, 16, 16, 16, 16, 16, 16, 16, 16, 16, 16, 16, 16,
-    16, 16, 16, 16, 16, 16, 16, 16, 16, 16, 16, 16, 16, 16, 16, 16, 16, 16, 16, 16, 16, 16, 16, 16,
-    16, 16, 16, 16, 16, 16, 16, 16, 16, 16, 16, 16, 16, 16, 16, 16, 16, 16, 16, 16, 16, 16, 16, 16,
-    16, 16, 16, 16, 16, 16, 16, 16, 16, 16, 16, 16, 16, 16,
-];
 
 // The digit of a number below 16.
 fn digit(number: u8) -> u8
     requires { number < 16 }
     ensures { result ≡ hex_digit number }
 {
-    DIGITS[number as usize]
+    if number < 10 {
+        b'0' + number
+    } else {
+        b'a' - 10 + number
+    }
+}
+
+// Writes each byte as two digits.
+fn write_pairs(bytes: &[u8], digits: &mut [u8])
+    requires { length digits.old ≡ 2 * length bytes.now }
+    ensures { digits.new ≡ hex_of bytes.now }
+{
+    'bytes: for i in 0..bytes.len() {
+        digits[2 * i] = digit(bytes[i] / 16);
+        digits[2 * i + 1] = digit(bytes[i] % 16);
+    }
 }
 
 /// Writes bytes at the end, each as two digits with lower-case letters.
@@ -37,14 +35,15 @@ pub fn put_hex(out: &mut Vec<u8>, bytes: &[u8]) -> Result<(), NoMemory>
     ensures ok { OnOk result (out.new.items ≡ out.old.items ++ hex_of bytes.now) }
     ensures front { take (length out.old.items) out.new.items ≡ out.old.items }
 {
-    let Some(len) = bytes.len().checked_mul(2) else {
+    let at = out.len();
+    let Some(digits) = bytes.len().checked_mul(2) else {
         return Err(NoMemory);
     };
-    out.reserve(len)?;
-    for byte in bytes {
-        out.push_reserved(digit(*byte / 16));
-        out.push_reserved(digit(*byte % 16));
-    }
+    let Some(end) = at.checked_add(digits) else {
+        return Err(NoMemory);
+    };
+    out.resize(end, 0)?;
+    write_pairs(bytes, &mut out[at..]);
     Ok(())
 }
 
@@ -60,43 +59,60 @@ pub fn put_hex_or_dash(out: &mut Vec<u8>, bytes: &[u8]) -> Result<(), NoMemory>
     put_hex(out, bytes)
 }
 
-// The number that a lower-case digit stands for.
-fn digit_value(digit: u8) -> Option<u8>
-    ensures value { result ≡ digit_value digit }
-    ensures small { IfSome result (λ number. number < 16) }
+// Is this a lower-case digit?
+fn is_digit(c: u8) -> bool
+    ensures { result ≡ is_hex_digit c }
 {
-    let number = NUMBERS[digit as usize];
-    if number < 16 { Some(number) } else { None }
+    (b'0' <= c && c <= b'9') || (b'a' <= c && c <= b'f')
 }
 
-// The byte that two digits at the front stand for, and what follows them.
-fn first_pair(text: &[u8]) -> Option<(u8, &[u8])>
-    ensures value { option_map (λ pair. (pair.0, pair.1.now)) result ≡ first_pair text.now }
-    ensures shorter { IfSome result (λ pair. length pair.1.now + 2 ≡ length text.now) }
+// Is each of these a digit?
+fn are_digits(text: &[u8]) -> bool
+    ensures { result ≡ list_all is_hex_digit text.now }
 {
-    let [high, low, rest @ ..] = text else {
-        return None;
-    };
-    let high = digit_value(*high)?;
-    let low = digit_value(*low)?;
-    Some((high * 16 + low, rest))
+    let mut all = true;
+    for c in text {
+        all &= is_digit(*c);
+    }
+    all
+}
+
+// The number that a digit stands for.
+fn digit_value(digit: u8) -> u8
+    requires { is_hex_digit digit ≡ true }
+    ensures value { Some result ≡ digit_value digit }
+    ensures small { result < 16 }
+{
+    if digit < b'a' {
+        digit - b'0'
+    } else {
+        digit - b'a' + 10
+    }
+}
+
+// Reads as many bytes, each from two digits.
+fn read_pairs(text: &[u8], bytes: &mut [u8])
+    requires long { length text.now ≡ 2 * length bytes.old }
+    requires digits { list_all is_hex_digit text.now ≡ true }
+    ensures { unhex text.now ≡ Some bytes.new }
+{
+    'bytes: for i in 0..bytes.len() {
+        let high = digit_value(text[2 * i]);
+        let low = digit_value(text[2 * i + 1]);
+        bytes[i] = high * 16 + low;
+    }
 }
 
 // The bytes that pairs of digits stand for.
 fn read_hex(alloc: Global, text: &[u8]) -> Result<Option<Bytes>, NoMemory>
     ensures { IfOk result (λ bytes. bytes ≡ unhex text.now) }
 {
-    let mut bytes = Vec::with_capacity(alloc, text.len() / 2)?;
-    let mut rest = text;
-    'pairs: while let Some((byte, after)) = first_pair(rest) {
-        bytes.push_reserved(byte);
-        rest = after;
+    if text.len() % 2 != 0 || !are_digits(text) {
+        return Ok(None);
     }
-    if rest.is_empty() {
-        Ok(Some(Bytes::new(bytes)))
-    } else {
-        Ok(None)
-    }
+    let mut bytes = vec![in alloc; 0u8; text.len() / 2]?;
+    read_pairs(text, &mut bytes);
+    Ok(Some(Bytes::new(bytes)))
 }
 
 /// The bytes that pairs of digits with lower-case letters stand for, or none for a dash. There is nothing that no
