@@ -1,0 +1,166 @@
+"""The forms of lines that the program answers: what each costs by itself, and beside many other things.
+
+A probe is a form with lines, the measured one of which begins with a star. Its lines leave what is there as it was, so that they can
+be repeated: behind one that tells a list a file is opened and closed, so that what the C library has still to do for the list's memory
+is not counted for the next probe. They find the transaction h100 and the directory `\\work` with the file `m` and the empty directory `e`, and the key "m"."""
+
+import measuring
+
+VALUE = "6162636465666768696a6b6c6d6e6f70"
+
+BEGIN, END = "p1 CreateTransaction h1 0", "p1 CloseHandle h1"
+UNDO = "p1 RollbackTransaction h1"
+MAKE, UNMAKE = 'p1 CreateFile h2 "\\work\\n" rw - CREATE_NEW', 'p1 DeleteFile "\\work\\n"'
+OPEN, CLOSE = 'p1 CreateFile h2 "\\work\\m" rw - OPEN_EXISTING', "p1 CloseHandle h2"
+OPEN_IN = 'p1 CreateFileTransacted h2 "\\work\\m" rw - OPEN_EXISTING h1'
+MAKE_IN = 'p1 CreateFileTransacted h2 "\\work\\n" rw - CREATE_NEW h1'
+SET, WRITE = f'p1 KvSet h1 "m" {VALUE}', f"p1 WriteFile h2 0 {VALUE}"
+COMMIT = "p1 CommitTransaction h1"
+
+PROBES = {
+    "CreateTransaction": ["*" + BEGIN, END],
+    "OpenTransaction": ["*p1 OpenTransaction h1 00000002-0001-0001-0000-000000000001", END],
+    "GetTransactionInformation": ["*p1 GetTransactionInformation h100"],
+    "CommitTransaction of nothing": [BEGIN, "*" + COMMIT, END],
+    "CommitTransaction of a key": [BEGIN, SET, "*" + COMMIT, END],
+    "CommitTransaction of a file": [BEGIN, OPEN_IN, WRITE, "*" + COMMIT, CLOSE, END],
+    "CommitTransaction of both": [BEGIN, SET, OPEN_IN, WRITE, "*" + COMMIT, CLOSE, END],
+    "RollbackTransaction of a key": [BEGIN, SET, "*" + UNDO, END],
+    "RollbackTransaction of a file": [BEGIN, OPEN_IN, WRITE, "*" + UNDO, CLOSE, END],
+    "CloseHandle of a transaction, the last": [BEGIN, "*" + END],
+    "CloseHandle of a file": [OPEN, "*" + CLOSE],
+    "DuplicateHandle": ["*p1 DuplicateHandle h1 p1 h100", END],
+    "exit with one handle": ["p3 DuplicateHandle h1 p1 h100", "*p3 exit"],
+    "KvSet": [BEGIN, "*" + SET, UNDO, END],
+    "KvSet of a new key": [BEGIN, f'*p1 KvSet h1 "n" {VALUE}', UNDO, END],
+    "KvUnset": [BEGIN, '*p1 KvUnset h1 "m"', UNDO, END],
+    "KvGet of what is committed": ['*p1 KvGet - "m"'],
+    "KvGet in a transaction": ['*p1 KvGet h100 "m"'],
+    "KvList of what is committed": ["*p1 KvList -", OPEN, CLOSE],
+    "KvList in a transaction": ["*p1 KvList h100", OPEN, CLOSE],
+    "CreateFile OPEN_EXISTING": ["*" + OPEN, CLOSE],
+    "CreateFile CREATE_NEW": ["*" + MAKE, CLOSE, UNMAKE],
+    "CreateFileTransacted OPEN_EXISTING": [BEGIN, "*" + OPEN_IN, CLOSE, UNDO, END],
+    "CreateFileTransacted CREATE_NEW": [BEGIN, "*" + MAKE_IN, CLOSE, UNDO, END],
+    "ReadFile": [OPEN, "*p1 ReadFile h2 0 16", CLOSE],
+    "ReadFile in a transaction": [BEGIN, OPEN_IN, "*p1 ReadFile h2 0 16", CLOSE, UNDO, END],
+    "WriteFile": [OPEN, "*" + WRITE, CLOSE],
+    "WriteFile in a transaction": [BEGIN, OPEN_IN, "*" + WRITE, CLOSE, UNDO, END],
+    "SetEndOfFile": [OPEN, "*p1 SetEndOfFile h2 16", CLOSE],
+    "SetEndOfFile in a transaction": [BEGIN, OPEN_IN, "*p1 SetEndOfFile h2 8", CLOSE, UNDO, END],
+    "GetFileSizeEx": [OPEN, "*p1 GetFileSizeEx h2", CLOSE],
+    "FlushFileBuffers": [OPEN, "*p1 FlushFileBuffers h2", CLOSE],
+    "DeleteFile": [MAKE, CLOSE, "*" + UNMAKE],
+    "DeleteFileTransacted": [BEGIN, '*p1 DeleteFileTransacted "\\work\\m" h1', UNDO, END],
+    "CreateDirectory": ['*p1 CreateDirectory "\\work\\n"', 'p1 RemoveDirectory "\\work\\n"'],
+    "CreateDirectoryTransacted": [BEGIN, '*p1 CreateDirectoryTransacted "\\work\\n" h1', UNDO, END],
+    "RemoveDirectory": ['p1 CreateDirectory "\\work\\n"', '*p1 RemoveDirectory "\\work\\n"'],
+    "RemoveDirectoryTransacted": [BEGIN, '*p1 RemoveDirectoryTransacted "\\work\\e" h1', UNDO, END],
+    "MoveFile": ['*p1 MoveFile "\\work\\m" "\\work\\n"', 'p1 MoveFile "\\work\\n" "\\work\\m"'],
+    "MoveFileTransacted": [BEGIN, '*p1 MoveFileTransacted "\\work\\m" "\\work\\n" h1', UNDO, END],
+    "FindFiles of one name": ['*p1 FindFiles "\\work\\m"', OPEN, CLOSE],
+    "FindFiles of all names": ['*p1 FindFiles "\\work\\*"', OPEN, CLOSE],
+    "FindFilesTransacted of one name": ['*p1 FindFilesTransacted "\\work\\m" h100', OPEN, CLOSE],
+    "a bad line": ["*p1 KvGet"],
+    "tick": ["*tick 1"],
+    "cut": ["*cut 1000000"],
+}
+# These take the machine down and up, so they come last and once.
+LAST_PROBES = {"crash": ["*crash"], "restart": ["*restart 1"]}
+
+# What is committed before, in a run of its own, and what is open before the probes. Process 2 and the directory `\other` are the others'.
+COMMITTED = [
+    'p1 CreateDirectory "\\work"',
+    'p1 CreateDirectory "\\work\\e"',
+    'p1 CreateDirectory "\\other"',
+    *[
+        line
+        for file in ["\\work\\m", "\\other\\m"]
+        for line in [f'p1 CreateFile h1 "{file}" w - CREATE_NEW', f"p1 WriteFile h1 0 {VALUE}", END]
+    ],
+    BEGIN,
+    SET,
+    COMMIT,
+    END,
+]
+OPENED = ["p1 CreateTransaction h100 0", "p2 DuplicateHandle h1 p1 h100"]
+
+
+def other(number):
+    """Returns the name of another thing: every second one comes before "m" in order, and every second one behind it."""
+    return f"{'bt'[number % 2]}{number:04}"
+
+
+def names_in(directory):
+    """Returns what makes this many names in the directory, one after another."""
+    return lambda count: [
+        line
+        for at in range(count)
+        for line in [f'p1 CreateFile h1 "\\{directory}\\{other(at)}" w - CREATE_NEW', END]
+    ]
+
+
+def keys(count):
+    """Returns what commits this many keys."""
+    return [BEGIN, *[f'p1 KvSet h1 "{other(at)}" {VALUE}' for at in range(count)], COMMIT, END]
+
+
+def handles(count):
+    """Returns what binds this many handles to one transaction."""
+    return [f"p2 DuplicateHandle h{at + 2} p2 h1" for at in range(count)]
+
+
+def open_files(count):
+    """Returns what opens one file this many times."""
+    return [f'p2 CreateFile h{at + 2} "\\other\\m" r r OPEN_EXISTING' for at in range(count)]
+
+
+def live(count):
+    """Returns what begins this many transactions, of which each sets a key and makes a directory."""
+    return [
+        line
+        for at in range(count)
+        for line in [
+            f"p2 CreateTransaction h{at + 2} 0",
+            f'p2 KvSet h{at + 2} "{other(at)}" {VALUE}',
+            f'p2 CreateDirectoryTransacted "\\other\\{other(at)}" h{at + 2}',
+        ]
+    ]
+
+
+def ended(count):
+    """Returns what begins this many transactions and ends them."""
+    return ["p2 CreateTransaction h2 0", "p2 CloseHandle h2"] * count
+
+
+# What may be there beside a call: how many, and what makes it committed, or in the run itself.
+NOTHING = lambda _: []
+THINGS = {
+    "open handles": ([10, 100, 900], NOTHING, handles),
+    "live transactions": ([10, 30, 60], NOTHING, live),
+    "ended transactions": ([10, 100, 900], NOTHING, ended),
+    "names in the directory": ([10, 100, 900], names_in("work"), NOTHING),
+    "names in another": ([10, 100, 900], names_in("other"), NOTHING),
+    "keys": ([10, 100, 900], keys, NOTHING),
+    "open files": ([10, 100, 900], NOTHING, open_files),
+}
+
+
+def probed(rounds):
+    """Returns the lines of all probes, each measured one with its form, and each other one with none."""
+    probes = [*PROBES.items()] * rounds + [*LAST_PROBES.items()]
+    return [(form if line.startswith("*") else None, line.lstrip("*")) for form, lines in probes for line in lines]
+
+
+def by_form(side, measure, before=NOTHING, opened=NOTHING, count=0, rounds=3):
+    """Returns for each form what the measure says of its lines, beside this many other things."""
+    lines = [*OPENED, *opened(count)]
+    probes = probed(rounds)
+    with side.state() as state:
+        side.measured(measuring.run, [*COMMITTED, *before(count)], state)
+        measured = side.measured(measure, [*lines, *[line for _, line in probes]], state, is_checked=False)
+    found = {}
+    for (form, _), value in zip(probes, measured[len(lines) :]):
+        found.setdefault(form, []).append(value)
+    found.pop(None)
+    return found

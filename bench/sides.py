@@ -1,0 +1,111 @@
+"""The sides that are measured, each over states of its own: an image, a database, a folder."""
+
+import contextlib
+import functools
+import os
+import subprocess
+import tempfile
+
+import measuring
+import workloads
+
+HERE = os.path.dirname(os.path.abspath(__file__))
+
+
+class Side:
+    """A program that carries out a list of lines on a state, each time on a new one."""
+
+    def __init__(self, room, program):
+        self.room, self.program = room, program
+        self.empty = functools.cache(lambda measure: self.measured(measure, []))
+
+    def lines(self, work):
+        """Returns the workload in the form in which this side reads it."""
+        return workloads.plain(work)
+
+    def command(self, state, lines):
+        """Returns the command that carries out the lines of this file on this state."""
+        return [self.program, state, lines]
+
+    def check(self, replies):
+        """Stops where a reply says that a line was not carried out."""
+        with open(replies, encoding="utf-8", errors="replace") as lines:
+            wrong = next((it for it in lines if not it.startswith("ok")), None)
+        if wrong:
+            raise measuring.Failed(f"{self.program} answered {wrong.strip()[:80]}")
+
+    @contextlib.contextmanager
+    def state(self):
+        """Gives the path of a state that is not there yet."""
+        with tempfile.TemporaryDirectory(dir=self.room) as folder:
+            yield f"{folder}/state"
+
+    def measured(self, measure, lines, state=None, is_checked=True):
+        """Returns the measure of a run of the lines, on a new state or on this one."""
+        if state is None:
+            with self.state() as state:
+                return self.measured(measure, lines, state, is_checked)
+        with tempfile.TemporaryDirectory(dir=self.room) as folder:
+            with open(f"{folder}/lines", "w", encoding="ascii") as file:
+                file.writelines(f"{it}\n" for it in lines)
+            result = measure(self.command(state, f"{folder}/lines"), f"{folder}/replies")
+            if is_checked:
+                self.check(f"{folder}/replies")
+        return result
+
+    def instructions(self, work):
+        """Returns the instructions of the workload on a new state, without those of an empty one."""
+        return self.measured(measuring.instructions, self.lines(work)) - self.empty(measuring.instructions)
+
+    def device_calls(self, work):
+        """Returns the calls of the device of the workload on a new state, without those of an empty one."""
+        return self.measured(measuring.device_calls, self.lines(work)) - self.empty(measuring.device_calls)
+
+    def memory(self, work):
+        """Returns the most memory of the workload on a new state, in KiB."""
+        return self.measured(measuring.peak_of_memory, self.lines(work))
+
+
+class Wattorju(Side):
+    """The program that this repository builds."""
+
+    def lines(self, work):
+        return workloads.script(work)
+
+    def command(self, state, lines):
+        return [self.program, "run", state, lines]
+
+    def reading(self, work):
+        """Returns the instructions of the workload's lines where each is read and refused at once."""
+        return self.measured(measuring.instructions, workloads.refused(work), is_checked=False) - self.empty(measuring.instructions)
+
+
+class Files(Side):
+    """Plain calls on files, in a folder."""
+
+    @contextlib.contextmanager
+    def state(self):
+        with super().state() as path:
+            os.mkdir(path)
+            yield path
+
+
+def compiled(name, room, *libraries):
+    """Compiles this C program of this folder, and returns where it is."""
+    to = f"{room}/{name}"
+    compiler = os.environ.get("CC", "cc")
+    subprocess.run([compiler, "-O2", "-o", to, f"{HERE}/{name}.c", *libraries], check=True)
+    return to
+
+
+class Sides:
+    """All sides, with the programs in C compiled in this folder."""
+
+    def __init__(self, room, program):
+        self.wattorju = Wattorju(room, program)
+        self.sqlite = Side(room, compiled("sqlite", room, "-lsqlite3"))
+        self.files = Files(room, compiled("files", room))
+
+    def version_of_sqlite(self):
+        """Returns the version of SQLite's library."""
+        return subprocess.run([self.sqlite.program], stdout=subprocess.PIPE, check=True, text=True).stdout.strip()

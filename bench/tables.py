@@ -1,0 +1,238 @@
+"""The tables: what each measures, and how it is printed."""
+
+import dataclasses
+import statistics
+
+import forms
+import measuring
+import workloads
+from workloads import installs, key, sets
+
+RATIO = "Wattorju / SQLite"
+WITHOUT = "the same without the lines"
+
+
+@dataclasses.dataclass
+class Table:
+    """A table: its name, what it shows, the heads of its columns, and its rows."""
+
+    name: str
+    shows: str
+    columns: list
+    rows: list
+
+    def cells(self):
+        """Returns all rows as texts, the heads first."""
+        return [self.columns, *[[spelled(it) for it in row] for row in self.rows]]
+
+    def markdown(self):
+        """Returns the table as a document has it: numbers to the right, behind a mark by which it is found again."""
+        head, *rows = self.cells()
+        line = ["---:" if it and isinstance(self.rows[0][at], (int, float)) else "---" for at, it in enumerate(head)]
+        return "\n".join([mark(self.name), *[f"| {' | '.join(it)} |" for it in [head, line, *rows]]])
+
+    def text(self):
+        """Returns the table for a terminal."""
+        cells = self.cells()
+        widths = [max(map(len, column)) for column in zip(*cells)]
+        lines = ["  ".join(it.rjust(width) if at else it.ljust(width) for at, (it, width) in enumerate(zip(row, widths))) for row in cells]
+        return "\n".join([f"{self.name}: {self.shows}", *lines])
+
+
+def mark(name):
+    """Returns the line in front of the table of this name in a document."""
+    return f"<!-- bench: {name} -->"
+
+
+def spelled(cell):
+    """Returns a cell as text: a ratio with two digits behind the point, another number with its thousands apart."""
+    if isinstance(cell, float):
+        return f"{cell:.2f}"
+    return f"{cell:,}" if isinstance(cell, int) else str(cell)
+
+
+def compared(sides, work, times, before=()):
+    """Returns the cells of a workload that is so many times the same, for one time: the program's instructions, those of reading its
+    lines, SQLite's, and both ratios."""
+    cost = lambda measure: (measure([*before, *work]) - (measure([*before]) if before else 0)) // times
+    ours, lines, theirs = cost(sides.wattorju.instructions), cost(sides.wattorju.reading), cost(sides.sqlite.instructions)
+    return [ours, lines, theirs, ours / theirs, (ours - lines) / theirs]
+
+
+COMPARED = ["Wattorju", "of it the lines", "SQLite", RATIO, WITHOUT]
+
+
+def of_sets(sides, _):
+    """Transactions that set 1 to 500 keys that are there, of 64 bytes."""
+    rows = []
+    for count in (1, 10, 100, 500):
+        keys = [key(it) for it in range(count)]
+        rows.append([count, *compared(sides, sets(keys, 64, 1) * 10, 10, sets(keys, 64))])
+    return Table("sets", "instructions of a transaction", ["keys set", *COMPARED], rows)
+
+
+def of_transactions(sides, options):
+    """Many transactions of one key on one image."""
+    rows = []
+    for count in (100, 1_000, 10_000, 100_000)[: 4 if options.long else 3]:
+        work = [it for at in range(count) for it in sets([key(at % 100)], 16, at)]
+        rows.append([count, *compared(sides, work, count)])
+    return Table("transactions", "instructions of a transaction, on average", ["transactions", *COMPARED], rows)
+
+
+def of_reads(sides, _):
+    """Reads of a key, and lists of all keys."""
+    rows = []
+    for count in (10, 100, 1_000):
+        keys = [key(it) for it in range(count)]
+        before = [it for at in range(0, count, 100) for it in sets(keys[at : at + 100], 64)]
+        read = keys[:: count // 10]
+        for name, first, work, last in [
+            ("a read", [], [("get", it) for it in read], []),
+            ("a read in a transaction", [("begin",)], [("read", it) for it in read], [("commit",)]),
+            ("a list", [], [("list",)] * 10, []),
+        ]:
+            ours, theirs = [
+                (it.instructions([*before, *first, *work, *last]) - it.instructions([*before, *first, *last])) // 10
+                for it in (sides.wattorju, sides.sqlite)
+            ]
+            rows.append([name, count, ours, theirs, ours / theirs])
+    return Table("reads", "instructions of a read and of a list", ["", "keys", "Wattorju", "SQLite", RATIO], rows)
+
+
+def installed(count, length):
+    """Returns transactions that each install so many new files, and how many: at most 10, as many as an image has room for."""
+    units = -(-length // 4096)
+    times = max(1, min(10, 1_000 // (count * units)))
+    return [it for at in range(times) for it in installs([f"file{at}.{number}" for number in range(count)], length)], times
+
+
+FILES = [(4_096, 1), (4_096, 10), (4_096, 100), (65_536, 1), (65_536, 10), (65_536, 60)]
+
+
+def of_files(sides, _):
+    """Transactions that install 1 to 100 new files."""
+    rows = []
+    for length, count in FILES:
+        work, times = installed(count, length)
+        plain = sides.files.instructions(work) // times
+        ours, lines, theirs, *ratios = compared(sides, work, times)
+        rows.append([f"{count} of {length // 1024} KiB", ours, lines, theirs, plain, *ratios])
+    columns = ["files", "Wattorju", "of it the lines", "SQLite", "write, fsync, rename", RATIO, WITHOUT]
+    return Table("files", "instructions of a transaction", columns, rows)
+
+
+def of_calls(sides, _):
+    """What each side asks of the device for a transaction."""
+    keys = [key(it) for it in range(100)]
+    works = [("1 key", sets(keys[:1], 64), 1), ("100 keys", sets(keys, 64), 1)]
+    works += [(f"{count} files of {length // 1024} KiB", *installed(count, length)) for length, count in FILES[1:5:3]]
+    rows = []
+    for name, work, times in works:
+        asked = {"Wattorju": sides.wattorju, "SQLite": sides.sqlite}
+        if "file" in name:
+            asked["plain calls"] = sides.files
+        for side, it in asked.items():
+            rows.append([name, side, *[round(at / times) for at in summed(it.device_calls(work))]])
+    return Table("calls", "calls of the device for a transaction, on average", ["transaction", "side", *SUMMED], rows)
+
+
+SUMMED = ["reads", "writes", "bytes written", "syncs", "renames"]
+
+
+def summed(calls):
+    """Returns how many reads, writes, bytes, syncs and renames these calls of the device are."""
+    names = [["pread64"], ["write", "pwrite64"], ["bytes"], ["fsync", "fdatasync"], ["rename", "renameat"]]
+    return [sum(calls[it] for it in group) for group in names]
+
+
+def of_lines(sides, _):
+    """The calls of the device of each form of line."""
+    found = forms.by_form(sides.wattorju, measuring.device_calls_by_reply, rounds=1)
+    rows = [[form, *summed(calls)[:4]] for form, (calls,) in found.items() if calls]
+    return Table("lines", "calls of the device of each form of line that makes any", ["line", *SUMMED[:4]], rows)
+
+
+def of_restarts(sides, _):
+    """What a frame of the log costs at a start."""
+    key_again = ["p1 CreateTransaction h1 0", 'p1 KvSet h1 "key" 6162636465666768696a6b6c6d6e6f70', "p1 CommitTransaction h1", "p1 CloseHandle h1"]
+    file_made = lambda at: [f'p1 CreateFile h1 "\\file{at}" w - CREATE_NEW', "p1 CloseHandle h1"]
+    kinds = {
+        "a transaction that sets one key": (lambda count: key_again * count, 1_000),
+        "a plain CreateFile that makes a file": (lambda count: [line for at in range(count) for line in file_made(at)], 900),
+    }
+    rows = []
+    for name, (lines, most) in kinds.items():
+        short, long = [of_start(sides.wattorju, lines(it)) for it in (most // 10, most)]
+        rows.append([name, (long - short) // (most - most // 10)])
+    rows.append(["a start from an image that was only made", of_start(sides.wattorju, [])])
+    return Table("restarts", "instructions of a start for a frame of the log, by the difference of two logs", ["frame", "instructions"], rows)
+
+
+def of_start(side, lines):
+    """Returns the instructions of a start on an image on which these lines were run."""
+    with side.state() as state:
+        side.measured(measuring.run, lines, state)
+        return side.measured(measuring.instructions, [], state)
+
+
+def of_memory(sides, options):
+    """The most memory of a run."""
+    works = [("an empty one", [])]
+    works.append(("10,000 transactions of one key", [it for at in range(10_000) for it in sets([key(at % 100)], 16, at)]))
+    works += [("100 files of 4 KiB in one", installed(100, 4_096)[0][:102]), ("60 files of 64 KiB in one", installed(60, 65_536)[0])]
+    rows = [[name, sides.wattorju.memory(work), sides.sqlite.memory(work)] for name, work in works]
+    if options.large:
+        rows.append(["a script of 64 MiB", sides.wattorju.measured(measuring.peak_of_memory, large_script()), ""])
+    return Table("memory", "the most memory of a run, in KiB", ["workload", "Wattorju", "SQLite"], rows)
+
+
+def large_script():
+    """Returns a script of 64 MiB, the longest there may be: a key, and reads of it."""
+    begun = workloads.script(sets(["key"], 64))
+    read = workloads.script([("get", "key")])[0]
+    return [*begun, *[read] * ((64 * 1024 * 1024 - sum(len(it) + 1 for it in begun)) // (len(read) + 1))]
+
+
+def growth(sides):
+    """Returns the instructions of each form alone, and by thing and number beside so many of it."""
+    measured = lambda *how: {
+        form: int(statistics.median(found)) for form, found in forms.by_form(sides.wattorju, measuring.instructions_by_reply, *how).items()
+    }
+    beside = {
+        (thing, count): measured(before, opened, count)
+        for thing, (counts, before, opened) in forms.THINGS.items()
+        for count in counts
+    }
+    return measured(), beside
+
+
+def of_growth(sides, _):
+    """What each form of line costs, and what it grows with."""
+    alone, beside = growth(sides)
+    most = [(thing, counts[-1]) for thing, (counts, _, _) in forms.THINGS.items()]
+    whole = [[form, cost, *[beside[it][form] for it in most]] for form, cost in alone.items()]
+    columns = ["line", "alone", *[f"{count} {thing}" for thing, count in most]]
+    grown = [
+        [form, f"{', '.join(map(str, counts))} {thing}", cost, *[beside[thing, count][form] for count in counts]]
+        for form, cost in alone.items()
+        for thing, (counts, _, _) in forms.THINGS.items()
+        if beside[thing, counts[-1]][form] > 1.5 * cost
+    ]
+    return [
+        Table("growth", "instructions of each form of line, alone and beside many other things", columns, whole),
+        Table("grown", "those that grow by more than half", ["line", "beside", "none", "few", "more", "most"], grown),
+    ]
+
+
+TABLES = {
+    "sets": of_sets,
+    "transactions": of_transactions,
+    "reads": of_reads,
+    "files": of_files,
+    "calls": of_calls,
+    "lines": of_lines,
+    "restarts": of_restarts,
+    "growth": of_growth,
+    "memory": of_memory,
+}
