@@ -1,8 +1,7 @@
 """The forms of lines that the program answers: what each costs by itself, and beside many other things.
 
 A probe is a form with lines, the measured one of which begins with a star. Its lines leave what is there as it was, so that they can
-be repeated: behind one that tells a list a file is opened and closed, so that what the C library has still to do for the list's memory
-is not counted for the next probe. They find the transaction h100 and the directory `\\work` with the file `m` and the empty directory `e`, and the key "m"."""
+be repeated. They find the transaction h100 and the directory `\\work` with the file `m` and the empty directory `e`, and the key "m"."""
 
 import measuring
 
@@ -16,6 +15,8 @@ OPEN_IN = 'p1 CreateFileTransacted h2 "\\work\\m" rw - OPEN_EXISTING h1'
 MAKE_IN = 'p1 CreateFileTransacted h2 "\\work\\n" rw - CREATE_NEW h1'
 SET, WRITE = f'p1 KvSet h1 "m" {VALUE}', f"p1 WriteFile h2 0 {VALUE}"
 COMMIT = "p1 CommitTransaction h1"
+# Takes some memory at once, at which the C library does what it still has to do for memory that was given back before.
+SETTLE = [BEGIN, MAKE_IN, CLOSE, UNDO, END]
 
 PROBES = {
     "CreateTransaction": ["*" + BEGIN, END],
@@ -36,8 +37,8 @@ PROBES = {
     "KvUnset": [BEGIN, '*p1 KvUnset h1 "m"', UNDO, END],
     "KvGet of what is committed": ['*p1 KvGet - "m"'],
     "KvGet in a transaction": ['*p1 KvGet h100 "m"'],
-    "KvList of what is committed": ["*p1 KvList -", OPEN, CLOSE],
-    "KvList in a transaction": ["*p1 KvList h100", OPEN, CLOSE],
+    "KvList of what is committed": ["*p1 KvList -", *SETTLE],
+    "KvList in a transaction": ["*p1 KvList h100", *SETTLE],
     "CreateFile OPEN_EXISTING": ["*" + OPEN, CLOSE],
     "CreateFile CREATE_NEW": ["*" + MAKE, CLOSE, UNMAKE],
     "CreateFileTransacted OPEN_EXISTING": [BEGIN, "*" + OPEN_IN, CLOSE, UNDO, END],
@@ -46,7 +47,7 @@ PROBES = {
     "ReadFile in a transaction": [BEGIN, OPEN_IN, "*p1 ReadFile h2 0 16", CLOSE, UNDO, END],
     "WriteFile": [OPEN, "*" + WRITE, CLOSE],
     "WriteFile in a transaction": [BEGIN, OPEN_IN, "*" + WRITE, CLOSE, UNDO, END],
-    "SetEndOfFile": [OPEN, "*p1 SetEndOfFile h2 16", CLOSE],
+    "SetEndOfFile": [MAKE, "*p1 SetEndOfFile h2 16", CLOSE, UNMAKE],
     "SetEndOfFile in a transaction": [BEGIN, OPEN_IN, "*p1 SetEndOfFile h2 8", CLOSE, UNDO, END],
     "GetFileSizeEx": [OPEN, "*p1 GetFileSizeEx h2", CLOSE],
     "FlushFileBuffers": [OPEN, "*p1 FlushFileBuffers h2", CLOSE],
@@ -58,9 +59,9 @@ PROBES = {
     "RemoveDirectoryTransacted": [BEGIN, '*p1 RemoveDirectoryTransacted "\\work\\e" h1', UNDO, END],
     "MoveFile": ['*p1 MoveFile "\\work\\m" "\\work\\n"', 'p1 MoveFile "\\work\\n" "\\work\\m"'],
     "MoveFileTransacted": [BEGIN, '*p1 MoveFileTransacted "\\work\\m" "\\work\\n" h1', UNDO, END],
-    "FindFiles of one name": ['*p1 FindFiles "\\work\\m"', OPEN, CLOSE],
-    "FindFiles of all names": ['*p1 FindFiles "\\work\\*"', OPEN, CLOSE],
-    "FindFilesTransacted of one name": ['*p1 FindFilesTransacted "\\work\\m" h100', OPEN, CLOSE],
+    "FindFiles of one name": ['*p1 FindFiles "\\work\\m"', *SETTLE],
+    "FindFiles of all names": ['*p1 FindFiles "\\work\\*"', *SETTLE],
+    "FindFilesTransacted of one name": ['*p1 FindFilesTransacted "\\work\\m" h100', *SETTLE],
     "a bad line": ["*p1 KvGet"],
     "tick": ["*tick 1"],
     "cut": ["*cut 1000000"],
@@ -83,7 +84,7 @@ COMMITTED = [
     COMMIT,
     END,
 ]
-OPENED = ["p1 CreateTransaction h100 0", "p2 DuplicateHandle h1 p1 h100"]
+OPENED = ["p1 CreateTransaction h100 0", "p2 DuplicateHandle h1 p1 h100", *SETTLE]
 
 
 def other(number):
@@ -133,6 +134,11 @@ def ended(count):
     return ["p2 CreateTransaction h2 0", "p2 CloseHandle h2"] * count
 
 
+def longer(count):
+    """Returns what makes the file `m` this long."""
+    return [OPEN, f"p1 SetEndOfFile h2 {count}", CLOSE]
+
+
 # What may be there beside a call: how many, and what makes it committed, or in the run itself.
 NOTHING = lambda _: []
 THINGS = {
@@ -143,6 +149,7 @@ THINGS = {
     "names in another": ([10, 100, 900], names_in("other"), NOTHING),
     "keys": ([10, 100, 900], keys, NOTHING),
     "open files": ([10, 100, 900], NOTHING, open_files),
+    "bytes in the file": ([4_096, 65_536, 524_288], longer, NOTHING),
 }
 
 
@@ -152,13 +159,18 @@ def probed(rounds):
     return [(form if line.startswith("*") else None, line.lstrip("*")) for form, lines in probes for line in lines]
 
 
+def is_right(reply):
+    """Returns whether a line of a probe may be answered so."""
+    return reply.startswith(("ok", "BAD_LINE", "restarted"))
+
+
 def by_form(side, measure, before=NOTHING, opened=NOTHING, count=0, rounds=3):
     """Returns for each form what the measure says of its lines, beside this many other things."""
     lines = [*OPENED, *opened(count)]
     probes = probed(rounds)
     with side.state() as state:
         side.measured(measuring.run, [*COMMITTED, *before(count)], state)
-        measured = side.measured(measure, [*lines, *[line for _, line in probes]], state, is_checked=False)
+        measured = side.measured(measure, [*lines, *[line for _, line in probes]], state, is_right)
     found = {}
     for (form, _), value in zip(probes, measured[len(lines) :]):
         found.setdefault(form, []).append(value)

@@ -12,6 +12,16 @@ import workloads
 HERE = os.path.dirname(os.path.abspath(__file__))
 
 
+def is_done(reply):
+    """Returns whether the reply says that the line was carried out."""
+    return reply.startswith("ok")
+
+
+def is_refused(reply):
+    """Returns whether the reply says that the line's label is bound to nothing, or that nothing had to be refused."""
+    return reply.startswith(("ERROR_INVALID_HANDLE", "ok"))
+
+
 class Side:
     """A program that carries out a list of lines on a state, each time on a new one."""
 
@@ -27,10 +37,10 @@ class Side:
         """Returns the command that carries out the lines of this file on this state."""
         return [self.program, state, lines]
 
-    def check(self, replies):
-        """Stops where a reply says that a line was not carried out."""
+    def check(self, replies, is_right):
+        """Stops where a reply is none that a line may have."""
         with open(replies, encoding="utf-8", errors="replace") as lines:
-            wrong = next((it for it in lines if not it.startswith("ok")), None)
+            wrong = next((it for it in lines if not is_right(it)), None)
         if wrong:
             raise measuring.Failed(f"{self.program} answered {wrong.strip()[:80]}")
 
@@ -40,17 +50,16 @@ class Side:
         with tempfile.TemporaryDirectory(dir=self.room) as folder:
             yield f"{folder}/state"
 
-    def measured(self, measure, lines, state=None, is_checked=True):
-        """Returns the measure of a run of the lines, on a new state or on this one."""
+    def measured(self, measure, lines, state=None, is_right=is_done):
+        """Returns the measure of a run of the lines, on a new state or on this one, where each reply is right."""
         if state is None:
             with self.state() as state:
-                return self.measured(measure, lines, state, is_checked)
+                return self.measured(measure, lines, state, is_right)
         with tempfile.TemporaryDirectory(dir=self.room) as folder:
             with open(f"{folder}/lines", "w", encoding="ascii") as file:
                 file.writelines(f"{it}\n" for it in lines)
             result = measure(self.command(state, f"{folder}/lines"), f"{folder}/replies")
-            if is_checked:
-                self.check(f"{folder}/replies")
+            self.check(f"{folder}/replies", is_right)
         return result
 
     def instructions(self, work):
@@ -77,7 +86,7 @@ class Wattorju(Side):
 
     def reading(self, work):
         """Returns the instructions of the workload's lines where each is read and refused at once."""
-        return self.measured(measuring.instructions, workloads.refused(work), is_checked=False) - self.empty(measuring.instructions)
+        return self.measured(measuring.instructions, workloads.refused(work), is_right=is_refused) - self.empty(measuring.instructions)
 
 
 class Files(Side):
@@ -105,7 +114,3 @@ class Sides:
         self.wattorju = Wattorju(room, program)
         self.sqlite = Side(room, compiled("sqlite", room, "-lsqlite3"))
         self.files = Files(room, compiled("files", room))
-
-    def version_of_sqlite(self):
-        """Returns the version of SQLite's library."""
-        return subprocess.run([self.sqlite.program], stdout=subprocess.PIPE, check=True, text=True).stdout.strip()

@@ -1,7 +1,10 @@
 """The tables: what each measures, and how it is printed."""
 
 import dataclasses
+import os
+import platform
 import statistics
+import subprocess
 
 import forms
 import measuring
@@ -9,7 +12,7 @@ import workloads
 from workloads import installs, key, sets
 
 RATIO = "Wattorju / SQLite"
-WITHOUT = "the same without the lines"
+WITHOUT = "without reading"
 
 
 @dataclasses.dataclass
@@ -51,15 +54,29 @@ def spelled(cell):
     return f"{cell:,}" if isinstance(cell, int) else str(cell)
 
 
+def of_versions(sides, _):
+    """What the numbers were made with."""
+    first = lambda *command: subprocess.run(command, stdout=subprocess.PIPE, check=True, text=True).stdout.splitlines()[0]
+    rows = [
+        ["SQLite", first(sides.sqlite.program)],
+        ["C compiler", first(os.environ.get("CC", "cc"), "--version")],
+        ["C library", " ".join(platform.libc_ver())],
+        ["valgrind", first("valgrind", "--version")],
+        ["strace", first("strace", "-V")],
+        ["processor", platform.machine()],
+    ]
+    return Table("versions", "what the numbers were made with", ["", "version"], rows)
+
+
 def compared(sides, work, times, before=()):
-    """Returns the cells of a workload that is so many times the same, for one time: the program's instructions, those of reading its
-    lines, SQLite's, and both ratios."""
+    """Returns the cells of a workload that is so many times the same, for one time: the program's instructions, those in which its
+    lines are read and refused, SQLite's, and both ratios."""
     cost = lambda measure: (measure([*before, *work]) - (measure([*before]) if before else 0)) // times
     ours, lines, theirs = cost(sides.wattorju.instructions), cost(sides.wattorju.reading), cost(sides.sqlite.instructions)
     return [ours, lines, theirs, ours / theirs, (ours - lines) / theirs]
 
 
-COMPARED = ["Wattorju", "of it the lines", "SQLite", RATIO, WITHOUT]
+COMPARED = ["Wattorju", "of it reading", "SQLite", RATIO, WITHOUT]
 
 
 def of_sets(sides, _):
@@ -118,7 +135,7 @@ def of_files(sides, _):
         plain = sides.files.instructions(work) // times
         ours, lines, theirs, *ratios = compared(sides, work, times)
         rows.append([f"{count} of {length // 1024} KiB", ours, lines, theirs, plain, *ratios])
-    columns = ["files", "Wattorju", "of it the lines", "SQLite", "write, fsync, rename", RATIO, WITHOUT]
+    columns = ["files", "Wattorju", "of it reading", "SQLite", "write, fsync, rename", RATIO, WITHOUT]
     return Table("files", "instructions of a transaction", columns, rows)
 
 
@@ -178,9 +195,14 @@ def of_start(side, lines):
 
 def of_memory(sides, options):
     """The most memory of a run."""
-    works = [("an empty one", [])]
-    works.append(("10,000 transactions of one key", [it for at in range(10_000) for it in sets([key(at % 100)], 16, at)]))
-    works += [("100 files of 4 KiB in one", installed(100, 4_096)[0][:102]), ("60 files of 64 KiB in one", installed(60, 65_536)[0])]
+    many = [it for at in range(10_000) for it in sets([key(at % 100)], 16, at)]
+    files = lambda count, length: installs([f"file{at}" for at in range(count)], length)
+    works = [
+        ("nothing", []),
+        ("10,000 transactions of one key", many),
+        ("one transaction of 100 files of 4 KiB", files(100, 4_096)),
+        ("one transaction of 60 files of 64 KiB", files(60, 65_536)),
+    ]
     rows = [[name, sides.wattorju.memory(work), sides.sqlite.memory(work)] for name, work in works]
     if options.large:
         rows.append(["a script of 64 MiB", sides.wattorju.measured(measuring.peak_of_memory, large_script()), ""])
@@ -212,9 +234,9 @@ def of_growth(sides, _):
     alone, beside = growth(sides)
     most = [(thing, counts[-1]) for thing, (counts, _, _) in forms.THINGS.items()]
     whole = [[form, cost, *[beside[it][form] for it in most]] for form, cost in alone.items()]
-    columns = ["line", "alone", *[f"{count} {thing}" for thing, count in most]]
+    columns = ["line", "alone", *[f"{count:,} {thing}" for thing, count in most]]
     grown = [
-        [form, f"{', '.join(map(str, counts))} {thing}", cost, *[beside[thing, count][form] for count in counts]]
+        [form, f"{', '.join(f'{it:,}' for it in counts)} {thing}", cost, *[beside[thing, count][form] for count in counts]]
         for form, cost in alone.items()
         for thing, (counts, _, _) in forms.THINGS.items()
         if beside[thing, counts[-1]][form] > 1.5 * cost
@@ -226,6 +248,7 @@ def of_growth(sides, _):
 
 
 TABLES = {
+    "versions": of_versions,
     "sets": of_sets,
     "transactions": of_transactions,
     "reads": of_reads,

@@ -1,5 +1,5 @@
-/* What the two programs read and write: a workload is lines of words with one space between, and each line is answered with a
- * line, written at once. */
+/* What the two programs read and write: a workload is lines of words with one space between, each with a newline at its end, and
+ * each line is answered with a line, written at once. */
 #include <stdio.h>
 #include <stdlib.h>
 #include <string.h>
@@ -13,19 +13,6 @@ struct word {
 static void fail(const char *what) {
     perror(what);
     exit(1);
-}
-
-/* The whole file, and its end. */
-static char *contents(const char *path, char **end) {
-    FILE *file = fopen(path, "rb");
-    if (!file || fseek(file, 0, SEEK_END)) fail(path);
-    size_t length = (size_t)ftell(file);
-    char *bytes = malloc(length + 1);
-    rewind(file);
-    if (!bytes || fread(bytes, 1, length, file) != length) fail(path);
-    fclose(file);
-    *end = bytes + length;
-    return bytes;
 }
 
 /* Takes the next word of the line, which is empty at the line's end. */
@@ -62,14 +49,17 @@ static void send_answer(void) {
 
 /* Carries out each line of the workload, and answers it. */
 static void carry_out_all(const char *path, void (*carry_out)(struct word name, struct word first, struct word second)) {
-    char *end, *at = contents(path, &end);
-    while (at < end) {
-        char *stop = memchr(at, '\n', (size_t)(end - at));
-        if (!stop) stop = end;
-        struct word name = next_word(&at, stop), first = next_word(&at, stop), second = next_word(&at, stop);
+    FILE *file = fopen(path, "rb");
+    if (!file) fail(path);
+    char *line = NULL;
+    size_t room = 0;
+    ssize_t length;
+    while ((length = getline(&line, &room, file)) > 0) {
+        char *at = line, *end = line + length - 1;
+        struct word name = next_word(&at, end), first = next_word(&at, end), second = next_word(&at, end);
         put("ok", 2);
         carry_out(name, first, second);
         send_answer();
-        at = stop + 1;
     }
+    fclose(file);
 }
