@@ -10,6 +10,7 @@ import measuring
 import workloads
 
 HERE = os.path.dirname(os.path.abspath(__file__))
+COMPILER = os.environ.get("CC", "cc")
 
 
 def is_done(reply):
@@ -37,12 +38,15 @@ class Side:
         """Returns the command that carries out the lines of this file on this state."""
         return [self.program, state, lines]
 
-    def check(self, replies, is_right):
-        """Stops where a reply is none that a line may have."""
-        with open(replies, encoding="utf-8", errors="replace") as lines:
-            wrong = next((it for it in lines if not is_right(it)), None)
-        if wrong:
-            raise measuring.Failed(f"{self.program} answered {wrong.strip()[:80]}")
+    def check(self, lines, replies, is_right):
+        """Stops where a line has no reply, or one that it may not have."""
+        with open(replies, encoding="utf-8", errors="replace") as written:
+            count = 0
+            for count, reply in enumerate(written, 1):
+                if not is_right(reply):
+                    raise measuring.Failed(f"{self.program} answered {reply.strip()[:80]} to {lines[count - 1][:80]}")
+        if count != len(lines):
+            raise measuring.Failed(f"{self.program} answered {count} of {len(lines)} lines")
 
     @contextlib.contextmanager
     def state(self):
@@ -59,7 +63,7 @@ class Side:
             with open(f"{folder}/lines", "w", encoding="ascii") as file:
                 file.writelines(f"{it}\n" for it in lines)
             result = measure(self.command(state, f"{folder}/lines"), f"{folder}/replies")
-            self.check(f"{folder}/replies", is_right)
+            self.check(lines, f"{folder}/replies", is_right)
         return result
 
     def instructions(self, work):
@@ -102,8 +106,7 @@ class Files(Side):
 def compiled(name, room, *libraries):
     """Compiles this C program of this folder, and returns where it is."""
     to = f"{room}/{name}"
-    compiler = os.environ.get("CC", "cc")
-    subprocess.run([compiler, "-O2", "-o", to, f"{HERE}/{name}.c", *libraries], check=True)
+    subprocess.run([COMPILER, "-O2", "-o", to, f"{HERE}/{name}.c", *libraries], check=True)
     return to
 
 

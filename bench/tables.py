@@ -1,7 +1,6 @@
 """The tables: what each measures, and how it is printed."""
 
 import dataclasses
-import os
 import platform
 import statistics
 import subprocess
@@ -9,6 +8,7 @@ import subprocess
 import forms
 import measuring
 import workloads
+from sides import COMPILER
 from workloads import installs, key, sets
 
 RATIO = "Wattorju / SQLite"
@@ -31,7 +31,7 @@ class Table:
     def markdown(self):
         """Returns the table as a document has it: numbers to the right, behind a mark by which it is found again."""
         head, *rows = self.cells()
-        line = ["---:" if it and isinstance(self.rows[0][at], (int, float)) else "---" for at, it in enumerate(head)]
+        line = ["---:" if any(isinstance(row[at], (int, float)) for row in self.rows) else "---" for at in range(len(head))]
         return "\n".join([mark(self.name), *[f"| {' | '.join(it)} |" for it in [head, line, *rows]]])
 
     def text(self):
@@ -59,7 +59,7 @@ def of_versions(sides, _):
     first = lambda *command: subprocess.run(command, stdout=subprocess.PIPE, check=True, text=True).stdout.splitlines()[0]
     rows = [
         ["SQLite", first(sides.sqlite.program)],
-        ["C compiler", first(os.environ.get("CC", "cc"), "--version")],
+        ["C compiler", first(COMPILER, "--version")],
         ["C library", " ".join(platform.libc_ver())],
         ["valgrind", first("valgrind", "--version")],
         ["strace", first("strace", "-V")],
@@ -142,12 +142,12 @@ def of_files(sides, _):
 def of_calls(sides, _):
     """What each side asks of the device for a transaction."""
     keys = [key(it) for it in range(100)]
-    works = [("1 key", sets(keys[:1], 64), 1), ("100 keys", sets(keys, 64), 1)]
-    works += [(f"{count} files of {length // 1024} KiB", *installed(count, length)) for length, count in FILES[1:5:3]]
+    works = [("keys, 1", sets(keys[:1], 64), 1), ("keys, 100", sets(keys, 64), 1)]
+    works += [(f"files, {count} of {length // 1024} KiB", *installed(count, length)) for length, count in [FILES[0], FILES[1], FILES[4]]]
     rows = []
     for name, work, times in works:
         asked = {"Wattorju": sides.wattorju, "SQLite": sides.sqlite}
-        if "file" in name:
+        if name.startswith("files"):
             asked["plain calls"] = sides.files
         for side, it in asked.items():
             rows.append([name, side, *[round(at / times) for at in summed(it.device_calls(work))]])
@@ -172,16 +172,16 @@ def of_lines(sides, _):
 
 def of_restarts(sides, _):
     """What a frame of the log costs at a start."""
-    key_again = ["p1 CreateTransaction h1 0", 'p1 KvSet h1 "key" 6162636465666768696a6b6c6d6e6f70', "p1 CommitTransaction h1", "p1 CloseHandle h1"]
     file_made = lambda at: [f'p1 CreateFile h1 "\\file{at}" w - CREATE_NEW', "p1 CloseHandle h1"]
     kinds = {
-        "a transaction that sets one key": (lambda count: key_again * count, 1_000),
-        "a plain CreateFile that makes a file": (lambda count: [line for at in range(count) for line in file_made(at)], 900),
+        "a transaction that sets one key": lambda count: workloads.script(sets(["key"], 16)) * count,
+        "a plain CreateFile that makes a file": lambda count: [line for at in range(count) for line in file_made(at)],
+        "a transaction that writes a file of 4 KiB": lambda count: workloads.script(installs(["file"], 4_096)) * count,
     }
     rows = []
-    for name, (lines, most) in kinds.items():
-        short, long = [of_start(sides.wattorju, lines(it)) for it in (most // 10, most)]
-        rows.append([name, (long - short) // (most - most // 10)])
+    for name, lines in kinds.items():
+        short, long = [of_start(sides.wattorju, lines(count)) for count in (100, 900)]
+        rows.append([name, (long - short) // 800])
     rows.append(["a start from an image that was only made", of_start(sides.wattorju, [])])
     return Table("restarts", "instructions of a start for a frame of the log, by the difference of two logs", ["frame", "instructions"], rows)
 
@@ -216,22 +216,20 @@ def large_script():
     return [*begun, *[read] * ((64 * 1024 * 1024 - sum(len(it) + 1 for it in begun)) // (len(read) + 1))]
 
 
-def growth(sides):
-    """Returns the instructions of each form alone, and by thing and number beside so many of it."""
-    measured = lambda *how: {
-        form: int(statistics.median(found)) for form, found in forms.by_form(sides.wattorju, measuring.instructions_by_reply, *how).items()
-    }
-    beside = {
-        (thing, count): measured(before, opened, count)
-        for thing, (counts, before, opened) in forms.THINGS.items()
-        for count in counts
-    }
-    return measured(), beside
+def medians(side, *how):
+    """Returns the instructions of each form of line, beside what is said: the median of its rounds."""
+    found = forms.by_form(side, measuring.instructions_by_reply, *how)
+    return {form: int(statistics.median(costs)) for form, costs in found.items()}
 
 
 def of_growth(sides, _):
     """What each form of line costs, and what it grows with."""
-    alone, beside = growth(sides)
+    alone = medians(sides.wattorju)
+    beside = {
+        (thing, count): medians(sides.wattorju, before, opened, count)
+        for thing, (counts, before, opened) in forms.THINGS.items()
+        for count in counts
+    }
     most = [(thing, counts[-1]) for thing, (counts, _, _) in forms.THINGS.items()]
     whole = [[form, cost, *[beside[it][form] for it in most]] for form, cost in alone.items()]
     columns = ["line", "alone", *[f"{count:,} {thing}" for thing, count in most]]
