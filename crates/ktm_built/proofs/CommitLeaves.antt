@@ -30,9 +30,9 @@ commit_built_transactions x t built none =
     let c = committed_course x t in
     let both = has_changes (changes_of x t) && has_settings (settings_of x t) in
     let transactions : (commit_transaction x (Some t)).transactions ≡ record x.transactions { items = change_at x.transactions.items t.id (λ u. ended_committed t both); enlistments = [] } =
-        ap (λ (o : Outcome). o.transactions) (commit_is x t) ∙ arrived-transactions x c (commit_reply c)
-        ∙ ap (λ (es : List Enlistment). record x.transactions { items = change_at x.transactions.items c.transaction.id (λ u. c.transaction); enlistments = es }) (goes_on (commit_steps (course_of x t None)) (course_of x t None) built.enlistments).enlistments
-        ∙ ap (λ (u : Transaction). record x.transactions { items = change_at x.transactions.items u.id (λ v. u); enlistments = [] }) (commit_comes x t built none).transaction in
+    ap (λ (o : Outcome). o.transactions) (commit_is x t) ∙ arrived-transactions x c (commit_reply c)
+    ∙ ap (λ (es : List Enlistment). record x.transactions { items = change_at x.transactions.items c.transaction.id (λ u. c.transaction); enlistments = es }) (goes_on (commit_steps (course_of x t None)) (course_of x t None) built.enlistments).enlistments
+    ∙ ap (λ (u : Transaction). record x.transactions { items = change_at x.transactions.items u.id (λ v. u); enlistments = [] }) (commit_comes x t built none).transaction in
     subst AreBuilt (sym transactions) (record {
       enlistments = refl;
       last_manager = built.last_manager;

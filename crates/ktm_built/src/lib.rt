@@ -4,6 +4,6 @@
 mod laws;
 
 pub use laws::{
-    law_of_decided, law_of_events, law_of_files, law_of_effects, law_of_fresh, law_of_guids,
+    law_of_decided, law_of_effects, law_of_events, law_of_files, law_of_fresh, law_of_guids,
     law_of_named, law_of_standing, law_of_timeouts,
 };

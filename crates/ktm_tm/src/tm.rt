@@ -63,9 +63,7 @@ fn is_reached(created: u64, timeout: u32, clock: u64) -> bool
 fn is_due(clock: u64, t: &Transaction) -> bool
     ensures { result ≡ is_due clock t.now }
 {
-    !never_times_out(t.timeout)
-        && is_reached(t.created, t.timeout, clock)
-        && may_roll_back(t)
+    !never_times_out(t.timeout) && is_reached(t.created, t.timeout, clock) && may_roll_back(t)
 }
 
 impl Tm {

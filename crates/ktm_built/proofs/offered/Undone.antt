@@ -37,8 +37,8 @@ in_turn_records x (t ∷ ts) rise found =
           let now : o.transactions ≡ record x.transactions { items = change_at x.transactions.items d.transaction.id (λ u. d.transaction); enlistments = d.enlistments } = arrived-transactions x d Done in
           let id : d.transaction.id ≡ t.id = (stays-led PhaseInput.Rollback c).id in
           let there = subst (λ (all : Transactions). AreFound all.items ts) (sym now)
-              (subst (λ i. AreFound (change_at x.transactions.items i (λ u. d.transaction)) ts) (sym id)
-              (found-once_changed (λ u. d.transaction) x.transactions.items ts t.id (λ u same. id) (rise-first t ts rise) found.1)) in
+          (subst (λ i. AreFound (change_at x.transactions.items i (λ u. d.transaction)) ts) (sym id)
+          (found-once_changed (λ u. d.transaction) x.transactions.items ts t.id (λ u same. id) (rise-first t ts rise) found.1)) in
           let then = in_turn_records (apply x o) ts (rise-rest t ts rise) there ∙ ap (λ (all : Transactions). flat_map (undo_of all.clock) ts) now in
           let here : o.events ≡ event_if t.is_recorded (Undo t.id) = (arrival x d Done).events ∙ (rollback-undone c).events in
           rw due (ap (λ es. es ++ (aborted_in_turn (apply x o) ts).events) here ∙ ap (λ es. event_if t.is_recorded (Undo t.id) ++ es) then))

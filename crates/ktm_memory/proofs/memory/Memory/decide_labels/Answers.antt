@@ -10,7 +10,7 @@ decide_handle-requires-clause-done c = labels_done (present_of c.args.self.now) 
 
 pub returns-in-Bind-clause-ok : goal.returns-in-Bind-clause-ok
 returns-in-Bind-clause-ok c = elim c.in-Bind.is [
-  inl bind ↦ rw bind.2 (rw bind.2 at c.decide_handle.ensures.ok)
+  | inl bind ↦ rw bind.2 (rw bind.2 at c.decide_handle.ensures.ok)
   | inr duplicate ↦ rw duplicate.3 (rw duplicate.3 at c.decide_handle.ensures.ok)
 ]
 
@@ -18,7 +18,7 @@ pub returns-in-Unbind-clause-ok : goal.returns-in-Unbind-clause-ok
 returns-in-Unbind-clause-ok c = λ events holds.
     let x = present_of c.args.self.now in
     let quiet : MayHandle c.args.self.now c.args.process c.args.labels × (labels_tests x c.args.labels ≡ []) = elim c.in-Unbind.is [
-      inl unbind ↦ rw unbind.1 (tt, refl)
+      | inl unbind ↦ rw unbind.1 (tt, refl)
       | inr all ↦ rw all (tt, refl)
     ] in
     rw (c.done.ensures.reply, c.done.ensures.settlement, quiet.1)
