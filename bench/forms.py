@@ -1,7 +1,8 @@
 """The forms of lines that the program answers: what each costs by itself, and beside many other things.
 
-A probe is a form with lines, the measured one of which begins with a star. Its lines leave what is there as it was, so that they can
-be repeated. They find the transaction h100 and the directory `\\work` with the file `m` and the empty directory `e`, and the key "m"."""
+A probe is a form with lines, the measured one of which begins with a star. Its lines leave what is there as it was, so that
+they can be repeated. They find the transaction h100, the key "m", and the directory `\\work` with the file `m` and the empty
+directory `e`."""
 
 import measuring
 
@@ -11,6 +12,7 @@ BEGIN, END = "p1 CreateTransaction h1 0", "p1 CloseHandle h1"
 UNDO = "p1 RollbackTransaction h1"
 MAKE, UNMAKE = 'p1 CreateFile h2 "\\work\\n" rw - CREATE_NEW', 'p1 DeleteFile "\\work\\n"'
 OPEN, CLOSE = 'p1 CreateFile h2 "\\work\\m" rw - OPEN_EXISTING', "p1 CloseHandle h2"
+EMPTIED = ['*p1 CreateFile h2 "\\work\\n" w - TRUNCATE_EXISTING']
 OPEN_IN = 'p1 CreateFileTransacted h2 "\\work\\m" rw - OPEN_EXISTING h1'
 MAKE_IN = 'p1 CreateFileTransacted h2 "\\work\\n" rw - CREATE_NEW h1'
 SET, WRITE = f'p1 KvSet h1 "m" {VALUE}', f"p1 WriteFile h2 0 {VALUE}"
@@ -41,6 +43,7 @@ PROBES = {
     "KvList in a transaction": ["*p1 KvList h100", *SETTLE],
     "CreateFile OPEN_EXISTING": ["*" + OPEN, CLOSE],
     "CreateFile CREATE_NEW": ["*" + MAKE, CLOSE, UNMAKE],
+    "CreateFile TRUNCATE_EXISTING": [MAKE, CLOSE, *EMPTIED, CLOSE, UNMAKE],
     "CreateFileTransacted OPEN_EXISTING": [BEGIN, "*" + OPEN_IN, CLOSE, UNDO, END],
     "CreateFileTransacted CREATE_NEW": [BEGIN, "*" + MAKE_IN, CLOSE, UNDO, END],
     "ReadFile": [OPEN, "*p1 ReadFile h2 0 16", CLOSE],
@@ -69,7 +72,7 @@ PROBES = {
 # These take the machine down and up, so they come last and once.
 LAST_PROBES = {"crash": ["*crash"], "restart": ["*restart 1"]}
 
-# What is committed before, in a run of its own, and what is open before the probes. Process 2 and the directory `\other` are the others'.
+# What is committed before, in a run of its own, and what is open before the probes. The others have process 2 and `\other`.
 COMMITTED = [
     'p1 CreateDirectory "\\work"',
     'p1 CreateDirectory "\\work\\e"',

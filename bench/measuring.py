@@ -16,12 +16,13 @@ class Failed(Exception):
 
 
 def run(command, output, prefix=()):
-    """Runs the command, with its standard output in this file and no standard input, and returns what it wrote to standard error."""
+    """Runs the command with no input and its standard output in this file, and returns what it wrote to standard error."""
+    whole = [*prefix, *command]
     with open(output, "wb") as replies:
-        done = subprocess.run([*prefix, *command], stdin=subprocess.DEVNULL, stdout=replies, stderr=subprocess.PIPE, check=False)
+        done = subprocess.run(whole, stdin=subprocess.DEVNULL, stdout=replies, stderr=subprocess.PIPE, check=False)
     said = done.stderr.decode(errors="replace")
     if done.returncode:
-        raise Failed(f"{' '.join([*prefix, *command])} ended with {done.returncode}: {said[-400:]}")
+        raise Failed(f"{' '.join(whole)} ended with {done.returncode}: {said[-400:]}")
     return said
 
 
@@ -32,9 +33,10 @@ def instructions(command, output):
 
 
 def instructions_by_reply(command, output):
-    """Returns how many instructions lie before each reply and behind the one before it, of a program that writes each reply at once.
+    """Returns how many instructions lie before each reply and behind the one before it, of a program that writes each at once.
 
-    callgrind starts a count anew at each call of `write`. The first is no reply: the program asks standard output whether it is there."""
+    callgrind begins to count anew at each call of `write`. The first of them is no reply: with it the program asks standard
+    output whether it is there."""
     counts = f"{output}.counts"
     how = ["--combine-dumps=yes", "--dump-before=write", f"--callgrind-out-file={counts}"]
     run(command, output, [*CALLGRIND, *how])

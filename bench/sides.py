@@ -90,7 +90,8 @@ class Wattorju(Side):
 
     def reading(self, work):
         """Returns the instructions of the workload's lines where each is read and refused at once."""
-        return self.measured(measuring.instructions, workloads.refused(work), is_right=is_refused) - self.empty(measuring.instructions)
+        lines = workloads.refused(work)
+        return self.measured(measuring.instructions, lines, is_right=is_refused) - self.empty(measuring.instructions)
 
 
 class Files(Side):

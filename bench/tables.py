@@ -38,8 +38,8 @@ class Table:
         """Returns the table for a terminal."""
         cells = self.cells()
         widths = [max(map(len, column)) for column in zip(*cells)]
-        lines = ["  ".join(it.rjust(width) if at else it.ljust(width) for at, (it, width) in enumerate(zip(row, widths))) for row in cells]
-        return "\n".join([f"{self.name}: {self.shows}", *lines])
+        line = lambda row: "  ".join([row[0].ljust(widths[0]), *map(str.rjust, row[1:], widths[1:])])
+        return "\n".join([f"{self.name}: {self.shows}", *map(line, cells)])
 
 
 def mark(name):
@@ -69,8 +69,8 @@ def of_versions(sides, _):
 
 
 def compared(sides, work, times, before=()):
-    """Returns the cells of a workload that is so many times the same, for one time: the program's instructions, those in which its
-    lines are read and refused, SQLite's, and both ratios."""
+    """Returns the cells of a workload that is so many times the same, for one time: the program's instructions, those in which
+    its lines are read and refused, SQLite's, and both ratios."""
     cost = lambda measure: (measure([*before, *work]) - (measure([*before]) if before else 0)) // times
     ours, lines, theirs = cost(sides.wattorju.instructions), cost(sides.wattorju.reading), cost(sides.sqlite.instructions)
     return [ours, lines, theirs, ours / theirs, (ours - lines) / theirs]
@@ -143,7 +143,8 @@ def of_calls(sides, _):
     """What each side asks of the device for a transaction."""
     keys = [key(it) for it in range(100)]
     works = [("keys, 1", sets(keys[:1], 64), 1), ("keys, 100", sets(keys, 64), 1)]
-    works += [(f"files, {count} of {length // 1024} KiB", *installed(count, length)) for length, count in [FILES[0], FILES[1], FILES[4]]]
+    for length, count in [FILES[0], FILES[1], FILES[4]]:
+        works.append((f"files, {count} of {length // 1024} KiB", *installed(count, length)))
     rows = []
     for name, work, times in works:
         asked = {"Wattorju": sides.wattorju, "SQLite": sides.sqlite}
@@ -183,7 +184,7 @@ def of_restarts(sides, _):
         short, long = [of_start(sides.wattorju, lines(count)) for count in (100, 900)]
         rows.append([name, (long - short) // 800])
     rows.append(["a start from an image that was only made", of_start(sides.wattorju, [])])
-    return Table("restarts", "instructions of a start for a frame of the log, by the difference of two logs", ["frame", "instructions"], rows)
+    return Table("restarts", "instructions of a start for a frame of the log", ["frame", "instructions"], rows)
 
 
 def of_start(side, lines):

@@ -1,7 +1,7 @@
 """Workloads: lists of what is to be done, and how each side is told of them.
 
-An operation is a tuple: ("begin",), ("set", key, value), ("read", key) in the transaction, ("get", key) and ("list",) of what is committed,
-("install", name, bytes) or ("commit",), with texts of printable characters without spaces."""
+An operation is a tuple: ("begin",), ("set", key, value), ("read", key) in the transaction, ("get", key) and ("list",) of what is
+committed, ("install", name, bytes) or ("commit",), with texts of printable characters without spaces."""
 
 import string
 
