@@ -2,15 +2,17 @@
 use Rattle.std.specs.Prelude.{◌≡◌, ℕ, zero, suc, List, [], ◌∷◌, ◌++◌, Option, Some, None, slice_set}
 use Rattle.ktm_notify.specs.declared.note.Note.{Note}
 
--- the notifications of each resource manager, in order; how many wait, how many can be sent without memory, and how many were ever sent
+-- the notifications of each resource manager, in order; how many wait, how many can be sent without memory, how many were ever sent, and
+-- for how many more queues there is room
 pub record QueuesState : Type 0 where
   pub queues : List (List Note)
   pub waiting : ℕ
   pub spare : ℕ
   pub sent : ℕ
+  pub room : ℕ
 
 -- as many wait, can be sent and were sent
-pub record KeepsQueues (old new : QueuesState) : Type 0 where
+pub record KeepsSlots (old new : QueuesState) : Type 0 where
   pub waiting : new.waiting ≡ old.waiting
   pub spare : new.spare ≡ old.spare
   pub sent : new.sent ≡ old.sent

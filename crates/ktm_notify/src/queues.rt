@@ -1,7 +1,7 @@
 // The queues of all resource managers, in one table of slots.
-ghost use Rattle.std.specs.Prelude.{◌≡◌, ◌+◌, ◌-◌, ◌*◌, ◌^◌, ◌<◌, ◌≤◌, ◌++◌, ◌∷◌, [], IfNone, OnSome, IsOk, None, OnErr, OnOk, false, is_some, length, min, true};
+ghost use Rattle.std.specs.Prelude.{◌≡◌, ◌+◌, ◌-◌, ◌*◌, ◌^◌, ◌<◌, ◌≤◌, ◌++◌, ◌∷◌, [], IfNone, OnSome, IsOk, None, OnOk, false, is_some, length, min, true};
 ghost use Rattle.ktm_notify.specs.Linked.{linked_behind};
-ghost use Rattle.ktm_notify.specs.Queues.{first_note, queue_at, with_note, without_first, KeepsQueues};
+ghost use Rattle.ktm_notify.specs.Queues.{first_note, queue_at, with_note, without_first, KeepsSlots};
 
 use crate::note::Note;
 use ktm_base::NoMemory;
@@ -57,11 +57,11 @@ impl Ends {
 impl Model for Queues {
     ghost use Rattle.ktm_notify.specs.Queues.{QueuesState};
     ghost use Rattle.ktm_notify.specs.Linked.{queues_in, AreQueues};
-    ghost use Rattle.std.specs.Prelude.{length};
+    ghost use Rattle.std.specs.Prelude.{◌-◌, length, vec_len, vec_capacity};
 
     ghost Value = { QueuesState };
 
-    ghost view = { λ q. record { queues = queues_in q.slots.items 0 q.ends.items; waiting = length q.slots.items; spare = q.slots.spare; sent = q.slots.next } };
+    ghost view = { λ q. record { queues = queues_in q.slots.items 0 q.ends.items; waiting = length q.slots.items; spare = q.slots.spare; sent = q.slots.next; room = vec_capacity q.ends - vec_len q.ends } };
 
     ghost invariant = { λ q. AreQueues q.slots.items q.ends.items };
 }
@@ -103,17 +103,29 @@ impl Queues {
         self.ends.len()
     }
 
-    /// A queue more, of a resource manager behind all others, with nothing in it.
-    pub fn add(&mut self) -> Result<(), NoMemory>
-        ensures ok { OnOk result (self.new.queues ≡ self.old.queues ++ [] ∷ []) }
-        ensures err { OnErr result (self.new.queues ≡ self.old.queues) }
-        ensures slots { KeepsQueues self.old self.new }
+    /// Makes room for one queue more.
+    pub fn reserve_queue(&mut self) -> Result<(), NoMemory>
+        ensures room { OnOk result (0 < self.new.room) }
+        ensures enough { 0 < self.old.room → IsOk result }
+        ensures grows { self.old.room ≤ self.new.room }
+        ensures queues { self.new.queues ≡ self.old.queues }
+        ensures slots { KeepsSlots self.old self.new }
     {
-        self.ends.push(Ends {
+        self.ends.reserve(1)?;
+        Ok(())
+    }
+
+    /// A queue more, of a resource manager behind all others, with nothing in it. It takes no memory, and cannot fail.
+    pub fn add(&mut self)
+        requires { 0 < self.old.room }
+        ensures queues { self.new.queues ≡ self.old.queues ++ [] ∷ [] }
+        ensures room { self.new.room + 1 ≡ self.old.room }
+        ensures slots { KeepsSlots self.old self.new }
+    {
+        self.ends.push_reserved(Ends {
             first: None,
             last: None,
-        })?;
-        Ok(())
+        });
     }
 
     /// Makes room for five notifications of each of so many enlistments, those that wait counted: to them nothing is sent for
@@ -125,6 +137,7 @@ impl Queues {
         ensures waiting { self.new.waiting ≡ self.old.waiting }
         ensures sent { self.new.sent ≡ self.old.sent }
         ensures spare { self.old.spare ≤ self.new.spare }
+        ensures room_for_queues { self.new.room ≡ self.old.room }
     {
         let slots = enlistments.saturating_mul(SLOTS);
         self.slots.reserve(slots.saturating_sub(self.slots.len()))
@@ -138,6 +151,7 @@ impl Queues {
         ensures waiting { self.new.waiting ≡ self.old.waiting + 1 }
         ensures spare { self.new.spare + 1 ≡ self.old.spare }
         ensures sent { self.new.sent ≡ self.old.sent + 1 }
+        ensures room { self.new.room ≡ self.old.room }
     {
         let key = self.slots.push_spare(Slot {
             manager,
@@ -171,6 +185,7 @@ impl Queues {
         ensures waiting { OnSome result (self.new.waiting + 1 ≡ self.old.waiting) }
         ensures spare { OnSome result (self.new.spare ≡ min (self.old.spare + 1) (2 ^ 64 - 1 - self.old.sent)) }
         ensures sent { self.new.sent ≡ self.old.sent }
+        ensures room { self.new.room ≡ self.old.room }
         ensures none { IfNone result (self.new ≡ self.old) }
     {
         let ends = self.ends[manager];
