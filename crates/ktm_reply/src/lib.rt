@@ -14,4 +14,4 @@ mod write;
 pub use fault::ReplyFault;
 pub use laws::law_of_worked_replies;
 pub use read::{law_of_round_trip, read_reply};
-pub use write::write_reply;
+pub use write::{put_reply, write_reply};

@@ -94,8 +94,8 @@ fn put_restarted(out: &mut Vec<u8>, events: u64, in_doubt: u32) -> Result<(), No
     put_with_number(out, b" indoubt=", u64::from(in_doubt))
 }
 
-// Puts the line that a reply is, without a newline.
-fn put_reply(out: &mut Vec<u8>, reply: &Reply) -> Result<(), NoMemory>
+/// Writes the line that a reply is at the end, without a newline.
+pub fn put_reply(out: &mut Vec<u8>, reply: &Reply) -> Result<(), NoMemory>
     ensures { OnOk result (out.new.items ≡ out.old.items ++ reply_spelling reply.now) }
 {
     match reply {

@@ -67,6 +67,9 @@ pub fn run_image<S: Source, K: Sink, D: PowerDisk>(
     let Ok(mut kept) = Vec::with_capacity(alloc, MOST_KEPT) else {
         return Status::NoMemory;
     };
+    let Ok(mut piece) = vec![in alloc; 0u8; PIECE] else {
+        return Status::NoMemory;
+    };
     let mut kernel = match open_kernel(alloc, disk) {
         Ok(kernel) => kernel,
         Err(why) => return not_started(sink, why),
@@ -78,7 +81,8 @@ pub fn run_image<S: Source, K: Sink, D: PowerDisk>(
         source,
         sink,
         disk,
-        &mut [0; PIECE],
+        &mut piece,
+        &mut Vec::new(alloc),
         &mut kept,
     );
     kernel.end();

@@ -1,17 +1,18 @@
 // A line of a script.
-ghost use Rattle.std.specs.Prelude.{◌≡◌, ◌≤◌, ◌++◌, ℕ, List, IsErrOf, vec_capacity};
+ghost use Rattle.std.specs.Prelude.{◌≡◌, ◌≤◌, ◌++◌, ℕ, List, IsErrOf, OnOk, vec_capacity};
 ghost use Rattle.ktm_base.specs.Count.{Rose};
 ghost use Rattle.ktm_kernel.specs.Stands.{IsReady};
 ghost use Rattle.ktm_run.specs.Executed.{FeedLeaves, LineLeaves};
 ghost use Rattle.ktm_run.specs.Progress.{point};
-ghost use Rattle.ktm_run.specs.Script.{has_reply, kept_of};
+ghost use Rattle.ktm_run.specs.Script.{has_reply, kept_of, reply_line};
 
 use crate::answer::answer;
 use crate::fault::RunFault;
 use crate::write::write_all;
 use ktm_base::{Failed, MOST_LINE_BYTES, NoMemory, PowerDisk, Sink};
 use ktm_kernel::Kernel;
-use ktm_reply::write_reply;
+use ktm_reply::put_reply;
+use ktm_types::Reply;
 use memchr::memchr;
 use std::alloc::Global;
 
@@ -27,12 +28,24 @@ fn is_answered(line: &[u8]) -> bool
     }
 }
 
-/// Answers a line of which so much was kept, and writes the reply before it returns. An empty line and a comment have none.
+// Makes the line that a reply is, in the room of the one before.
+fn make_reply_line(out: &mut Vec<u8>, reply: &Reply) -> Result<(), NoMemory>
+    ensures { OnOk result (out.new.items ≡ reply_line reply.now) }
+{
+    out.clear();
+    put_reply(out, reply)?;
+    out.push(b'\n')?;
+    Ok(())
+}
+
+/// Answers a line of which so much was kept, and writes the reply, which is made in the room for it, before it returns. An empty
+/// line and a comment have none.
 pub fn do_line<K: Sink, D: PowerDisk>(
     alloc: Global,
     kernel: &mut Kernel,
     disk: &mut D,
     sink: &mut K,
+    made: &mut Vec<u8>,
     kept: &[u8],
 ) -> Result<(), RunFault>
     requires { IsReady kernel.old (D.told disk.old) (D.status disk.old) }
@@ -49,14 +62,10 @@ pub fn do_line<K: Sink, D: PowerDisk>(
     let Ok(reply) = answer(alloc, kernel, disk, kept) else {
         return Err(RunFault::NoMemory);
     };
-    let Ok(spelling) = write_reply(alloc, &reply) else {
-        return Err(RunFault::NoMemory);
-    };
-    let mut bytes = spelling.into_vec();
-    if let Err(_) = bytes.push(b'\n') {
+    if let Err(NoMemory) = make_reply_line(made, &reply) {
         return Err(RunFault::NoMemory);
     }
-    if let Err(Failed) = write_all(sink, bytes.as_slice()) {
+    if let Err(Failed) = write_all(sink, made.as_slice()) {
         return Err(RunFault::SinkFault);
     }
     Ok(())
@@ -79,6 +88,7 @@ pub fn feed<K: Sink, D: PowerDisk>(
     kernel: &mut Kernel,
     disk: &mut D,
     sink: &mut K,
+    made: &mut Vec<u8>,
     kept: &mut Vec<u8>,
     bytes: &[u8],
 ) -> Result<(), RunFault>
@@ -92,7 +102,7 @@ pub fn feed<K: Sink, D: PowerDisk>(
     let mut rest = bytes;
     while let Some(end) = memchr(b'\n', rest) {
         keep(kept, &rest[..end]);
-        if let Err(fault) = do_line(alloc, kernel, disk, sink, kept) {
+        if let Err(fault) = do_line(alloc, kernel, disk, sink, made, kept) {
             return Err(fault);
         }
         kept.clear();

@@ -16,7 +16,7 @@ use ktm_kernel::Kernel;
 use std::alloc::Global;
 
 /// How many bytes are read at a time.
-pub const PIECE: usize = 4096;
+pub const PIECE: usize = 65536;
 
 // Reads at most so many bytes into the front of the buffer.
 fn read_some<S: Source>(source: &mut S, buffer: &mut [u8], most: u64) -> Result<usize, Failed>
@@ -42,6 +42,7 @@ fn finish<K: Sink, D: PowerDisk>(
     kernel: &mut Kernel,
     disk: &mut D,
     sink: &mut K,
+    made: &mut Vec<u8>,
     kept: &[u8],
 ) -> Result<(), RunFault>
     requires { IsReady kernel.old (D.told disk.old) (D.status disk.old) }
@@ -58,14 +59,14 @@ fn finish<K: Sink, D: PowerDisk>(
     if kept.is_empty() {
         return Ok(());
     }
-    if let Err(fault) = do_line(alloc, kernel, disk, sink, kept) {
+    if let Err(fault) = do_line(alloc, kernel, disk, sink, made, kept) {
         return Err(fault);
     }
     Ok(())
 }
 
 /// Answers the lines of the script, which is read through the buffer, with room for the part of a line that is behind the last
-/// newline.
+/// newline, and room in which each reply is made.
 pub fn run_script<S: Source, K: Sink, D: PowerDisk>(
     alloc: Global,
     kernel: &mut Kernel,
@@ -73,6 +74,7 @@ pub fn run_script<S: Source, K: Sink, D: PowerDisk>(
     sink: &mut K,
     disk: &mut D,
     buffer: &mut [u8],
+    made: &mut Vec<u8>,
     kept: &mut Vec<u8>,
 ) -> Status
     requires ready { IsReady kernel.old (D.told disk.old) (D.status disk.old) }
@@ -91,7 +93,7 @@ pub fn run_script<S: Source, K: Sink, D: PowerDisk>(
             return Status::SourceFault;
         };
         if count == 0 {
-            match finish(alloc, kernel, disk, sink, kept) {
+            match finish(alloc, kernel, disk, sink, made, kept) {
                 Ok(()) => return Status::Done,
                 Err(RunFault::SinkFault) => return Status::SinkFault,
                 Err(RunFault::NoMemory) => return Status::NoMemory,
@@ -100,7 +102,7 @@ pub fn run_script<S: Source, K: Sink, D: PowerDisk>(
         if left == 0 {
             return Status::ScriptTooLong;
         }
-        match feed(alloc, kernel, disk, sink, kept, &buffer[..count]) {
+        match feed(alloc, kernel, disk, sink, made, kept, &buffer[..count]) {
             Ok(()) => {}
             Err(RunFault::SinkFault) => return Status::SinkFault,
             Err(RunFault::NoMemory) => return Status::NoMemory,

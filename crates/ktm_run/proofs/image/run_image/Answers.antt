@@ -1,23 +1,33 @@
-use Rattle.std.proofs.Common.{inl, inr, refl}
+use Rattle.std.proofs.Common.{ℕ, List, Option, inl, inr, refl}
 use Rattle.std.proofs.KnownBytes.{Keeps-refl}
 use Rattle.ktm_run.proofs.Openings.{begins_good, faults_bad, faults_down, faults_full, faults_memory, safe_begins}
 use Rattle.ktm_run.proofs.Theorems.{not_started_early, not_started_ends, not_started_is, not_usage, run_ended, script_ends, too_long}
 use Rattle.ktm_log.specs.OnDisk.{on}
-use Rattle.ktm_run.specs.Early.{NotRun}
+use Rattle.ktm_base.specs.Disk.{DiskState, DiskStatus}
+use Rattle.ktm_run.specs.declared.status.Status.TheVariants.{NoMemory}
+use Rattle.ktm_run.specs.Early.{NotRun, outside}
+use Rattle.ktm_run.specs.Ended.{RunLeaves}
 use Rattle.ktm_run.proofs.image.run_image.Goals as goal
 
-pub returns-in_default-clause-leaves : goal.returns-in_default-clause-leaves
-returns-in_default-clause-leaves g c = record {
+-- for want of memory before anything is opened
+unopened : (left taken : Option (List ℕ)) (told : Option DiskState) (status : DiskStatus) → RunLeaves NoMemory (outside left taken told status) (outside left taken told status)
+unopened left taken told status = record {
   run = λ base room tells. inl (record {
-    not_read = Keeps-refl (g.S.Source.left c.args.source.now);
-    not_written = Keeps-refl (g.K.Sink.taken c.args.sink.now);
+    not_read = Keeps-refl left;
+    not_written = Keeps-refl taken;
     plan_is = refl;
-    image = safe_begins base room (g.D.Disk.told c.args.disk.now) tells;
+    image = safe_begins base room told tells;
   });
-  ends = inl (record { not_run = record { not_read = refl; plan_is = refl }; not_written = Keeps-refl (g.K.Sink.taken c.args.sink.now); disk = inl refl });
+  ends = inl (record { not_run = record { not_read = refl; plan_is = refl }; not_written = Keeps-refl taken; disk = inl refl });
   not_usage = λ same. absurd (cc);
   too_long = λ same. absurd (cc);
 }
+
+pub returns-in_default-clause-leaves : goal.returns-in_default-clause-leaves
+returns-in_default-clause-leaves g c = unopened _ _ _ _
+
+pub returns-in_default-vec-clause-leaves : goal.returns-in_default-vec-clause-leaves
+returns-in_default-vec-clause-leaves g c = unopened _ _ _ _
 
 pub returns-in-Err-clause-leaves : goal.returns-in-Err-clause-leaves
 returns-in-Err-clause-leaves g c =

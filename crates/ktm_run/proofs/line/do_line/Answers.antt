@@ -1,9 +1,9 @@
-use Rattle.std.proofs.Common.{◌≡◌, inl, inr, ℕ, List, [], ◌∷◌, ◌++◌, sym, ◌∙◌, ap}
+use Rattle.std.proofs.Common.{◌≡◌, inl, inr, sym, ◌∙◌}
 use Rattle.ktm_run.proofs.Breaks.{unanswered_here, unanswered_kept, did_planned, unanswered_planned, half_written, AppendsPart-none}
 use Rattle.ktm_run.proofs.Known.{Appends-none}
 use Rattle.ktm_run.proofs.Lines.{has_reply-of, Means-kept}
 use Rattle.ktm_run.proofs.Runs.{Progress-silent, Progress-line}
-use Rattle.ktm_run.specs.Script.{newline, reply_line}
+use Rattle.ktm_run.specs.Script.{reply_line}
 use Rattle.ktm_run.proofs.line.do_line.Goals as goal
 
 pub returns-then-not-is_answered-clause-leaves : goal.returns-then-not-is_answered-clause-leaves
@@ -27,16 +27,8 @@ returns-in_default-answer-clause-leaves g c = record {
       );
 }
 
-pub returns-in_default-write_reply-clause-leaves : goal.returns-in_default-write_reply-clause-leaves
-returns-in_default-write_reply-clause-leaves g c = record {
-  wants_reply = sym c.if-not-is_answered.ensures;
-  broke = λ line is w stands.
-      let (meant, means, answers) = c.in-Ok.ensures.does in
-      inr (half_written c.args.kernel.now _ _ c.plan_room.ensures.same _ _ _ c.plan_room.ensures.others w _ _ line meant c.in-Ok.reply (Means-kept line meant (rw is at means)) answers (AppendsPart-none _ _) stands);
-}
-
-pub returns-in-Err-push-clause-leaves : goal.returns-in-Err-push-clause-leaves
-returns-in-Err-push-clause-leaves g c = record {
+pub returns-in-Err-make_reply_line-clause-leaves : goal.returns-in-Err-make_reply_line-clause-leaves
+returns-in-Err-make_reply_line-clause-leaves g c = record {
   wants_reply = sym c.if-not-is_answered.ensures;
   broke = λ line is w stands.
       let (meant, means, answers) = c.in-Ok.ensures.does in
@@ -48,7 +40,7 @@ returns-in-Err-write_all-clause-leaves g c = record {
   wants_reply = sym c.if-not-is_answered.ensures;
   broke = λ line is w stands.
       let (meant, means, answers) = c.in-Ok.ensures.does in
-      let whole : c.as_slice.result.now ≡ reply_line c.in-Ok.reply = c.as_slice.ensures.value ∙ c.in_default-push.ensures.items ∙ ap (λ (l : List ℕ). l ++ newline ∷ []) (c.into_vec-bytes.ensures ∙ c.in-Ok-write_reply.ensures) in
+      let whole : c.as_slice.result.now ≡ reply_line c.in-Ok.reply = c.as_slice.ensures.value ∙ c.in_default-make_reply_line.ensures in
       inr (half_written c.args.kernel.now _ _ c.plan_room.ensures.same _ _ _ c.plan_room.ensures.others w _ _ line meant c.in-Ok.reply (Means-kept line meant (rw is at means)) answers
       (rw whole at c.in-Err-write_all.ensures.err) stands);
 }
@@ -57,7 +49,7 @@ pub returns-clause-leaves : goal.returns-clause-leaves
 returns-clause-leaves g c = record {
   done = λ line is.
       let (meant, means, answers) = c.in-Ok.ensures.does in
-      let whole : c.as_slice.result.now ≡ reply_line c.in-Ok.reply = c.as_slice.ensures.value ∙ c.in_default-push.ensures.items ∙ ap (λ (l : List ℕ). l ++ newline ∷ []) (c.into_vec-bytes.ensures ∙ c.in-Ok-write_reply.ensures) in
+      let whole : c.as_slice.result.now ≡ reply_line c.in-Ok.reply = c.as_slice.ensures.value ∙ c.in_default-make_reply_line.ensures in
       Progress-line _ _ line meant c.in-Ok.reply
       (has_reply-of line c.args.kept.now is ∙ sym c.if-not-is_answered.ensures)
       (Means-kept line meant (rw is at means))
