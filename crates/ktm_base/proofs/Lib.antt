@@ -1,1 +1,2 @@
 pub mod offered
+mod PieceLemmas

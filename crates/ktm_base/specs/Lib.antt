@@ -9,3 +9,4 @@ pub mod Disk
 pub mod Power
 pub mod Laws
 pub mod Grammar
+pub mod Pieces

@@ -18,6 +18,7 @@ mod reading;
 mod refusal;
 mod sink;
 mod source;
+mod texts;
 
 pub use block::Block;
 pub use disk::Disk;
@@ -34,7 +35,7 @@ pub use limits::{
     MOST_LINE_BYTES, MOST_LIVE, MOST_NAME_BYTES, MOST_NUMBER, MOST_PARTS, MOST_PENDING,
     MOST_PROCESS, MOST_SCRIPT_BYTES, MOST_UNITS, MOST_VALUE_BYTES, NEW_UNITS, UNIT_BYTES,
 };
-pub use lists::{Bytes, Items, PageList, Text, TextList};
+pub use lists::{Bytes, Items, PageList, Text};
 pub use names::fold;
 pub use notify::Notify;
 pub use power::{PowerCall, PowerDisk};
@@ -42,3 +43,4 @@ pub use reading::{read_at, read_if};
 pub use refusal::Refusal;
 pub use sink::Sink;
 pub use source::Source;
+pub use texts::{TextList, Texts};

@@ -21,9 +21,6 @@ pub type Bytes = Items<u8>;
 /// Numbers of pages.
 pub type PageList = Items<u32>;
 
-/// Texts in a row: names or keys.
-pub type TextList = Items<Text>;
-
 impl<T> Model for Items<T> {
     ghost use Rattle.std.specs.Prelude.{List};
 

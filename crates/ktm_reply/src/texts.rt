@@ -3,21 +3,22 @@ ghost use Rattle.std.specs.Prelude.{◌≡◌, ◌++◌, IfOk, OnOk, flat_map, o
 ghost use Rattle.ktm_reply.specs.Reading.{spaced_at, texts_at};
 ghost use Rattle.ktm_reply.specs.Spelling.{spaced};
 
-use ktm_base::{NoMemory, Text, TextList};
+use ktm_base::{NoMemory, TextList};
 use ktm_codec::{put_quoted, read_quoted, strip_word};
 use std::alloc::Global;
 
-fn put_spaced(out: &mut Vec<u8>, text: &Text) -> Result<(), NoMemory>
+fn put_spaced(out: &mut Vec<u8>, text: &[u8]) -> Result<(), NoMemory>
     ensures { OnOk result (out.new.items ≡ out.old.items ++ spaced text.now) }
 {
     out.push(b' ')?;
-    put_quoted(out, text.as_slice())
+    put_quoted(out, text)
 }
 
-pub fn put_texts(out: &mut Vec<u8>, texts: &[Text]) -> Result<(), NoMemory>
+pub fn put_texts(out: &mut Vec<u8>, texts: &TextList) -> Result<(), NoMemory>
     ensures { OnOk result (out.new.items ≡ out.old.items ++ flat_map spaced texts.now) }
 {
-    for text in texts {
+    let mut rest = texts.iter();
+    'texts: while let Some(text) = rest.next() {
         put_spaced(out, text)?;
     }
     Ok(())
@@ -34,14 +35,14 @@ fn first_text(text: &[u8]) -> Option<(&[u8], &[u8])>
 pub fn read_texts(alloc: Global, text: &[u8]) -> Result<Option<TextList>, NoMemory>
     ensures { IfOk result (λ texts. texts ≡ texts_at text.now) }
 {
-    let mut texts = Vec::new(alloc);
+    let mut texts = TextList::new(alloc);
     let mut rest = text;
     'texts: while let Some((text, after)) = first_text(rest) {
-        texts.push(Text::new(text.to_vec(alloc)?))?;
+        texts.push(text)?;
         rest = after;
     }
     if rest.is_empty() {
-        Ok(Some(TextList::new(texts)))
+        Ok(Some(texts))
     } else {
         Ok(None)
     }

@@ -84,7 +84,7 @@ fn put_list(out: &mut Vec<u8>, texts: &TextList) -> Result<(), NoMemory>
     ensures { OnOk result (out.new.items ≡ out.old.items ++ codes "ok" ++ flat_map spaced texts.now) }
 {
     put(out, b"ok")?;
-    put_texts(out, texts.as_slice())
+    put_texts(out, texts)
 }
 
 fn put_restarted(out: &mut Vec<u8>, events: u64, in_doubt: u32) -> Result<(), NoMemory>

@@ -4,7 +4,7 @@ ghost use Rattle.ktm_keyed.specs.Keyed.{is_rising};
 ghost use Rattle.ktm_world.specs.Keys.{stored, stored_all, keys_of};
 ghost use Rattle.kv_rm.specs.Split.{IsSplit};
 
-use ktm_base::{NoMemory, Text, TextList};
+use ktm_base::{NoMemory, TextList};
 use ktm_keyed::{Slot, slot_of};
 use ktm_types::{Entry, Setting};
 use std::alloc::Global;
@@ -20,39 +20,39 @@ fn split<'a>(store: &'a [Entry], key: &[u8]) -> (&'a [Entry], &'a [Entry])
     }
 }
 
-fn push_keys(alloc: Global, keys: &mut Vec<Text>, store: &[Entry]) -> Result<(), NoMemory>
-    ensures { OnOk result (keys.new.items ≡ keys.old.items ++ keys_of store.now) }
+fn push_keys(keys: &mut TextList, store: &[Entry]) -> Result<(), NoMemory>
+    ensures { OnOk result (keys.new ≡ keys.old ++ keys_of store.now) }
 {
     for entry in store {
-        keys.push(entry.key.copy(alloc)?)?;
+        keys.push(entry.key.as_slice())?;
     }
     Ok(())
 }
 
 // The key of a setting, where it gives it a value.
-fn push_set(alloc: Global, keys: &mut Vec<Text>, setting: &Setting) -> Result<(), NoMemory>
-    ensures { OnOk result (keys.new.items ≡ keys.old.items ++ keys_of (stored [] setting.now)) }
+fn push_set(keys: &mut TextList, setting: &Setting) -> Result<(), NoMemory>
+    ensures { OnOk result (keys.new ≡ keys.old ++ keys_of (stored [] setting.now)) }
 {
     if setting.value.is_some() {
-        keys.push(setting.key.copy(alloc)?)?;
+        keys.push(setting.key.as_slice())?;
     }
     Ok(())
 }
 
-/// The keys of a store, with settings made in it, by rising key. It takes room for them once.
+/// The keys of a store, with settings made in it, by rising key.
 pub fn keys_with(alloc: Global, store: &[Entry], settings: &[Setting]) -> Result<TextList, NoMemory>
     requires store { is_rising store.now ≡ true }
     requires settings { is_rising settings.now ≡ true }
     ensures { IfOk result (λ keys. keys ≡ keys_of (stored_all store.now settings.now)) }
 {
-    let mut keys = Vec::with_capacity(alloc, store.len() + settings.len())?;
+    let mut keys = TextList::new(alloc);
     let mut rest = store;
     for setting in settings {
         let (before, after) = split(rest, setting.key.as_slice());
-        push_keys(alloc, &mut keys, before)?;
-        push_set(alloc, &mut keys, setting)?;
+        push_keys(&mut keys, before)?;
+        push_set(&mut keys, setting)?;
         rest = after;
     }
-    push_keys(alloc, &mut keys, rest)?;
-    Ok(TextList::new(keys))
+    push_keys(&mut keys, rest)?;
+    Ok(keys)
 }

@@ -44,10 +44,7 @@ fn searched<V: Volume>(volume: &V, who: Option<Id>, pattern: &Pattern) -> Option
 fn is_none(names: &TextList) -> bool
     ensures { result ≡ is_no_name names.now }
 {
-    match names.as_slice() {
-        [] => true,
-        _ => false,
-    }
+    names.is_empty()
 }
 
 // What the names that were found come to.

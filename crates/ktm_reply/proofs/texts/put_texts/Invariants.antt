@@ -1,6 +1,9 @@
-use Rattle.std.proofs.Common.{◌≡◌, ◌++◌, take, flat_map}
+use Rattle.std.proofs.Common.{◌≡◌, ◌++◌, flat_map, length}
 use Rattle.ktm_reply.specs.Spelling.{spaced}
 use Rattle.ktm_reply.proofs.texts.put_texts.Given as goal
 
-abbrev pub invariant-loop-text : goal.invariant-loop-text
-invariant-loop-text l = l.out.items ≡ l.fn.out.items ++ flat_map spaced (take l.text-index l.texts)
+abbrev pub invariant-texts : goal.invariant-texts
+invariant-texts l = l.out.items ++ flat_map spaced l.rest ≡ l.fn.out.items ++ flat_map spaced l.texts
+
+abbrev pub decreases-texts : goal.decreases-texts
+decreases-texts l = length l.rest

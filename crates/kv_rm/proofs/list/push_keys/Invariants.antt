@@ -4,4 +4,4 @@ use Rattle.kv_rm.proofs.list.push_keys.Given as goal
 
 -- the keys so far are behind the ones that were there
 abbrev pub invariant-loop-entry : goal.invariant-loop-entry
-invariant-loop-entry l = l.keys.items ≡ l.initial.keys.items ++ keys_of (take l.entry-index l.store)
+invariant-loop-entry l = l.keys ≡ l.initial.keys ++ keys_of (take l.entry-index l.store)

@@ -7,7 +7,7 @@ use Rattle.txf_tree.proofs.listed.listed_names.Goals as goal
 
 pub returns : goal.returns
 returns c = λ tree directory last is.
-    c.new.ensures ∙ c.loop-entry.invariant
-    ∙ ap (λ entries. map shown_text (map entry_seen entries)) (take_all c.loop-entry.entry-index c.as_slice-entries.result.now c.loop-entry-test.false)
-    ∙ ap (λ entries. map shown_text entries) (c.as_slice-entries.ensures ∙ is)
+    c.loop-entry.invariant
+    ∙ ap (λ entries. map shown_text (map entry_seen entries)) (take_all c.loop-entry.entry-index c.as_slice-entry-items.result.now c.loop-entry-test.false)
+    ∙ ap (λ entries. map shown_text entries) (c.as_slice-entry-items.ensures ∙ is)
     ∙ found-listed tree directory last
