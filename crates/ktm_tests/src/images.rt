@@ -5,8 +5,8 @@ use ktm_base::NoMemory;
 use ktm_run::Status;
 use std::alloc::Global;
 
-/// So many bytes at a place, as digits.
-pub fn digits_at(alloc: Global, image: &[u8], at: usize, len: usize) -> Result<String, NoMemory> {
+// So many bytes at a place, as digits.
+fn digits_at(alloc: Global, image: &[u8], at: usize, len: usize) -> Result<String, NoMemory> {
     let mut digits = String::new(alloc);
     for byte in image.iter().skip(at).take(len) {
         digits.push_str(&format!(in alloc; "{byte:02x}")?)?;

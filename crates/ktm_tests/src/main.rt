@@ -1,4 +1,4 @@
-//! Tries tables, and says of each whether it holds. A word names a table, which is a file, and behind the dot its kind. Some
+//! Tries tables, and says of each whether it holds. A word names a table, which is a file, and behind the dot its kind. Most
 //! are of scripts, which run on images in memory:
 //!
 //! - `ktm`: a script by itself on a new image, whose replies stand in the file of that name that ends in `out`.
@@ -10,28 +10,16 @@
 //!
 //! A row is `LINE => REPLY`, or a line without a reply. A table has parts, with an empty line between them.
 //!
-//! The others are of what one crate is asked and answers:
-//!
-//! - `lines`, `replies`: a text, and whether it is a line of a script, or a reply; what is read is also written again.
-//! - `events`, `groups`: bytes, as digits, and the event or the group that they are.
-//! - `picks`: the number of a pick, and what a loss of power leaves of a disk by it.
-//! - `calls`: the number of the first call of a file that fails, and the calls that a block makes over it.
-//!
 //! And the whole program is run, over files that it finds and makes in its folder:
 //!
 //! - `commands`: command lines one after another, each with its exit code. What they write comes before the line of the table.
 #![tactic(auto)]
 
-mod answers;
 mod commands;
 mod cuts;
-mod events;
 mod faults;
-mod files;
 mod images;
-mod picks;
 mod run;
-mod texts;
 mod transcript;
 
 use crate::run::{NO_FAIL, blank, first_difference, follow, run, small_image};
@@ -80,7 +68,7 @@ fn found(alloc: Global, kind: &str, table: &str) -> Result<Option<String>, NoMem
         "bytes" => images::bytes_found(alloc, table),
         "images" => images::found(alloc, table),
         "faults" => faults::found(alloc, table),
-        kind => answers::found(alloc, kind, table),
+        _ => Ok(Some(String::from_str(alloc, "a table of no kind")?)),
     }
 }
 

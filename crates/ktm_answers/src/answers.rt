@@ -1,4 +1,4 @@
-// Tables of what a single crate is asked and answers. A row is `ASKED => ANSWER`.
+// The rows of a table.
 use crate::events::{event_of, group_of};
 use crate::files::calls_of;
 use crate::picks::left_by;

@@ -2,7 +2,6 @@
 ghost use Rattle.std.specs.Prelude.{◌≡◌, Some, OnOk, OnErr};
 ghost use Rattle.ktm_base.specs.Count.{raised};
 
-use crate::transcript::number_before;
 use ktm_base::{Block, Failed, NoMemory};
 use ktm_os::{FileBlock, ImageFile};
 use std::alloc::Global;
@@ -115,7 +114,7 @@ fn change(block: &mut FileBlock<CountingFile>) -> Result<(), Failed> {
 
 /// A letter for each call of a file whose call with this number fails, where a change is made twice, and flushed once more.
 pub fn calls_of(alloc: Global, number: &str) -> Result<String, NoMemory> {
-    let (fails, _) = number_before(number);
+    let fails = number.parse::<u64>().unwrap_or(0);
     let mut block = FileBlock::over(CountingFile::new(alloc, fails));
     let first = change(&mut block);
     let second = change(&mut block);

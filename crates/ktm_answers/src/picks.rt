@@ -1,8 +1,6 @@
 // What a loss of power leaves of a disk, by the number of its pick.
 ghost use Rattle.std.specs.Prelude.{◌+◌, ◌<◌, ◌≤◌};
 
-use crate::images::digits_at;
-use crate::transcript::number_before;
 use ktm_base::{Bytes, Disk, Down, NoMemory, PowerDisk};
 use ktm_cut::CutDisk;
 use ktm_mem::{Calls, MemBlock};
@@ -33,6 +31,10 @@ pub fn left_by(alloc: Global, number: &str) -> Result<String, NoMemory> {
     let _ = write(&mut disk, 10, &[0xbb; 7]);
     disk.plan_room(alloc)?;
     disk.off();
-    let _ = disk.power(number_before(number).0);
-    digits_at(alloc, disk.into_block().bytes(), 0, LEN)
+    let _ = disk.power(number.parse::<u64>().unwrap_or(0));
+    let mut digits = String::new(alloc);
+    for byte in disk.into_block().bytes() {
+        digits.push_str(&format!(in alloc; "{byte:02x}")?)?;
+    }
+    Ok(digits)
 }
