@@ -1,6 +1,6 @@
 -- What steps cost: to each enlistment no more is sent, and still to be sent then, than is counted of it alone.
 use Rattle.std.specs.Prelude.{max, if◌then◌else◌}
-use Rattle.std.proofs.Common.{◌≡◌, ℕ, ◌+◌, ◌≤◌, ◌&&◌, not, Bool, true, false, List, [], ◌∷◌, ◌++◌, length, map, filter, sum_by, Option, Some, None, refl, sym, ◌∙◌, ap, subst, arith, length-append, inl, inr}
+use Rattle.std.proofs.Common.{◌≡◌, ℕ, ◌+◌, ◌≤◌, ◌&&◌, not, Bool, true, false, List, [], ◌∷◌, length, map, filter, sum_by, Option, Some, None, refl, sym, ◌∙◌, ap, arith, length-append, inl, inr}
 use Rattle.std.proofs.Math.Nat.{le-max_left, le-max_right}
 use Rattle.std.proofs.lemmas.Bool.{cases_Bool}
 use Rattle.std.proofs.lemmas.List.Sums.{sum_by-cons}
@@ -160,7 +160,7 @@ module _ (steps : List Step) (rest : (c : Course) → Costs steps c) (c : Course
         let step = λ (e : Enlistment). if has_id g.id e then answered answer e else e in
         let moved = sum-map-by (λ e. f (case_of c.transaction.id (Some g.id) e)) step c.enlistments in
         let same = sum-same (λ e. f (case_of c.transaction.id (Some g.id) (step e))) (λ e. f (if has_id g.id e then after_answer answer (case_of c.transaction.id (Some g.id) e) else case_of c.transaction.id (Some g.id) e)) c.enlistments
-            (λ e there. ap f (changed-case answer c.transaction.id g.id e)) in
+        (λ e there. ap f (changed-case answer c.transaction.id g.id e)) in
         omega arith;
   }
 

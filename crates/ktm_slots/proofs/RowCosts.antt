@@ -16,7 +16,7 @@ use Rattle.ktm_types.specs.declared.step.Owed.{Owed}
 use Rattle.ktm_types.specs.declared.step.Step.{Step}
 use Rattle.ktm_types.specs.declared.step.Step.TheVariants.{Record, Tell, Ask, Change, Enter, End, EndWhereFinished}
 use Rattle.ktm_types.specs.declared.step.Who.{Who}
-use Rattle.ktm_world.specs.Rows.{all_readies, commits, commits_one, is_last, participants, pre_prepares, prepares, prepares_all, prepares_alone, proceeds, proceeds_without, recovers, requests, row, tells_in, without}
+use Rattle.ktm_world.specs.Rows.{all_readies, commits, is_last, participants, pre_prepares, prepares, prepares_all, prepares_alone, proceeds, proceeds_without, recovers, requests, row, without}
 use Rattle.ktm_steps.proofs.offered.Ways.{if_cases}
 use Rattle.ktm_slots.specs.Slots.{may_come_in}
 use Rattle.ktm_slots.proofs.Costs.{Case, cost, owed, takes}
@@ -67,14 +67,14 @@ module _ (test : Case → Bool) where
       let fifth = record fourth { recovered = k.recovered } in
       let sixth = record fifth { asks = k.asks } in
       over-at (λ k b. record k { given = b }) test sixth (
-        over-at (λ k b. record k { asks = b }) of_given fifth (
-          over-at (λ k b. record k { recovered = b }) of_asks fourth (
-            over-at (λ k b. record k { prepared = b }) of_recovered third (
-              over-at (λ k b. record k { read_only = b }) of_prepared second (over-at (λ k b. record k { superior = b }) of_read_only first (over-at (λ k b. record k { own = b }) of_superior start all k.own) k.superior)
-              k.read_only
-            ) k.prepared
-          ) k.recovered
-        ) k.asks
+      over-at (λ k b. record k { asks = b }) of_given fifth (
+      over-at (λ k b. record k { recovered = b }) of_asks fourth (
+      over-at (λ k b. record k { prepared = b }) of_recovered third (
+      over-at (λ k b. record k { read_only = b }) of_prepared second (over-at (λ k b. record k { superior = b }) of_read_only first (over-at (λ k b. record k { own = b }) of_superior start all k.own) k.superior)
+      k.read_only
+      ) k.prepared
+      ) k.recovered
+      ) k.asks
       ) k.given
 
 -- ---- lists of steps

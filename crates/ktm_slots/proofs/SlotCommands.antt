@@ -1,17 +1,16 @@
 -- Every command sends no more than was owed or granted, and so does the passing of time.
 use Rattle.std.specs.Prelude.{if◌then◌else◌}
-use Rattle.std.proofs.Common.{◌≡◌, ℕ, ◌+◌, ◌≤◌, ◌&&◌, ◌||◌, not, Bool, true, false, List, [], ◌∷◌, ◌++◌, length, sum_by, Option, Some, None, is_none, refl, sym, ◌∙◌, ap, subst, arith, length-append, inl, inr}
-use Rattle.std.proofs.lemmas.Bool.{and_from, and_left, and_parts, and_right, cases_Bool, not-true, not_from_false, or_cases, true≢false}
+use Rattle.std.proofs.Common.{◌≡◌, ℕ, ◌+◌, ◌≤◌, ◌||◌, not, Bool, true, List, [], ◌∷◌, ◌++◌, length, Option, Some, None, is_none, refl, sym, ◌∙◌, ap, subst, arith, length-append, inl, inr}
+use Rattle.std.proofs.lemmas.Bool.{and_from, and_parts, cases_Bool, not-true, not_from_false, or_cases, true≢false}
 use Rattle.std.proofs.lemmas.List.Sums.{sum_by_push}
 use Rattle.std.proofs.lemmas.Option.{none-some, same_Some}
-use Rattle.std.specs.List.{list_any}
 use Rattle.ktm_base.specs.declared.id.Id.{Id}
 use Rattle.ktm_base.specs.declared.id.Label.{Label}
 use Rattle.ktm_base.specs.declared.id.Pid.{Pid}
 use Rattle.ktm_base.specs.declared.refusal.Refusal.{Refusal}
-use Rattle.ktm_base.specs.declared.refusal.Refusal.TheVariants.{LogFull, MachineDown}
+use Rattle.ktm_base.specs.declared.refusal.Refusal.TheVariants.{MachineDown}
 use Rattle.ktm_types.specs.declared.command.Command.{Command}
-use Rattle.ktm_types.specs.declared.command.Command.TheVariants.{CreateTransaction, OpenTransaction, CommitTransaction, RollbackTransaction, GetTransactionInformation, CreateResourceManager, OpenResourceManager, RecoverResourceManager, GetNotificationResourceManager, CreateEnlistment, OpenEnlistment, RecoverEnlistment, PrePrepareComplete, PrepareComplete, ReadOnlyEnlistment, CommitComplete, RollbackComplete, SinglePhaseReject, RollbackEnlistment, PrePrepareEnlistment, PrepareEnlistment, CommitEnlistment, SetEnlistmentRecoveryInformation, GetEnlistmentRecoveryInformation, CreateFile, CreateFileTransacted, ReadFile, WriteFile, SetEndOfFile, GetFileSizeEx, FlushFileBuffers, DeleteFile, CreateDirectory, RemoveDirectory, MoveFile, DeleteFileTransacted, CreateDirectoryTransacted, RemoveDirectoryTransacted, MoveFileTransacted, FindFiles, FindFilesTransacted, KvSet, KvUnset, KvGet, KvList, CloseHandle, DuplicateHandle, Exit}
+use Rattle.ktm_types.specs.declared.command.Command.TheVariants.{CreateTransaction, OpenTransaction, CommitTransaction, RollbackTransaction, GetTransactionInformation, CreateResourceManager, OpenResourceManager, RecoverResourceManager, GetNotificationResourceManager, CreateEnlistment, OpenEnlistment, RecoverEnlistment, PrePrepareComplete, PrepareComplete, ReadOnlyEnlistment, CommitComplete, RollbackComplete, SinglePhaseReject, RollbackEnlistment, PrePrepareEnlistment, PrepareEnlistment, CommitEnlistment, SetEnlistmentRecoveryInformation, GetEnlistmentRecoveryInformation, CreateFile, CreateFileTransacted, ReadFile, WriteFile, SetEndOfFile, GetFileSizeEx, FlushFileBuffers, CloseHandle, DuplicateHandle, Exit}
 use Rattle.ktm_types.specs.declared.input.PhaseInput.{PhaseInput}
 use Rattle.ktm_types.specs.declared.object.Object.{Object}
 use Rattle.ktm_types.specs.declared.object.Phase.{Phase}
@@ -23,34 +22,33 @@ use Rattle.ktm_types.specs.declared.reply.Reply.{Reply}
 use Rattle.ktm_types.specs.declared.reply.Reply.TheVariants.{Done, Refused}
 use Rattle.ktm_types.specs.declared.step.Owed.{Owed}
 use Rattle.ktm_world.specs.Decide.{caller, command_effect, command_tests, decide, of_files, on_file, opening, bound_file, with_room}
-use Rattle.ktm_world.specs.Enlistments.{Enlistment, Manager, has_id, is_ended, is_superior, owes_commit, owes_pre_prepare, owes_prepare, owes_rollback, takes_part, with_enlistments}
-use Rattle.ktm_world.specs.FileCalls.{create_file, delete_file, find_files, flush_file, get_size, read_file, set_end, write_file}
+use Rattle.ktm_world.specs.Enlistments.{Enlistment, Manager, has_id, is_superior, owes_commit, owes_pre_prepare, owes_prepare, owes_rollback, takes_part}
+use Rattle.ktm_world.specs.FileCalls.{create_file}
 use Rattle.ktm_world.specs.FileOutcome.{FileOutcome}
 use Rattle.ktm_world.specs.Files.{OpenFile}
-use Rattle.ktm_world.specs.HandleCalls.{bind_to, close_handle, duplicate_handle, exit}
+use Rattle.ktm_world.specs.HandleCalls.{bind_to, duplicate_handle}
 use Rattle.ktm_world.specs.Handles.{object_at}
 use Rattle.ktm_world.specs.Labels.{enlistment_named, file_named, holds_of, manager_named, transaction_named, transaction_tests}
-use Rattle.ktm_world.specs.Outcome.{Outcome, and_then, apply, first_refusal, is_full, joined, only_reply, refuse_or, within_log}
+use Rattle.ktm_world.specs.Outcome.{Outcome, apply, first_refusal, is_full, only_reply, refuse_or, within_log}
 use Rattle.ktm_world.specs.Phases.{Course, is_single_phase}
 use Rattle.ktm_world.specs.Present.{Present}
 use Rattle.ktm_world.specs.Steps.{led, share_of}
-use Rattle.ktm_world.specs.TransactionCalls.{answering, arrived, before_pre_prepare, before_prepare, commit_complete, commit_enlistment, commit_of, commit_reply, commit_transaction, course_of, create_enlistment, create_resource_manager, create_transaction, enlist, enlistment_tests, enlistment_with, get_information, get_notification, get_transaction_information, is_in_doubt, is_voting, keep_information, may_recover, may_reject_one_phase, may_roll_back_by, may_vote, open_enlistment, open_resource_manager, open_to_enlistment, open_to_manager, open_to_transaction, open_transaction, manager_with, transaction_with, phase_passes, pre_prepare_complete, pre_prepare_enlistment, prepare_complete, prepare_enlistment, read_only_enlistment, recover_all, recover_enlistment, recover_resource_manager, recovery_of, rollback_complete, rollback_enlistment, rollback_of, rollback_transaction, rollback_transaction_tests, set_information, single_phase_reject, superior_tests, take_first, tick, transaction_in, waits_for_superior, with_clock}
+use Rattle.ktm_world.specs.TransactionCalls.{answering, arrived, before_pre_prepare, before_prepare, commit_complete, commit_enlistment, commit_of, commit_reply, commit_transaction, course_of, create_enlistment, create_resource_manager, create_transaction, enlist, enlistment_tests, enlistment_with, get_information, get_notification, get_transaction_information, is_in_doubt, is_voting, keep_information, may_recover, may_reject_one_phase, may_roll_back_by, may_vote, open_enlistment, open_resource_manager, open_to_enlistment, open_to_manager, open_to_transaction, open_transaction, manager_with, transaction_with, phase_passes, pre_prepare_complete, pre_prepare_enlistment, prepare_complete, prepare_enlistment, read_only_enlistment, recover_all, recover_enlistment, recover_resource_manager, recovery_of, rollback_complete, rollback_enlistment, rollback_of, rollback_transaction, rollback_transaction_tests, set_information, single_phase_reject, superior_tests, take_first, tick, transaction_in, waits_for_superior}
 use Rattle.ktm_world.specs.Transactions.{change_at, is_undecided, same_id, transaction_at}
 use Rattle.ktm_world.specs.World.{decide_tick}
 use Rattle.txf_laws.specs.Elements.{IsIn}
-use Rattle.txf_laws.proofs.offered.Elements.{list_all-at, list_any-at, not-not}
+use Rattle.txf_laws.proofs.offered.Elements.{list_all-at, not-not}
 use Rattle.txf_laws.proofs.offered.Sums.{sum-map-by, sum-same}
-use Rattle.txf_laws.proofs.offered.Tables.{same_id-equal}
 use Rattle.ktm_steps.proofs.offered.Staying.{stays-led}
 use Rattle.ktm_steps.proofs.offered.Ways.{if_cases}
 use Rattle.ktm_courses.specs.SoundCourse.{IsSoundCourse, has_transaction, is_unrecovered_well}
 use Rattle.ktm_courses.proofs.offered.Arrivals.{brought-now, stands-now}
 use Rattle.ktm_courses.proofs.offered.Beginnings.{new_enlistment, sound-clock}
 use Rattle.ktm_courses.proofs.offered.Bindings.{StaysSound, stays-closing, stays-then}
-use Rattle.ktm_courses.proofs.offered.Calls.{Passes, active-phase, enlistment-allowed, enlistment-named, may-roll, of-answering, passed, phase-passed, rolls, superior-allowed, transaction-named, transaction_at-found}
+use Rattle.ktm_courses.proofs.offered.Calls.{Passes, active-phase, enlistment-allowed, enlistment-named, may-roll, of-answering, passed, phase-passed, rolls, superior-allowed, transaction-named}
 use Rattle.ktm_courses.proofs.offered.EnlistmentAnswers.{answer_in, can_roll_back, is-aborting, is-committing, is-pre_preparing, is-preparing, owed-commit, owed-pre_prepare, owed-prepare, owed-rollback, phase-owing, takes_part-owing}
-use Rattle.ktm_courses.proofs.offered.HandlesAndTime.{Closes, Rolls, close_handle-so, exit-so, tick-so}
-use Rattle.ktm_slots.specs.Owed.{owed_by, owed_in, owed_slots, still_to_send}
+use Rattle.ktm_courses.proofs.offered.HandlesAndTime.{Closes, close_handle-so, exit-so, tick-so}
+use Rattle.ktm_slots.specs.Owed.{most_owed, owed_by, owed_in, owed_slots}
 use Rattle.ktm_slots.specs.Slots.{Comes, IsPaid, SlotsLaw, granted, granted_recovery, is_undecided_phase, may_come_from, may_come_in}
 use Rattle.ktm_slots.proofs.SlotCourses.{course-paid, few-by, few-in}
 
@@ -115,9 +113,9 @@ pays-take_first : (x : Present) (o : Option Manager) → Pays x (take_first x o)
 pays-take_first x None = pays-reply x Done 0
 pays-take_first x (Some m) = pays-quiet x _ 0 refl refl
 
-pays-enlist : (x : Present) (process : Pid) (label : Label) (m : Option Manager) (t : Option Transaction) (kind : EnlistmentKind) → Pays x (enlist x process label m t kind) 5
-pays-enlist x process label None t kind = pays-reply x Done 5
-pays-enlist x process label (Some m) None kind = pays-reply x Done 5
+pays-enlist : (x : Present) (process : Pid) (label : Label) (m : Option Manager) (t : Option Transaction) (kind : EnlistmentKind) → Pays x (enlist x process label m t kind) most_owed
+pays-enlist x process label None t kind = pays-reply x Done most_owed
+pays-enlist x process label (Some m) None kind = pays-reply x Done most_owed
 pays-enlist x process label (Some m) (Some t) kind =
     let e = new_enlistment x m t kind in
     record {
@@ -141,7 +139,7 @@ pays-information x None information = pays-reply x Done 0
 pays-information x (Some e) information = pays-quiet x _ 0 refl
     (sum-map-by (λ e. owed_by (transaction_at x.transactions.items e.transaction) e) step x.transactions.enlistments
     ∙ sum-same (λ f. owed_by (transaction_at x.transactions.items (step f).transaction) (step f)) (λ f. owed_by (transaction_at x.transactions.items f.transaction) f) x.transactions.enlistments (λ f there.
-        if_cases (λ g. owed_by (transaction_at x.transactions.items g.transaction) g ≡ owed_by (transaction_at x.transactions.items f.transaction) f) (has_id e.id f) (record f { information = information }) f (λ is. owed-informed (transaction_at x.transactions.items f.transaction) f information) (λ is. refl)))
+    if_cases (λ g. owed_by (transaction_at x.transactions.items g.transaction) g ≡ owed_by (transaction_at x.transactions.items f.transaction) f) (has_id e.id f) (record f { information = information }) f (λ is. owed-informed (transaction_at x.transactions.items f.transaction) f information) (λ is. refl)))
   where
     step : Enlistment → Enlistment
     step f = if has_id e.id f then record f { information = information } else f
@@ -242,10 +240,13 @@ module _ (x : Present) (sound : IsSoundCourse x) (o : Option Enlistment) (there 
   pays-read_only tests = pays-answering _ (λ e is t at own found. (phase-passed x is_voting e t found (and_parts _ (phase_passes x is_voting e) (enlistment-allowed o (may_vote x) e is tests)).1, refl))
 
   pays-commit_complete : Passes (enlistment_tests o owes_commit) → Pays x (answering x o (λ e. PhaseInput.CommitComplete)) 0
-  pays-commit_complete tests = pays-answering _ (λ e is t at own found. (elim (is-committing t.phase (asked e is t at own Owed.Commit (owed-commit e (enlistment-allowed o owes_commit e is tests)))) [
-    | inl phase ↦ ap (may_come_in PhaseInput.CommitComplete) phase
-    | inr phase ↦ ap (may_come_in PhaseInput.CommitComplete) phase
-  ], refl))
+  pays-commit_complete tests = pays-answering _ (λ e is t at own found. (
+    elim (is-committing t.phase (asked e is t at own Owed.Commit (owed-commit e (enlistment-allowed o owes_commit e is tests)))) [
+      | inl phase ↦ ap (may_come_in PhaseInput.CommitComplete) phase
+      | inr phase ↦ ap (may_come_in PhaseInput.CommitComplete) phase
+    ],
+    refl,
+  ))
 
   pays-rollback_complete : Passes (enlistment_tests o owes_rollback) → Pays x (answering x o (λ e. PhaseInput.RollbackComplete)) 0
   pays-rollback_complete tests = pays-answering _ (λ e is t at own found.

@@ -1,7 +1,7 @@
 -- What comes to a transaction sends no more than was owed to its enlistments.
 use Rattle.std.specs.Prelude.{if◌then◌else◌}
-use Rattle.std.proofs.Common.{◌≡◌, ℕ, ◌+◌, ◌≤◌, ◌*◌, ◌&&◌, ◌||◌, not, Bool, true, false, List, [], ◌∷◌, length, map, sum_by, Option, Some, None, refl, sym, ◌∙◌, ap, subst, arith, inl, inr}
-use Rattle.std.proofs.lemmas.Bool.{and_parts, cases_Bool, or_left, or_right, not_from_false, true≢false}
+use Rattle.std.proofs.Common.{◌≡◌, ℕ, ◌+◌, ◌≤◌, ◌*◌, ◌&&◌, ◌||◌, not, Bool, true, false, List, [], ◌∷◌, length, sum_by, Option, Some, None, refl, sym, ◌∙◌, ap, subst, arith, inl, inr}
+use Rattle.std.proofs.lemmas.Bool.{cases_Bool, or_left, or_right, not_from_false, true≢false}
 use Rattle.std.proofs.lemmas.List.Sums.{sum_by-cons}
 use Rattle.std.proofs.lemmas.Option.{none-some}
 use Rattle.ktm_base.specs.declared.id.Id.{Id}
@@ -29,8 +29,8 @@ use Rattle.ktm_courses.proofs.offered.Arrivals.{RiseTransactions}
 use Rattle.ktm_courses.proofs.offered.Moves.{same-by_id}
 use Rattle.ktm_courses.proofs.offered.Calls.{transaction_at-found}
 use Rattle.ktm_slots.specs.Owed.{owed_by, owed_in, owed_slots, part_owed, still_to_send, superior_owed}
-use Rattle.ktm_slots.specs.Slots.{Comes, may_come_from}
-use Rattle.ktm_slots.proofs.Costs.{case_in, case_of, cost, costs, owed, takes, total}
+use Rattle.ktm_slots.specs.Slots.{Comes}
+use Rattle.ktm_slots.proofs.Costs.{case_in, case_of, cost, costs, owed, takes}
 use Rattle.ktm_slots.proofs.RowCosts.{may_be, row-costs}
 
 -- ---- transactions by their Ids

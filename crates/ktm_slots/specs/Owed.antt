@@ -7,8 +7,12 @@ use Rattle.ktm_world.specs.Enlistments.{Enlistment, is_superior}
 use Rattle.ktm_world.specs.Present.{Present}
 use Rattle.ktm_world.specs.Transactions.{transaction_at}
 
--- how many a superior may still be sent in this phase, by whether it is recovered: of a request, of each phase that is complete, and of a
--- rollback and its end, or of a commit's; and one more by which it is asked to decide
+-- the most that an enlistment may still be sent, from when it is made
+abbrev pub most_owed : ℕ
+most_owed = 5
+
+-- how many a superior may still be sent in this phase, by whether it is recovered: that a commit is asked for, that all have pre-prepared,
+-- that all are prepared, that it rolls back, whoever asks for that, and that it has ended; and one by which it is asked to decide, where it is not recovered
 abbrev pub superior_owed : Phase → Bool → ℕ
 superior_owed Active recovered = 5
 superior_owed Requested recovered = 4
@@ -23,7 +27,7 @@ superior_owed Aborting recovered = 1
 superior_owed Ended recovered = 0
 
 -- how many an ordinary enlistment that is not read-only may still be sent in this phase, by whether it is recovered: to pre-prepare, to
--- commit in one phase, to prepare, and of the outcome; and one more that nothing is decided
+-- commit in one phase, to prepare, and the outcome; and one that nothing is decided, where it is not recovered; one that has finished is recovered
 abbrev pub part_owed : Phase → Bool → ℕ
 part_owed Active recovered = 4
 part_owed Requested recovered = 4

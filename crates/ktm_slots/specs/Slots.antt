@@ -1,5 +1,5 @@
 -- Where a slot is free for each notification that may still be sent, none is ever wanting.
-use Rattle.std.specs.Prelude.{◌≡◌, ℕ, ◌+◌, ◌*◌, ◌≤◌, ◌&&◌, not, Bool, true, false, List, length, Option, Some, None}
+use Rattle.std.specs.Prelude.{◌≡◌, ℕ, ◌+◌, ◌*◌, ◌≤◌, ◌&&◌, not, Bool, true, false, length, Option, Some, None}
 use Rattle.ktm_base.specs.declared.id.Id.{Id}
 use Rattle.ktm_base.specs.declared.id.Pid.{Pid}
 use Rattle.ktm_types.specs.declared.command.Command.{Command}
@@ -20,7 +20,7 @@ use Rattle.ktm_world.specs.Transactions.{change_at, same_id}
 use Rattle.ktm_world.specs.World.{decide_tick}
 use Rattle.txf_laws.specs.Elements.{IsIn}
 use Rattle.ktm_courses.specs.SoundCourse.{IsSoundCourse}
-use Rattle.ktm_slots.specs.Owed.{owed_in, owed_slots}
+use Rattle.ktm_slots.specs.Owed.{most_owed, owed_in, owed_slots}
 
 -- ---- what may come
 
@@ -70,7 +70,7 @@ granted_recovery x (Some m) = length (recover_notes x m.id)
 
 -- so many slots more are taken ahead for this command
 abbrev pub granted : Present → Pid → Command → ℕ
-granted x process (CreateEnlistment label manager transaction kind) = 5
+granted x process (CreateEnlistment label manager transaction kind) = most_owed
 granted x process (RecoverResourceManager label) = granted_recovery x (manager_named x process label)
 granted x process _ = 0
 
@@ -80,7 +80,7 @@ granted x process _ = 0
 abbrev pub IsPaid : Present → Outcome → ℕ → Type 0
 IsPaid x o more = length o.sent + owed_slots (apply x o) ≤ owed_slots x + more
 
--- what is sent was owed or granted, in a sound machine, and no enlistment is owed more than five
+-- what is sent was owed or granted, in a sound machine, and no enlistment is owed more than the most
 pub record SlotsLaw : Type 0 where
   -- by what comes to a transaction
   pub courses : (x : Present) (t : Transaction) (caller : Option Enlistment) (input : PhaseInput) → IsSoundCourse x → Comes x t caller input
@@ -90,4 +90,4 @@ pub record SlotsLaw : Type 0 where
   -- by the passing of time
   pub ticks : (x : Present) (ms : ℕ) → IsSoundCourse x → IsPaid x (decide_tick x ms) 0
   -- at every time, and so after a restart
-  pub few : (x : Present) → owed_slots x ≤ 5 * length x.transactions.enlistments
+  pub few : (x : Present) → owed_slots x ≤ most_owed * length x.transactions.enlistments
