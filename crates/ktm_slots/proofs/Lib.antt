@@ -1,0 +1,4 @@
+pub mod Costs
+pub mod RowCosts
+pub mod SlotCourses
+pub mod SlotCommands
