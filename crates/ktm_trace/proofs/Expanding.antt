@@ -1,10 +1,9 @@
 -- With the contents of the layers memory has what was recorded.
-use Rattle.std.proofs.Common.{◌≡◌, ℕ, ◌+◌, ◌≤◌, ◌&&◌, ◌||◌, not, Bool, true, false, List, [], ◌∷◌, ◌++◌, cond, map, filter, Option, Some, None, refl, sym, ◌∙◌, ap, subst, arith, inl, inr}
+use Rattle.std.proofs.Common.{◌≡◌, ℕ, ◌+◌, ◌≤◌, ◌&&◌, ◌||◌, not, Bool, true, false, List, [], ◌∷◌, ◌++◌, cond, map, Option, Some, None, refl, sym, ◌∙◌, ap, subst, arith, inl, inr}
 use Rattle.std.proofs.lemmas.Bool.{and_parts, cases_Bool, false_from_ne_true, leb-true, true≢false}
 use Rattle.std.proofs.lemmas.List.{append-nil}
-use Rattle.std.proofs.lemmas.Option.{none-some, same_Some}
-use Rattle.std.specs.Prelude.{if◌then◌else◌, nat_le}
-use Rattle.std.specs.List.{flat_map, list_any, list_all}
+use Rattle.std.specs.Prelude.{if◌then◌else◌}
+use Rattle.std.specs.List.{flat_map, list_all}
 use Rattle.ktm_base.specs.declared.id.Id.{Id}
 use Rattle.ktm_types.specs.declared.change.Change.{Change}
 use Rattle.ktm_types.specs.declared.event.DonePart.{DonePart}
@@ -14,9 +13,8 @@ use Rattle.ktm_types.specs.declared.options.EnlistmentKind.{EnlistmentKind}
 use Rattle.ktm_types.specs.declared.recorded.RecordedPart.{RecordedPart}
 use Rattle.ktm_types.specs.declared.recorded.Stage.{Stage}
 use Rattle.ktm_types.specs.declared.recorded.Superior.{Superior}
-use Rattle.ktm_world.specs.Changes.{has_changes}
 use Rattle.ktm_world.specs.Durable.{Recorded, are_recorded_changes, changes_in, changes_of, has_changes_part, has_settings_part, is_before, is_decided, is_part_of, is_ready, settings_in, settings_of}
-use Rattle.ktm_world.specs.Enlistments.{Enlistment, enlistment_at, is_superior, superior_of, takes_part, is_durable_at}
+use Rattle.ktm_world.specs.Enlistments.{Enlistment, enlistment_at, is_superior, superior_of}
 use Rattle.ktm_world.specs.Files.{own_changes}
 use Rattle.ktm_world.specs.Keys.{OwnSettings, are_good_settings, own_settings}
 use Rattle.ktm_world.specs.Lawful.{Agrees, Summary, brought_back, is_held_stage, recorded_enlistments, stage_in, stays, summary_in, summary_now, summary_of, summaries_now, superior_now}
@@ -30,7 +28,7 @@ use Rattle.txf_laws.proofs.offered.Lists.{IsIn-unmap}
 use Rattle.txf_laws.proofs.offered.Sums.{count-cons}
 use Rattle.txf_laws.proofs.offered.Tables.{before_other, same_id-equal, same_id-from}
 use Rattle.ktm_states.specs.GoodState.{IsGoodState, are_kept_changes, are_kept_settings, has_one_part_each}
-use Rattle.ktm_states.proofs.offered.Parts.{count_among, count_among-none, gathered, gathered-none, is_among}
+use Rattle.ktm_states.proofs.offered.Parts.{count_among, gathered, gathered-none, is_among}
 use Rattle.ktm_courses.specs.SoundCourse.{IsSoundCourse}
 use Rattle.ktm_courses.proofs.offered.EnlistmentAnswers.{RiseEnlistments}
 use Rattle.ktm_courses.proofs.offered.EnlistmentOrder.{IsIn-into_rising, IsIn-rising}

@@ -1,5 +1,5 @@
 -- Transactions with their parts, as they stand in memory: one is changed, forgotten or added, with its parts.
-use Rattle.std.proofs.Common.{◌≡◌, ◌&&◌, ◌||◌, not, Bool, true, false, List, [], ◌∷◌, ◌++◌, map, filter, Option, Some, None, refl, sym, ◌∙◌, ap, subst, inl, inr}
+use Rattle.std.proofs.Common.{◌≡◌, ◌||◌, not, Bool, true, false, List, [], ◌∷◌, ◌++◌, map, filter, Option, Some, None, refl, sym, ◌∙◌, ap, subst, inl, inr}
 use Rattle.std.specs.Prelude.{if◌then◌else◌}
 use Rattle.std.specs.List.{list_any}
 use Rattle.std.proofs.lemmas.Bool.{cases_Bool}
@@ -17,7 +17,7 @@ use Rattle.ktm_trace.specs.declared.heads.Head.{Head}
 use Rattle.ktm_trace.specs.declared.marks.Mark.{Mark}
 use Rattle.ktm_trace.specs.Joined.{AreJoined, has_undone_mark, head_id, head_or_new, is_his, is_mark_of, joined, joined_all, mark_of, marked_part, marks_done, marks_with, parts_at, without_marks}
 use Rattle.ktm_trace.specs.Placed.{Rises, at_id, placed, without_id}
-use Rattle.ktm_trace.specs.Traces.{Traced, TracedPart, id_of, marked, new_traced, once_decided, once_done, once_held, once_ready, same_participant, stays_while_not_done, superior_id, traced, traced_or, traced_or_new, traced_part, who_of, with_ready, without_done}
+use Rattle.ktm_trace.specs.Traces.{Traced, TracedPart, id_of, marked, once_decided, once_done, once_held, once_ready, same_participant, stays_while_not_done, superior_id, traced, traced_or, traced_or_new, traced_part, with_ready, without_done}
 use Rattle.ktm_trace.proofs.Placed.{absent-without, at-others, at-placed, made, map-at, map-filter, map-placed, map-rises, placed-without, rises-filter, rises-placed, taken-none}
 
 -- ---- parts

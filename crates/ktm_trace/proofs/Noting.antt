@@ -1,5 +1,5 @@
 -- What steps record makes of the transactions what is read of it says.
-use Rattle.std.proofs.Common.{◌≡◌, ◌||◌, Bool, true, false, List, [], ◌∷◌, ◌++◌, Option, Some, None, fold, refl, sym, ◌∙◌, ap, inl, inr}
+use Rattle.std.proofs.Common.{◌≡◌, ◌||◌, Bool, true, false, List, [], ◌∷◌, ◌++◌, Option, Some, None, fold, refl, ◌∙◌, ap, inl, inr}
 use Rattle.std.specs.Prelude.{if◌then◌else◌, is_some}
 use Rattle.std.proofs.lemmas.Bool.{cases_Bool}
 use Rattle.ktm_base.specs.declared.id.Id.{Id}
@@ -13,10 +13,9 @@ use Rattle.ktm_world.specs.Changes.{has_changes}
 use Rattle.ktm_world.specs.Enlistments.{Enlistment, Manager, is_durable_at}
 use Rattle.ktm_world.specs.Phases.{enlistment_part, event_if, has_settings}
 use Rattle.ktm_world.specs.Steps.{Basis, event_of_caller, events_ahead, events_of, held_event, is_of_durable, is_recorded_by}
-use Rattle.ktm_trace.specs.declared.recording.Recording.{Recording}
-use Rattle.ktm_trace.specs.Placed.{at_id, without_id}
+use Rattle.ktm_trace.specs.Placed.{at_id}
 use Rattle.ktm_trace.specs.Recordings.{durable_caller, is_noted_by, noted, recording_of, steps_noted, with_it}
-use Rattle.ktm_trace.specs.Traces.{Traced, id_of, once_decided, once_done, once_held, once_ready, traces_after}
+use Rattle.ktm_trace.specs.Traces.{Traced, id_of, once_done, once_ready, traces_after}
 
 -- ---- facts
 

@@ -10,7 +10,7 @@ use Rattle.std.proofs.lemmas.Option.{none-some, same_Some, slice_get-get_or, sli
 use Rattle.ktm_base.specs.declared.id.Id.{Id}
 use Rattle.ktm_world.specs.Durable.{is_before}
 use Rattle.ktm_world.specs.Transactions.{same_id}
-use Rattle.txf_laws.specs.Elements.{IsIn, each_pair}
+use Rattle.txf_laws.specs.Elements.{IsIn}
 use Rattle.txf_laws.proofs.offered.Elements.{each_pair-filter, list_all-at, list_all-from}
 use Rattle.txf_laws.proofs.offered.Tables.{before_other, is_before-then, is_before-turned, same_id-equal, same_id-sym}
 use Rattle.ktm_trace.specs.Placed.{Rises, at_id, placed, without_id}

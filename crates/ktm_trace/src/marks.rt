@@ -79,8 +79,8 @@ fn is_done_then(transaction: Id, done: DonePart, mark: &Mark) -> bool
 fn mark_done(marks: &mut [Mark], transaction: Id, done: DonePart)
     ensures { marks.new ≡ map (λ (m : Marked). record m { is_done = m.is_done || is_his transaction done m }) marks.old }
 {
-    for mark in marks.iter_mut() {
-        mark.is_done = is_done_then(transaction, done, mark);
+    for m in marks.iter_mut() {
+        m.is_done = is_done_then(transaction, done, m);
     }
 }
 

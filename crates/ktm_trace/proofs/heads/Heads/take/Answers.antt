@@ -1,4 +1,4 @@
-use Rattle.std.proofs.Common.{◌≡◌, ◌∙◌, Some, sym, ap}
+use Rattle.std.proofs.Common.{◌∙◌, Some, sym, ap}
 use Rattle.ktm_trace.specs.Joined.{head_id}
 use Rattle.ktm_trace.specs.Placed.{Rises}
 use Rattle.ktm_trace.proofs.Placed.{IsTaken, absent-without, not-there, taken}

@@ -1,5 +1,5 @@
 use Rattle.std.proofs.Common.{◌≡◌, ◌∙◌, None, Option, Some, sym, ap}
-use Rattle.ktm_trace.specs.Joined.{head_id, joined_all}
+use Rattle.ktm_trace.specs.Joined.{joined_all}
 use Rattle.ktm_trace.specs.Placed.{at_id}
 use Rattle.ktm_trace.specs.Traces.{Traced, TraceState, id_of, once_done}
 use Rattle.ktm_trace.proofs.Joining.{Comes, absent, done-comes, free, new-id}

@@ -1,5 +1,5 @@
-use Rattle.std.proofs.Common.{◌∙◌, ap, subst}
-use Rattle.ktm_trace.specs.Joined.{joined_all, without_marks}
+use Rattle.std.proofs.Common.{◌∙◌, ap}
+use Rattle.ktm_trace.specs.Joined.{joined_all}
 use Rattle.ktm_trace.specs.Placed.{without_id}
 use Rattle.ktm_trace.specs.Traces.{TraceState, id_of}
 use Rattle.ktm_trace.proofs.Joining.{Comes, gone-forgotten}
