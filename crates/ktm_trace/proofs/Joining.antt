@@ -15,7 +15,7 @@ use Rattle.txf_laws.proofs.offered.Elements.{list_any-from}
 use Rattle.txf_laws.proofs.offered.Tables.{same_id-equal, same_id-from, same_id-sym}
 use Rattle.ktm_trace.specs.declared.heads.Head.{Head}
 use Rattle.ktm_trace.specs.declared.marks.Mark.{Mark}
-use Rattle.ktm_trace.specs.Joined.{AreJoined, has_undone_mark, head_id, head_or_new, is_his, is_mark_of, joined, joined_all, mark_of, marked_part, marks_done, marks_with, parts_at, without_marks}
+use Rattle.ktm_trace.specs.Joined.{AreJoined, has_undone_mark, head_id, head_or_new, is_mark_by, is_mark_of, joined, joined_all, mark_of, marked_part, marks_done, marks_with, parts_at, without_marks}
 use Rattle.ktm_trace.specs.Placed.{Rises, at_id, placed, without_id}
 use Rattle.ktm_trace.specs.Traces.{Traced, TracedPart, id_of, marked, once_decided, once_done, once_held, once_ready, same_participant, stays_while_not_done, superior_id, traced, traced_or, traced_or_new, traced_part, with_ready, without_done}
 use Rattle.ktm_trace.proofs.Placed.{absent-without, at-others, at-placed, made, map-at, map-filter, map-placed, map-rises, placed-without, rises-filter, rises-placed, taken-none}
@@ -74,17 +74,17 @@ forgotten-others (m ∷ ms) id i other = elim (cases_Bool (is_mark_of id m)) [
 
 -- ---- a participant is done
 
-taken-itself : (ms : List Mark) (id : Id) (done : DonePart) → parts_at (filter (λ m. not (is_his id done m)) ms) id ≡ filter (λ (p : TracedPart). not (same_participant done p.who)) (parts_at ms id)
+taken-itself : (ms : List Mark) (id : Id) (done : DonePart) → parts_at (filter (λ m. not (is_mark_by id done m)) ms) id ≡ filter (λ (p : TracedPart). not (same_participant done p.who)) (parts_at ms id)
 taken-itself [] id done = refl
 taken-itself (m ∷ ms) id done = elim (cases_Bool (is_mark_of id m)) [
   | inr other ↦ rw (other, other) (taken-itself ms id done)
   | inl is ↦ elim (cases_Bool (same_participant done m.who)) [
-    | inl his ↦ rw (is, his) (taken-itself ms id done)
-    | inr not_his ↦ rw (is, not_his, is) (ap (λ l. marked_part m ∷ l) (taken-itself ms id done))
+    | inl by_him ↦ rw (is, by_him) (taken-itself ms id done)
+    | inr not_by ↦ rw (is, not_by, is) (ap (λ l. marked_part m ∷ l) (taken-itself ms id done))
   ]
 ]
 
-taken-others : (ms : List Mark) (id : Id) (done : DonePart) → KeepsOthers ms (filter (λ m. not (is_his id done m)) ms) id
+taken-others : (ms : List Mark) (id : Id) (done : DonePart) → KeepsOthers ms (filter (λ m. not (is_mark_by id done m)) ms) id
 taken-others [] id done i other = refl
 taken-others (m ∷ ms) id done i other = elim (cases_Bool (is_mark_of id m)) [
   | inr differs ↦ elim (cases_Bool (is_mark_of i m)) [
@@ -92,14 +92,14 @@ taken-others (m ∷ ms) id done i other = elim (cases_Bool (is_mark_of id m)) [
     | inr its ↦ rw (differs, its) (taken-others ms id done i other)
   ]
   | inl is ↦ elim (cases_Bool (same_participant done m.who)) [
-    | inl his ↦ rw (is, his, none-of m id i is other) (taken-others ms id done i other)
-    | inr not_his ↦ rw (is, not_his, none-of m id i is other) (taken-others ms id done i other)
+    | inl by_him ↦ rw (is, by_him, none-of m id i is other) (taken-others ms id done i other)
+    | inr not_by ↦ rw (is, not_by, none-of m id i is other) (taken-others ms id done i other)
   ]
 ]
 
--- the part, marked where it is his
+-- the part, marked where it is this participant's
 abbrev pub done_of : Id → DonePart → Mark → Mark
-done_of id done m = record m { is_done = m.is_done || is_his id done m }
+done_of id done m = record m { is_done = m.is_done || is_mark_by id done m }
 
 marked-itself : (ms : List Mark) (id : Id) (done : DonePart) → parts_at (map (done_of id done) ms) id ≡ map (marked done) (parts_at ms id)
 marked-itself [] id done = refl

@@ -69,12 +69,12 @@ abbrev pub without_marks : List Mark → Id → List Mark
 without_marks marks id = filter (λ m. not (is_mark_of id m)) marks
 
 -- is it the part of this participant of the transaction
-abbrev pub is_his : Id → DonePart → Mark → Bool
-is_his id done m = is_mark_of id m && same_participant done m.who
+abbrev pub is_mark_by : Id → DonePart → Mark → Bool
+is_mark_by id done m = is_mark_of id m && same_participant done m.who
 
 -- an enlistment of the transaction that is done is taken out, and another part is marked
 abbrev pub marks_done : List Mark → Id → DonePart → List Mark
-marks_done marks id done = if is_of_enlistment done then filter (λ m. not (is_his id done m)) marks else map (λ (m : Mark). record m { is_done = m.is_done || is_his id done m }) marks
+marks_done marks id done = if is_of_enlistment done then filter (λ m. not (is_mark_by id done m)) marks else map (λ (m : Mark). record m { is_done = m.is_done || is_mark_by id done m }) marks
 
 -- has the transaction a part that is not done
 abbrev pub has_undone_mark : List Mark → Id → Bool

@@ -1,7 +1,6 @@
 // The transactions of the log, without their parts.
-ghost use Rattle.std.specs.Prelude.{◌≡◌, ◌+◌, ◌<◌, ◌≤◌, [], Some, None, not, true, OnOk, IsOk, IfSome, OnSome, filter, length};
+ghost use Rattle.std.specs.Prelude.{◌≡◌, ◌+◌, ◌<◌, ◌≤◌, [], None, not, OnOk, IsOk, OnSome, filter, length};
 ghost use Rattle.std.specs.List.{list_any, position, position_or_len};
-ghost use Rattle.ktm_types.specs.declared.recorded.Stage.{Stage as Progress};
 ghost use Rattle.ktm_world.specs.Durable.{is_before, is_ready};
 ghost use Rattle.ktm_world.specs.Transactions.{same_id};
 ghost use Rattle.ktm_trace.specs.Joined.{head_id, head_or_new};

@@ -3,7 +3,7 @@ ghost use Rattle.std.specs.Prelude.{◌≡◌, ◌+◌, ◌<◌, ◌≤◌, ◌&
 ghost use Rattle.std.specs.List.{list_any};
 ghost use Rattle.ktm_world.specs.Durable.{is_of_enlistment};
 ghost use Rattle.ktm_world.specs.Transactions.{same_id};
-ghost use Rattle.ktm_trace.specs.Joined.{has_undone_mark, is_his, is_mark_of, mark_of, marks_done, marks_with, without_marks};
+ghost use Rattle.ktm_trace.specs.Joined.{has_undone_mark, is_mark_by, is_mark_of, mark_of, marks_done, marks_with, without_marks};
 ghost use Rattle.ktm_trace.specs.Traces.{same_participant, who_of};
 ghost use Rattle.ktm_trace.specs.declared.marks.Mark.{Mark as Marked};
 
@@ -62,22 +62,22 @@ fn same_participant(a: DonePart, b: DonePart) -> bool
 }
 
 // Is it the part of this participant of the transaction.
-fn is_his(transaction: Id, done: DonePart, mark: &Mark) -> bool
-    ensures { result ≡ is_his transaction done mark.now }
+fn is_mark_by(transaction: Id, done: DonePart, mark: &Mark) -> bool
+    ensures { result ≡ is_mark_by transaction done mark.now }
 {
     mark.transaction == transaction && same_participant(done, mark.who)
 }
 
 // Is the part done once this participant is.
 fn is_done_then(transaction: Id, done: DonePart, mark: &Mark) -> bool
-    ensures { result ≡ (mark.now.is_done || is_his transaction done mark.now) }
+    ensures { result ≡ (mark.now.is_done || is_mark_by transaction done mark.now) }
 {
-    mark.is_done || is_his(transaction, done, mark)
+    mark.is_done || is_mark_by(transaction, done, mark)
 }
 
 // Marks the part of this participant as done.
 fn mark_done(marks: &mut [Mark], transaction: Id, done: DonePart)
-    ensures { marks.new ≡ map (λ (m : Marked). record m { is_done = m.is_done || is_his transaction done m }) marks.old }
+    ensures { marks.new ≡ map (λ (m : Marked). record m { is_done = m.is_done || is_mark_by transaction done m }) marks.old }
 {
     for m in marks.iter_mut() {
         m.is_done = is_done_then(transaction, done, m);
@@ -159,7 +159,7 @@ impl Marks {
         ensures marks { self.new.marks ≡ marks_done self.old.marks transaction done }
         ensures spare { self.old.spare ≤ self.new.spare }
     {
-        self.items.retain(|m| !is_his(transaction, done, m));
+        self.items.retain(|m| !is_mark_by(transaction, done, m));
     }
 
     /// A participant of the transaction is done: an enlistment is taken out, and another part is marked.

@@ -1,6 +1,5 @@
 // The transactions of the log, as memory keeps them.
 ghost use Rattle.std.specs.Prelude.{◌≡◌, ◌+◌, ◌<◌, ◌≤◌, [], None, not, OnOk, IsOk, filter, fold, length, if◌then◌else◌};
-ghost use Rattle.ktm_types.specs.declared.recorded.Stage.{Stage as Progress};
 ghost use Rattle.ktm_world.specs.Durable.{is_ready};
 ghost use Rattle.ktm_world.specs.Steps.{Basis, events_ahead};
 ghost use Rattle.ktm_trace.specs.Joined.{has_undone_mark, head_id, without_marks};
@@ -268,7 +267,7 @@ impl Trace {
         }
     }
 
-    /// What the steps record of a transaction is made of it. It takes no memory.
+    /// What the steps record of a transaction is made of the transactions. It takes no memory.
     pub fn record(&mut self, of: Recording, steps: &[Step])
         requires places { length steps.now ≤ self.old.places }
         requires spare { length steps.now ≤ self.old.spare }
