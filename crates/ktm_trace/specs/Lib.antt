@@ -1,0 +1,5 @@
+pub mod Placed
+pub mod Traces
+pub mod Contents
+pub mod Joined
+pub mod Recordings

@@ -1,0 +1,155 @@
+// The transactions of the log, without their parts.
+ghost use Rattle.std.specs.Prelude.{◌≡◌, ◌+◌, ◌<◌, ◌≤◌, [], None, not, OnOk, IsOk, OnSome, filter, length};
+ghost use Rattle.std.specs.List.{list_any, position, position_or_len};
+ghost use Rattle.ktm_world.specs.Durable.{is_before, is_ready};
+ghost use Rattle.ktm_world.specs.Transactions.{same_id};
+ghost use Rattle.ktm_trace.specs.Joined.{head_id, head_or_new};
+ghost use Rattle.ktm_trace.specs.Placed.{Rises, at_id, placed, without_id};
+
+use ktm_base::{Id, NoMemory};
+use ktm_types::Stage;
+use std::alloc::Global;
+use std::marker::Model;
+
+/// A transaction of the log, without its parts.
+#[derive(Clone, Copy)]
+pub(crate) struct Head {
+    pub(crate) id: Id,
+    pub(crate) stage: Stage,
+    /// The enlistment of its superior.
+    pub(crate) superior: Option<Id>,
+}
+
+/// Transactions of the log by rising Id. There are few of them.
+#[derive(Drop)]
+pub(crate) struct Heads {
+    items: Vec<Head>,
+}
+
+impl Model for Heads {
+    ghost use Rattle.std.specs.Prelude.{◌-◌, vec_len, vec_capacity};
+    ghost use Rattle.ktm_trace.specs.Joined.{HeadsState};
+
+    ghost Value = { HeadsState };
+
+    ghost view = { λ t. record {
+      heads = t.items.items;
+      spare = vec_capacity t.items - vec_len t.items;
+    } };
+}
+
+// Does the first Id come before the second: by its boot, and then by its number.
+fn is_before(a: Id, b: Id) -> bool
+    ensures { result ≡ is_before a b }
+{
+    a.boot < b.boot || (a.boot == b.boot && a.number < b.number)
+}
+
+fn is_ready(stage: Stage) -> bool
+    ensures { result ≡ is_ready stage }
+{
+    match stage {
+        Stage::Ready => true,
+        Stage::Held | Stage::Decided => false,
+    }
+}
+
+// The index of the transaction with this Id.
+fn index_of(items: &[Head], id: Id) -> Option<usize>
+    ensures { result ≡ position (λ h. same_id h.id id) items.now }
+{
+    items.iter().position(|h| h.id == id)
+}
+
+// The index of the first that this Id comes before.
+fn first_behind(items: &[Head], id: Id) -> Option<usize>
+    ensures { result ≡ position (λ h. is_before id h.id) items.now }
+{
+    items.iter().position(|h| is_before(id, h.id))
+}
+
+// The place of this Id: before the first that it comes before.
+fn place_of(items: &[Head], id: Id) -> usize
+    ensures place { result ≡ position_or_len (λ h. is_before id h.id) items.now }
+    ensures within { result ≤ length items.now }
+{
+    first_behind(items, id).unwrap_or(items.len())
+}
+
+impl Heads {
+    pub(crate) fn new(alloc: Global) -> Self
+        ensures { result.heads ≡ [] }
+    {
+        Heads {
+            items: Vec::new(alloc),
+        }
+    }
+
+    /// Makes room for so many transactions more.
+    pub(crate) fn reserve(&mut self, many: usize) -> Result<(), NoMemory>
+        ensures room { OnOk result (many ≤ self.new.spare) }
+        ensures enough { many ≤ self.old.spare → IsOk result }
+        ensures same { self.new.heads ≡ self.old.heads }
+        ensures spare { self.old.spare ≤ self.new.spare }
+    {
+        self.items.reserve(many)?;
+        Ok(())
+    }
+
+    /// Is there a transaction with this Id.
+    pub(crate) fn contains(&self, id: Id) -> bool
+        ensures { result ≡ list_any (λ h. same_id h.id id) self.now.heads }
+    {
+        self.items.iter().any(|h| h.id == id)
+    }
+
+    /// Takes the transaction with this Id out, which leaves room for it.
+    pub(crate) fn take(&mut self, id: Id) -> Option<Head>
+        requires { Rises head_id self.old.heads }
+        ensures taken { result ≡ at_id head_id self.old.heads id }
+        ensures rest { self.new.heads ≡ without_id head_id self.old.heads id }
+        ensures room { OnSome result (self.old.spare + 1 ≤ self.new.spare) }
+        ensures spare { self.old.spare ≤ self.new.spare }
+    {
+        let Some(index) = index_of(&self.items, id) else {
+            return None;
+        };
+        Some(self.items.remove(index))
+    }
+
+    /// Takes the transaction with this Id out, or makes a new one that is ready.
+    pub(crate) fn take_or_new(&mut self, id: Id) -> Head
+        requires { Rises head_id self.old.heads }
+        ensures taken { result ≡ head_or_new id (at_id head_id self.old.heads id) }
+        ensures rest { self.new.heads ≡ without_id head_id self.old.heads id }
+        ensures spare { self.old.spare ≤ self.new.spare }
+    {
+        match self.take(id) {
+            Some(head) => head,
+            None => Head {
+                id,
+                stage: Stage::Ready,
+                superior: None,
+            },
+        }
+    }
+
+    /// Puts a transaction at its place, where there is none with its Id. It takes no memory.
+    pub(crate) fn put(&mut self, head: Head)
+        requires room { 0 < self.old.spare }
+        requires new { at_id head_id self.old.heads head.id ≡ None }
+        ensures heads { self.new.heads ≡ placed head_id self.old.heads head }
+        ensures spare { self.old.spare ≤ self.new.spare + 1 }
+    {
+        let place = place_of(&self.items, head.id);
+        self.items.insert(place, head).unwrap();
+    }
+
+    /// Forgets the transactions that are ready and neither held nor decided.
+    pub(crate) fn forget_ready(&mut self)
+        ensures heads { self.new.heads ≡ filter (λ h. not (is_ready h.stage)) self.old.heads }
+        ensures spare { self.old.spare ≤ self.new.spare }
+    {
+        self.items.retain(|h| !is_ready(h.stage));
+    }
+}

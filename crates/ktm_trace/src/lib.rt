@@ -1,0 +1,13 @@
+//! What memory keeps of the transactions that the log has: which they are, in what order their parts became ready, and
+//! which of them are done. What the parts have in them stands in the layers alone.
+#![tactic(auto)]
+
+mod heads;
+mod laws;
+mod marks;
+mod recording;
+mod trace;
+
+pub use laws::{law_of_contents, law_of_traces};
+pub use recording::Recording;
+pub use trace::Trace;
