@@ -1,6 +1,5 @@
 -- What memory keeps of the log's transactions, with what their parts have in them.
-use Rattle.std.specs.Prelude.{◌≡◌, List, [], ◌∷◌, map, Option, Some, None, if◌then◌else◌}
-use Rattle.std.specs.List.{flat_map}
+use Rattle.std.specs.Prelude.{◌≡◌, ℕ, List, [], map, Option, Some, None, if◌then◌else◌}
 use Rattle.ktm_base.specs.declared.id.Id.{Id}
 use Rattle.ktm_types.specs.declared.change.Change.{Change}
 use Rattle.ktm_types.specs.declared.event.DonePart.{DonePart}
@@ -11,32 +10,36 @@ use Rattle.ktm_world.specs.Durable.{Recorded, is_decided}
 use Rattle.ktm_world.specs.Enlistments.{Enlistment, enlistment_at}
 use Rattle.ktm_world.specs.Files.{OwnChanges, own_changes}
 use Rattle.ktm_world.specs.Keys.{Own, OwnSettings, own_settings}
-use Rattle.ktm_world.specs.Lawful.{Agrees, superior_now}
-use Rattle.ktm_world.specs.Phases.{enlistment_part}
+use Rattle.ktm_world.specs.Lawful.{Agrees}
 use Rattle.ktm_world.specs.Present.{Present}
 use Rattle.ktm_states.specs.GoodState.{IsGoodState}
 use Rattle.ktm_courses.specs.SoundCourse.{IsSoundCourse}
-use Rattle.ktm_trace.specs.Traces.{Traced, TracedPart, traces_of}
+use Rattle.ktm_trace.specs.Traces.{Traced, TracedPart, traced, traces_of}
 
--- the part of an enlistment, if it is there
-abbrev pub part_of : Option Enlistment → List Part
-part_of None = []
-part_of (Some e) = enlistment_part e ∷ []
+-- the resource manager of an enlistment, and none that there is where the enlistment is not there
+abbrev pub manager_of : Option Enlistment → Id
+manager_of None = record { boot = 0; number = 0 }
+manager_of (Some e) = e.manager
+
+-- the recovery information of an enlistment, and none where it is not there
+abbrev pub information_of : Option Enlistment → List ℕ
+information_of None = []
+information_of (Some e) = e.information
 
 -- the part of a participant, where the files and the keys have these
-abbrev pub contents_of : List Enlistment → List Change → OwnSettings → DonePart → List Part
-contents_of es changes settings (DonePart.Enlistment id) = part_of (enlistment_at es id)
-contents_of es changes settings DonePart.Files = Part.Changes changes ∷ []
-contents_of es changes settings DonePart.Keys = Part.Settings settings ∷ []
+abbrev pub contents_of : List Enlistment → List Change → OwnSettings → DonePart → Part
+contents_of es changes settings (DonePart.Enlistment id) = Part.Enlistment id (manager_of (enlistment_at es id)) (information_of (enlistment_at es id))
+contents_of es changes settings DonePart.Files = Part.Changes changes
+contents_of es changes settings DonePart.Keys = Part.Settings settings
 
 -- the parts with what they have in them
 abbrev pub expanded_parts : List Enlistment → List Change → OwnSettings → List TracedPart → List RecordedPart
-expanded_parts es changes settings parts = flat_map (λ p. map (λ part. record { is_done = p.is_done; part = part }) (contents_of es changes settings p.who)) parts
+expanded_parts es changes settings parts = map (λ p. record { is_done = p.is_done; part = contents_of es changes settings p.who }) parts
 
 -- the superior with this Id, if there is one
 abbrev pub superior_at : List Enlistment → Option Id → Option Superior
 superior_at es None = None
-superior_at es (Some id) = superior_now (enlistment_at es id)
+superior_at es (Some id) = Some (record { enlistment = id; manager = manager_of (enlistment_at es id); information = information_of (enlistment_at es id) })
 
 -- a transaction with what its parts have in them: none of changes and settings is left once it is decided
 abbrev pub expanded : List Enlistment → List OwnChanges → List Own → Traced → Recorded
@@ -51,3 +54,7 @@ expanded es changes settings t = record {
 abbrev pub ContentsLaw : Type 0
 ContentsLaw = (x : Present) → IsSoundCourse x → IsGoodState x.recorded → Agrees x
     → map (expanded x.transactions.enlistments x.files.table.own x.keys.own) (traces_of x.recorded) ≡ x.recorded.transactions
+
+-- memory keeps of that what it has
+abbrev pub KeptLaw : Type 0
+KeptLaw = (es : List Enlistment) (changes : List OwnChanges) (settings : List Own) (ts : List Traced) → map traced (map (expanded es changes settings) ts) ≡ ts

@@ -1,5 +1,5 @@
 -- What the steps of a transaction make of what memory keeps.
-use Rattle.std.specs.Prelude.{◌||◌, Bool, List, [], ◌∷◌, Option, Some, None, is_some, if◌then◌else◌}
+use Rattle.std.specs.Prelude.{ℕ, ◌||◌, sum_by, Bool, List, [], ◌∷◌, Option, Some, None, is_some, if◌then◌else◌}
 use Rattle.ktm_base.specs.declared.id.Id.{Id}
 use Rattle.ktm_types.specs.declared.event.DonePart.{DonePart}
 use Rattle.ktm_types.specs.declared.step.Fact.{Fact}
@@ -56,6 +56,23 @@ is_noted_by Fact.ReadyKeys r = r.is_recorded || r.has_keys
 is_noted_by Fact.Ready r = is_some r.caller || r.is_recorded
 is_noted_by Fact.Held r = is_some r.superior || r.is_recorded
 is_noted_by _ r = r.is_recorded
+
+-- how much room a fact takes: that of a transaction and of a part, where one may be ready or held by it
+abbrev pub room_of : Fact → ℕ
+room_of Fact.ReadyFiles = 1
+room_of Fact.ReadyKeys = 1
+room_of Fact.Ready = 1
+room_of Fact.Held = 1
+room_of _ = 0
+
+-- how much a step takes
+abbrev pub step_room : Step → ℕ
+step_room (Step.Record fact) = room_of fact
+step_room _ = 0
+
+-- how much steps take
+abbrev pub steps_room : List Step → ℕ
+steps_room steps = sum_by step_room steps
 
 -- what a step makes of the transactions
 abbrev pub step_noted : Recording → Step → List Traced → List Traced

@@ -8,6 +8,6 @@ mod marks;
 mod recording;
 mod trace;
 
-pub use laws::{law_of_contents, law_of_traces};
+pub use laws::{law_of_contents, law_of_kept, law_of_traces};
 pub use recording::Recording;
 pub use trace::Trace;

@@ -4,7 +4,7 @@ ghost use Rattle.ktm_world.specs.Durable.{is_ready};
 ghost use Rattle.ktm_world.specs.Steps.{Basis, events_ahead};
 ghost use Rattle.ktm_trace.specs.Joined.{has_undone_mark, head_id, without_marks};
 ghost use Rattle.ktm_trace.specs.Placed.{at_id, placed, without_id};
-ghost use Rattle.ktm_trace.specs.Recordings.{behind_step, noted, recording_of, step_noted};
+ghost use Rattle.ktm_trace.specs.Recordings.{behind_step, noted, recording_of, room_of, step_noted, step_room, steps_room};
 ghost use Rattle.ktm_trace.specs.Traces.{id_of, once_decided, once_done, once_held, once_ready, superior_id, traced, traces_after};
 
 use crate::heads::{Head, Heads};
@@ -214,11 +214,11 @@ impl Trace {
 
     // A fact is recorded.
     fn note(&mut self, of: &Recording, fact: Fact)
-        requires places { 0 < self.old.places }
-        requires spare { 0 < self.old.spare }
+        requires places { room_of fact ≤ self.old.places }
+        requires spare { room_of fact ≤ self.old.spare }
         ensures transactions { self.new.transactions ≡ noted of.now fact self.old.transactions }
-        ensures places { self.old.places ≤ self.new.places + 1 }
-        ensures spare { self.old.spare ≤ self.new.spare + 1 }
+        ensures places { self.old.places ≤ self.new.places + room_of fact }
+        ensures spare { self.old.spare ≤ self.new.spare + room_of fact }
     {
         match fact {
             Fact::ReadyFiles => self.ready_if(of.has_files, of.transaction, DonePart::Files),
@@ -256,11 +256,11 @@ impl Trace {
 
     // A step is recorded.
     fn note_step(&mut self, of: &Recording, step: &Step)
-        requires places { 0 < self.old.places }
-        requires spare { 0 < self.old.spare }
+        requires places { step_room step.now ≤ self.old.places }
+        requires spare { step_room step.now ≤ self.old.spare }
         ensures transactions { self.new.transactions ≡ step_noted of.now step.now self.old.transactions }
-        ensures places { self.old.places ≤ self.new.places + 1 }
-        ensures spare { self.old.spare ≤ self.new.spare + 1 }
+        ensures places { self.old.places ≤ self.new.places + step_room step.now }
+        ensures spare { self.old.spare ≤ self.new.spare + step_room step.now }
     {
         if let Step::Record(fact) = step {
             self.note(of, *fact);
@@ -269,11 +269,11 @@ impl Trace {
 
     /// What the steps record of a transaction is made of the transactions. It takes no memory.
     pub fn record(&mut self, of: Recording, steps: &[Step])
-        requires places { length steps.now ≤ self.old.places }
-        requires spare { length steps.now ≤ self.old.spare }
+        requires places { steps_room steps.now ≤ self.old.places }
+        requires spare { steps_room steps.now ≤ self.old.spare }
         ensures transactions { (b : Basis) → recording_of b ≡ of → self.new.transactions ≡ fold traces_after self.old.transactions (events_ahead steps.now b) }
-        ensures places { self.old.places ≤ self.new.places + length steps.now }
-        ensures spare { self.old.spare ≤ self.new.spare + length steps.now }
+        ensures places { self.old.places ≤ self.new.places + steps_room steps.now }
+        ensures spare { self.old.spare ≤ self.new.spare + steps_room steps.now }
     {
         let mut now = of;
         for step in steps {
