@@ -15,8 +15,8 @@ use Rattle.ktm_types.specs.declared.recorded.Stage.{Stage}
 use Rattle.ktm_types.specs.declared.recorded.Superior.{Superior}
 use Rattle.ktm_world.specs.Durable.{Recorded, are_recorded_changes, changes_in, changes_of, has_changes_part, has_settings_part, is_before, is_decided, is_part_of, is_ready, settings_in, settings_of}
 use Rattle.ktm_world.specs.Enlistments.{Enlistment, enlistment_at, is_superior, superior_of}
-use Rattle.ktm_world.specs.Files.{own_changes}
-use Rattle.ktm_world.specs.Keys.{OwnSettings, are_good_settings, own_settings}
+use Rattle.ktm_world.specs.Files.{OwnChanges, own_changes}
+use Rattle.ktm_world.specs.Keys.{Own, OwnSettings, are_good_settings, own_settings}
 use Rattle.ktm_world.specs.Lawful.{Agrees, Summary, brought_back, is_held_stage, recorded_enlistments, stage_in, stays, summary_in, summary_now, summary_of, summaries_now, superior_now}
 use Rattle.ktm_world.specs.Present.{Present}
 use Rattle.ktm_world.specs.Transactions.{same_id}
@@ -32,8 +32,8 @@ use Rattle.ktm_states.proofs.offered.Parts.{count_among, gathered, gathered-none
 use Rattle.ktm_courses.specs.SoundCourse.{IsSoundCourse}
 use Rattle.ktm_courses.proofs.offered.EnlistmentAnswers.{RiseEnlistments}
 use Rattle.ktm_courses.proofs.offered.EnlistmentOrder.{IsIn-into_rising, IsIn-rising}
-use Rattle.ktm_trace.specs.Contents.{ContentsLaw, contents_of, expanded, expanded_parts, part_of, superior_at}
-use Rattle.ktm_trace.specs.Traces.{Traced, superior_id, traced, traced_part, who_of}
+use Rattle.ktm_trace.specs.Contents.{ContentsLaw, contents_of, expanded, expanded_part, information_or, manager_or, superior_at}
+use Rattle.ktm_trace.specs.Traces.{Traced, TracedPart, superior_id, traced, traced_part, who_of}
 
 -- ---- what the log has to have
 
@@ -78,7 +78,8 @@ superior-back es rises id false o is = from (superior_of es id) refl is
   where
     from : (found : Option Enlistment) → superior_of es id ≡ found → superior_now found ≡ o → superior_at es (superior_id o) ≡ o
     from None found is = subst (λ s. superior_at es (superior_id s) ≡ s) is refl
-    from (Some e) found is = subst (λ s. superior_at es (superior_id s) ≡ s) is (ap superior_now (at-there es rises e (find-in (λ (f : Enlistment). same_id f.transaction id && is_superior f) es e found).0))
+    from (Some e) found is = subst (λ s. superior_at es (superior_id s) ≡ s) is
+        (ap (λ (f : Option Enlistment). Some (record { enlistment = e.id; manager = manager_or e.id f; information = information_or f })) (at-there es rises e (find-in (λ (f : Enlistment). same_id f.transaction id && is_superior f) es e found).0))
 
 -- ---- changes and settings
 
@@ -142,10 +143,10 @@ some-settings false true (s ∷ ss) kept waits there none = some-not_none s ss n
 
 -- ---- one transaction
 
-each-back : (es : List Enlistment) (changes : List Change) (settings : OwnSettings) (ps : List RecordedPart) → ((p : RecordedPart) → IsIn p ps → contents_of es changes settings (who_of p.part) ≡ p.part ∷ [])
-    → expanded_parts es changes settings (map traced_part ps) ≡ ps
+each-back : (es : List Enlistment) (changes : List Change) (settings : OwnSettings) (ps : List RecordedPart) → ((p : RecordedPart) → IsIn p ps → contents_of es changes settings (who_of p.part) ≡ p.part)
+    → map (expanded_part es changes settings) (map traced_part ps) ≡ ps
 each-back es changes settings [] each = refl
-each-back es changes settings (p ∷ ps) each = λ i. map (λ part. record { is_done = p.is_done; part = part }) (each p (inl refl) i) ++ each-back es changes settings ps (λ q there. each q (inr there)) i
+each-back es changes settings (p ∷ ps) each = λ i. record { is_done = p.is_done; part = each p (inl refl) i } ∷ each-back es changes settings ps (λ q there. each q (inr there)) i
 
 module _ (x : Present) (sound : IsSoundCourse x) (good : IsGoodState x.recorded) (agrees : Agrees x) (t : Recorded) (there : IsIn t x.recorded.transactions) where
   abbrev es : List Enlistment
@@ -184,7 +185,7 @@ module _ (x : Present) (sound : IsSoundCourse x) (good : IsGoodState x.recorded)
       (leb-true _ _ both.0, leb-true _ _ both.1)
 
   enlistment-back : (is_done : Bool) (id manager : Id) (information : List ℕ) → IsIn (record { is_done = is_done; part = Part.Enlistment id manager information }) t.parts
-      → contents_of es left_changes left_settings (DonePart.Enlistment id) ≡ Part.Enlistment id manager information ∷ []
+      → contents_of es left_changes left_settings (DonePart.Enlistment id) ≡ Part.Enlistment id manager information
   enlistment-back is_done id manager information has =
       let p : RecordedPart = record { is_done = is_done; part = Part.Enlistment id manager information } in
       let back : Enlistment = record { id = id; manager = manager; transaction = t.id; kind = EnlistmentKind.Plain; owes = None; is_read_only = false; is_prepared = true; is_finished = false; is_recovered = false; information = information } in
@@ -194,8 +195,8 @@ module _ (x : Present) (sound : IsSoundCourse x) (good : IsGoodState x.recorded)
       let e = from.0 in
       let same = from.1 in
       let in_es = (IsIn-filter _ es e from.2).0 in
-      ap (λ (f : Option Enlistment). part_of f) (ap (λ (i : Id). enlistment_at es i) (sym (ap (λ (f : Enlistment). f.id) same)) ∙ at-there es rise e in_es)
-      ∙ (λ i. Part.Enlistment (same i).id (same i).manager (same i).information ∷ [])
+      ap (λ (f : Option Enlistment). Part.Enlistment id (manager_or id f) (information_or f)) (ap (λ (j : Id). enlistment_at es j) (sym (ap (λ (f : Enlistment). f.id) same)) ∙ at-there es rise e in_es)
+      ∙ (λ i. Part.Enlistment id (same i).manager (same i).information)
 
   changes-back : (is_done : Bool) (changes : List Change) → IsIn (record { is_done = is_done; part = Part.Changes changes }) t.parts → left_changes ≡ changes
   changes-back is_done changes has =
@@ -215,10 +216,10 @@ module _ (x : Present) (sound : IsSoundCourse x) (good : IsGoodState x.recorded)
       left-back (own_settings x.keys.own t.id) (settings_of t) t.stage (λ waits. some waits has_one) settings-same
       ∙ gathered-only settings_in (is_part_of DonePart.Keys) no-settings t.parts one-each.1 p has refl
 
-  part-back : (is_done : Bool) (part : Part) → IsIn (record { is_done = is_done; part = part }) t.parts → contents_of es left_changes left_settings (who_of part) ≡ part ∷ []
+  part-back : (is_done : Bool) (part : Part) → IsIn (record { is_done = is_done; part = part }) t.parts → contents_of es left_changes left_settings (who_of part) ≡ part
   part-back is_done (Part.Enlistment id manager information) has = enlistment-back is_done id manager information has
-  part-back is_done (Part.Changes changes) has = λ i. Part.Changes (changes-back is_done changes has i) ∷ []
-  part-back is_done (Part.Settings settings) has = λ i. Part.Settings (settings-back is_done settings has i) ∷ []
+  part-back is_done (Part.Changes changes) has = λ i. Part.Changes (changes-back is_done changes has i)
+  part-back is_done (Part.Settings settings) has = λ i. Part.Settings (settings-back is_done settings has i)
 
   pub transaction-back : expanded es x.files.table.own x.keys.own (traced t) ≡ t
   transaction-back = λ i. record {
@@ -234,5 +235,35 @@ all-back : (f : Traced → Recorded) (ts : List Recorded) → ((t : Recorded) �
 all-back f [] each = refl
 all-back f (t ∷ ts) each = λ i. each t (inl refl) i ∷ all-back f ts (λ u there. each u (inr there)) i
 
+-- ---- what memory keeps is in it
+
+who-kept : (es : List Enlistment) (changes : List Change) (settings : OwnSettings) (who : DonePart) → who_of (contents_of es changes settings who) ≡ who
+who-kept es changes settings (DonePart.Enlistment id) = refl
+who-kept es changes settings DonePart.Files = refl
+who-kept es changes settings DonePart.Keys = refl
+
+parts-kept : (es : List Enlistment) (changes : List Change) (settings : OwnSettings) (ps : List TracedPart) → map traced_part (map (expanded_part es changes settings) ps) ≡ ps
+parts-kept es changes settings [] = refl
+parts-kept es changes settings (p ∷ ps) = λ i. record { is_done = p.is_done; who = who-kept es changes settings p.who i } ∷ parts-kept es changes settings ps i
+
+superior-kept : (es : List Enlistment) (superior : Option Id) → superior_id (superior_at es superior) ≡ superior
+superior-kept es None = refl
+superior-kept es (Some id) = refl
+
+transaction-kept : (es : List Enlistment) (changes : List OwnChanges) (settings : List Own) (t : Traced) → traced (expanded es changes settings t) ≡ t
+transaction-kept es changes settings t = λ i. record {
+  id = t.id;
+  stage = t.stage;
+  superior = superior-kept es t.superior i;
+  parts = parts-kept es (if is_decided t.stage then [] else own_changes changes t.id) (if is_decided t.stage then [] else own_settings settings t.id) t.parts i;
+}
+
+all-kept : (es : List Enlistment) (changes : List OwnChanges) (settings : List Own) (ts : List Traced) → map traced (map (expanded es changes settings) ts) ≡ ts
+all-kept es changes settings [] = refl
+all-kept es changes settings (t ∷ ts) = λ i. transaction-kept es changes settings t i ∷ all-kept es changes settings ts i
+
 pub contents_law : ContentsLaw
-contents_law x sound good agrees = all-back (expanded x.transactions.enlistments x.files.table.own x.keys.own) x.recorded.transactions (λ t there. transaction-back x sound good agrees t there)
+contents_law = record {
+  contents = λ x sound good agrees. all-back (expanded x.transactions.enlistments x.files.table.own x.keys.own) x.recorded.transactions (λ t there. transaction-back x sound good agrees t there);
+  traces = all-kept;
+}
