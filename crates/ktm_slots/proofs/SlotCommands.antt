@@ -1,10 +1,11 @@
 -- Every command sends no more than was owed or granted, and so does the passing of time.
 use Rattle.std.specs.Prelude.{if◌then◌else◌}
-use Rattle.std.proofs.Common.{◌≡◌, ℕ, ◌+◌, ◌≤◌, ◌||◌, not, Bool, true, List, [], ◌∷◌, ◌++◌, length, Option, Some, None, is_none, refl, sym, ◌∙◌, ap, subst, arith, length-append, inl, inr}
+use Rattle.std.proofs.Common.{◌≡◌, ℕ, ◌+◌, ◌≤◌, ◌||◌, not, Bool, true, List, [], ◌∷◌, ◌++◌, count_by, filter, length, map, Option, Some, None, is_none, refl, sym, ◌∙◌, ap, subst, arith, length-append, inl, inr}
 use Rattle.std.proofs.lemmas.Bool.{and_from, and_parts, cases_Bool, not-true, not_from_false, or_cases, true≢false}
 use Rattle.std.proofs.lemmas.List.Sums.{sum_by_push}
 use Rattle.std.proofs.lemmas.Option.{none-some, same_Some}
 use Rattle.ktm_base.specs.declared.id.Id.{Id}
+use Rattle.ktm_base.specs.declared.notify.Notify.{Notify}
 use Rattle.ktm_base.specs.declared.id.Label.{Label}
 use Rattle.ktm_base.specs.declared.id.Pid.{Pid}
 use Rattle.ktm_base.specs.declared.refusal.Refusal.{Refusal}
@@ -22,7 +23,7 @@ use Rattle.ktm_types.specs.declared.reply.Reply.{Reply}
 use Rattle.ktm_types.specs.declared.reply.Reply.TheVariants.{Done, Refused}
 use Rattle.ktm_types.specs.declared.step.Owed.{Owed}
 use Rattle.ktm_world.specs.Decide.{caller, command_effect, command_tests, decide, of_files, on_file, opening, bound_file, with_room}
-use Rattle.ktm_world.specs.Enlistments.{Enlistment, Manager, has_id, is_superior, owes_commit, owes_pre_prepare, owes_prepare, owes_rollback, takes_part}
+use Rattle.ktm_world.specs.Enlistments.{Enlistment, Manager, Sent, has_id, is_superior, owes_commit, owes_pre_prepare, owes_prepare, owes_rollback, takes_part}
 use Rattle.ktm_world.specs.FileCalls.{create_file}
 use Rattle.ktm_world.specs.FileOutcome.{FileOutcome}
 use Rattle.ktm_world.specs.Files.{OpenFile}
@@ -33,12 +34,12 @@ use Rattle.ktm_world.specs.Outcome.{Outcome, apply, first_refusal, is_full, only
 use Rattle.ktm_world.specs.Phases.{Course, is_single_phase}
 use Rattle.ktm_world.specs.Present.{Present}
 use Rattle.ktm_world.specs.Steps.{led, share_of}
-use Rattle.ktm_world.specs.TransactionCalls.{answering, arrived, before_pre_prepare, before_prepare, commit_complete, commit_enlistment, commit_of, commit_reply, commit_transaction, course_of, create_enlistment, create_resource_manager, create_transaction, enlist, enlistment_tests, enlistment_with, get_information, get_notification, get_transaction_information, is_in_doubt, is_voting, keep_information, may_recover, may_reject_one_phase, may_roll_back_by, may_vote, open_enlistment, open_resource_manager, open_to_enlistment, open_to_manager, open_to_transaction, open_transaction, manager_with, transaction_with, phase_passes, pre_prepare_complete, pre_prepare_enlistment, prepare_complete, prepare_enlistment, read_only_enlistment, recover_all, recover_enlistment, recover_resource_manager, recovery_of, rollback_complete, rollback_enlistment, rollback_of, rollback_transaction, rollback_transaction_tests, set_information, single_phase_reject, superior_tests, take_first, tick, transaction_in, waits_for_superior}
+use Rattle.ktm_world.specs.TransactionCalls.{answering, is_to_recover, recover_notes, arrived, before_pre_prepare, before_prepare, commit_complete, commit_enlistment, commit_of, commit_reply, commit_transaction, course_of, create_enlistment, create_resource_manager, create_transaction, enlist, enlistment_tests, enlistment_with, get_information, get_notification, get_transaction_information, is_in_doubt, is_voting, keep_information, may_recover, may_reject_one_phase, may_roll_back_by, may_vote, open_enlistment, open_resource_manager, open_to_enlistment, open_to_manager, open_to_transaction, open_transaction, manager_with, transaction_with, phase_passes, pre_prepare_complete, pre_prepare_enlistment, prepare_complete, prepare_enlistment, read_only_enlistment, recover_all, recover_enlistment, recover_resource_manager, recovery_of, rollback_complete, rollback_enlistment, rollback_of, rollback_transaction, rollback_transaction_tests, set_information, single_phase_reject, superior_tests, take_first, tick, transaction_in, waits_for_superior}
 use Rattle.ktm_world.specs.Transactions.{change_at, is_undecided, same_id, transaction_at}
 use Rattle.ktm_world.specs.World.{decide_tick}
 use Rattle.txf_laws.specs.Elements.{IsIn}
 use Rattle.txf_laws.proofs.offered.Elements.{list_all-at, not-not}
-use Rattle.txf_laws.proofs.offered.Sums.{sum-map-by, sum-same}
+use Rattle.txf_laws.proofs.offered.Sums.{count-cons, sum-map-by, sum-same}
 use Rattle.ktm_steps.proofs.offered.Staying.{stays-led}
 use Rattle.ktm_steps.proofs.offered.Ways.{if_cases}
 use Rattle.ktm_courses.specs.SoundCourse.{IsSoundCourse, has_transaction, is_unrecovered_well}
@@ -49,10 +50,21 @@ use Rattle.ktm_courses.proofs.offered.Calls.{Passes, active-phase, enlistment-al
 use Rattle.ktm_courses.proofs.offered.EnlistmentAnswers.{answer_in, can_roll_back, is-aborting, is-committing, is-pre_preparing, is-preparing, owed-commit, owed-pre_prepare, owed-prepare, owed-rollback, phase-owing, takes_part-owing}
 use Rattle.ktm_courses.proofs.offered.HandlesAndTime.{Closes, close_handle-so, exit-so, tick-so}
 use Rattle.ktm_slots.specs.Owed.{most_owed, owed_by, owed_in, owed_slots}
-use Rattle.ktm_slots.specs.Slots.{Comes, IsPaid, SlotsLaw, granted, granted_recovery, is_undecided_phase, may_come_from, may_come_in}
+use Rattle.ktm_slots.specs.Slots.{Comes, IsPaid, SlotsLaw, granted_in, is_of_recovery, is_undecided_phase, may_come_from, may_come_in}
 use Rattle.ktm_slots.proofs.SlotCourses.{course-paid, few-by, few-in}
 
 -- ---- outcomes
+
+-- a slot for each notification of a recovery
+abbrev granted_recovery : Present → Option Manager → ℕ
+granted_recovery x None = 0
+granted_recovery x (Some m) = length (recover_notes x m.id)
+
+-- so many slots more are taken ahead for this command
+abbrev granted : Present → Pid → Command → ℕ
+granted x process (CreateEnlistment label manager transaction kind) = most_owed
+granted x process (RecoverResourceManager label) = granted_recovery x (manager_named x process label)
+granted x process _ = 0
 
 -- what is sent was owed or granted
 pub record Pays (x : Present) (o : Outcome) (more : ℕ) : Type 0 where
@@ -109,6 +121,24 @@ pays-recover_all : (x : Present) (o : Option Manager) → Pays x (recover_all x 
 pays-recover_all x None = pays-reply x Done 0
 pays-recover_all x (Some m) = record { paid = omega arith }
 
+-- more may be granted
+pays-more : {x : Present} {o : Outcome} {more : ℕ} → Pays x o 0 → Pays x o more
+pays-more pays = record { paid = let paid = pays.paid in omega arith }
+
+-- a RECOVER for each of these
+abbrev told-again : Id → List Enlistment → List Sent
+told-again manager es = map (λ e. record { manager = manager; note = record { kind = Notify.Recover; enlistment = Some e.id } }) es
+
+all-of_recovery : (manager : Id) (es : List Enlistment)
+    → count_by is_of_recovery (told-again manager es ++ record { manager = manager; note = record { kind = Notify.LastRecover; enlistment = None } } ∷ [])
+    ≡ length (told-again manager es ++ record { manager = manager; note = record { kind = Notify.LastRecover; enlistment = None } } ∷ [])
+all-of_recovery manager [] = refl
+all-of_recovery manager (e ∷ es) = let rest = all-of_recovery manager es in let more = count-cons is_of_recovery (record { manager = manager; note = record { kind = Notify.Recover; enlistment = Some e.id } }) (told-again manager es ++ record { manager = manager; note = record { kind = Notify.LastRecover; enlistment = None } } ∷ []) in omega (arith, rest, more)
+
+pays-recovery : (x : Present) (o : Option Manager) → Pays x (recover_all x o) (granted_in x (recover_all x o))
+pays-recovery x None = pays-reply x Done _
+pays-recovery x (Some m) = record { paid = let all = all-of_recovery m.id (filter (is_to_recover x m.id) x.transactions.enlistments) in omega arith }
+
 pays-take_first : (x : Present) (o : Option Manager) → Pays x (take_first x o) 0
 pays-take_first x None = pays-reply x Done 0
 pays-take_first x (Some m) = pays-quiet x _ 0 refl refl
@@ -124,6 +154,14 @@ pays-enlist x process label (Some m) (Some t) kind =
           let few = few-by (transaction_at x.transactions.items e.transaction) e in
           omega arith;
     }
+
+pays-made : (x : Present) (process : Pid) (label : Label) (m : Option Manager) (t : Option Transaction) (kind : EnlistmentKind) → Pays x (enlist x process label m t kind) (granted_in x (enlist x process label m t kind))
+pays-made x process label None t kind = pays-reply x Done _
+pays-made x process label (Some m) None kind = pays-reply x Done _
+pays-made x process label (Some m) (Some t) kind =
+    let paid = (pays-enlist x process label (Some m) (Some t) kind).paid in
+    let more = length-append x.transactions.enlistments (new_enlistment x m t kind ∷ []) in
+    record { paid = omega arith }
 
 pays-open_enlistment : (x : Present) (process : Pid) (label : Label) (o : Option Enlistment) → Pays x (open_to_enlistment x process label o) 0
 pays-open_enlistment x process label None = pays-reply x Done 0
@@ -342,24 +380,31 @@ module _ (x : Present) (sound : IsSoundCourse x) where
   effect-pays process Exit passes = (exit-so IsSoundCourse Closing pays-closing x process sound).pays
   effect-pays process _ passes = pays-quiet x _ 0 refl refl
 
+  -- what is granted is seen from the outcome
+  effect-grants : (process : Pid) (command : Command) → Passes (command_tests x process command) → Pays x (command_effect x process command) (granted_in x (command_effect x process command))
+  unfolding recover_resource_manager create_enlistment
+  effect-grants process (RecoverResourceManager label) passes = pays-recovery x (manager_named x process label)
+  effect-grants process (CreateEnlistment label manager transaction kind) passes = pays-made x process label (manager_named x process manager) (transaction_named x process transaction) kind
+  effect-grants process command passes = pays-more (effect-pays process command passes)
+
   -- refused or not
-  refuse_or-pays : (tests : List (Bool × Refusal)) (effect : Outcome) (more : ℕ) → (Passes tests → Pays x effect more) → Pays x (refuse_or x (first_refusal tests) effect) more
-  refuse_or-pays tests effect more is = go (first_refusal tests) refl
+  refuse_or-pays : (more : Outcome → ℕ) (tests : List (Bool × Refusal)) (effect : Outcome) → (Passes tests → Pays x effect (more effect)) → Pays x (refuse_or x (first_refusal tests) effect) (more (refuse_or x (first_refusal tests) effect))
+  refuse_or-pays more tests effect is = go (first_refusal tests) refl
     where
-      go : (refusal : Option Refusal) → first_refusal tests ≡ refusal → Pays x (refuse_or x refusal effect) more
-      go (Some refusal) refused = pays-reply x (Refused refusal) more
+      go : (refusal : Option Refusal) → first_refusal tests ≡ refusal → Pays x (refuse_or x refusal effect) (more (refuse_or x refusal effect))
+      go (Some refusal) refused = pays-reply x (Refused refusal) (more (only_reply x (Refused refusal)))
       go None none = is (record { none = none })
 
   -- with room in the log or without
-  within_log-pays : (o : Outcome) (more : ℕ) → Pays x o more → Pays x (within_log x o) more
-  within_log-pays o more pays = if_cases (λ o. Pays x o more) (is_full x.machine.left o.events) _ o (λ full. pays-quiet x _ more refl refl) (λ room. pays)
+  within_log-pays : (more : Outcome → ℕ) (o : Outcome) → Pays x o (more o) → Pays x (within_log x o) (more (within_log x o))
+  within_log-pays more o pays = if_cases (λ o. Pays x o (more o)) (is_full x.machine.left o.events) _ o (λ full. pays-quiet x _ _ refl refl) (λ room. pays)
 
-  decided-pays : (process : Pid) (command : Command) → Pays x (decide x process command) (granted x process command)
-  decided-pays process command = within_log-pays (with_room x process command) (granted x process command)
-      (refuse_or-pays ((not x.machine.is_up, MachineDown) ∷ command_tests x process command) (command_effect x process command) (granted x process command) (λ passes. effect-pays process command (passed passes).1))
+  decided-pays : (process : Pid) (command : Command) → Pays x (decide x process command) (granted_in x (decide x process command))
+  decided-pays process command = within_log-pays (granted_in x) (with_room x process command)
+      (refuse_or-pays (granted_in x) ((not x.machine.is_up, MachineDown) ∷ command_tests x process command) (command_effect x process command) (λ passes. effect-grants process command (passed passes).1))
 
   later-pays : (ms : ℕ) → Pays x (decide_tick x ms) 0
-  later-pays ms = within_log-pays _ 0 (refuse_or-pays ((not x.machine.is_up, MachineDown) ∷ []) (tick x ms) 0 (λ passes. pays-tick x ms sound))
+  later-pays ms = within_log-pays (λ o. 0) _ (refuse_or-pays (λ o. 0) ((not x.machine.is_up, MachineDown) ∷ []) (tick x ms) (λ passes. pays-tick x ms sound))
 
 pub slots_law : SlotsLaw
 slots_law = record {

@@ -1,21 +1,21 @@
 -- Where a slot is free for each notification that may still be sent, none is ever wanting.
-use Rattle.std.specs.Prelude.{◌≡◌, ℕ, ◌+◌, ◌*◌, ◌≤◌, ◌&&◌, not, Bool, true, false, length, Option, Some, None}
+use Rattle.std.specs.Prelude.{◌≡◌, ℕ, ◌+◌, ◌-◌, ◌*◌, ◌≤◌, ◌&&◌, not, Bool, true, false, count_by, length, Option, Some}
 use Rattle.ktm_base.specs.declared.id.Id.{Id}
 use Rattle.ktm_base.specs.declared.id.Pid.{Pid}
+use Rattle.ktm_base.specs.declared.notify.Notify.{Notify}
 use Rattle.ktm_types.specs.declared.command.Command.{Command}
-use Rattle.ktm_types.specs.declared.command.Command.TheVariants.{CreateEnlistment, RecoverResourceManager}
 use Rattle.ktm_types.specs.declared.input.PhaseInput.{PhaseInput}
 use Rattle.ktm_types.specs.declared.object.Phase.{Phase}
 use Rattle.ktm_types.specs.declared.object.Phase.TheVariants.{Active, PrePreparing, Preparing, InDoubt, Committing, Aborting, Ended}
 use Rattle.ktm_types.specs.declared.object.Transaction.{Transaction}
 use Rattle.ktm_world.specs.Decide.{decide}
-use Rattle.ktm_world.specs.Enlistments.{Enlistment, Manager, is_ended, is_superior, takes_part}
-use Rattle.ktm_world.specs.Labels.{holds_of, manager_named}
+use Rattle.ktm_world.specs.Enlistments.{Enlistment, Sent, is_ended, is_superior, takes_part}
+use Rattle.ktm_world.specs.Labels.{holds_of}
 use Rattle.ktm_world.specs.Outcome.{Outcome, apply}
 use Rattle.ktm_world.specs.Phases.{is_single_phase}
 use Rattle.ktm_world.specs.Present.{Present}
 use Rattle.ktm_world.specs.Steps.{led}
-use Rattle.ktm_world.specs.TransactionCalls.{before_pre_prepare, before_prepare, course_of, is_voting, recover_notes, waits_for_superior}
+use Rattle.ktm_world.specs.TransactionCalls.{before_pre_prepare, before_prepare, course_of, is_voting, waits_for_superior}
 use Rattle.ktm_world.specs.Transactions.{change_at, same_id}
 use Rattle.ktm_world.specs.World.{decide_tick}
 use Rattle.txf_laws.specs.Elements.{IsIn}
@@ -63,16 +63,13 @@ pub record Comes (x : Present) (t : Transaction) (caller : Option Enlistment) (i
 
 -- ---- what is granted
 
--- a slot for each notification of a recovery
-abbrev pub granted_recovery : Present → Option Manager → ℕ
-granted_recovery x None = 0
-granted_recovery x (Some m) = length (recover_notes x m.id)
+-- is it a notification of a recovery, for which a slot is taken as it is sent
+abbrev pub is_of_recovery : Sent → Bool
+is_of_recovery s = elim s.note.kind as (λ _. Bool) [ Notify.Recover ↦ true | Notify.LastRecover ↦ true | _ ↦ false ]
 
--- so many slots more are taken ahead for this command
-abbrev pub granted : Present → Pid → Command → ℕ
-granted x process (CreateEnlistment label manager transaction kind) = most_owed
-granted x process (RecoverResourceManager label) = granted_recovery x (manager_named x process label)
-granted x process _ = 0
+-- so many slots more are taken ahead for this outcome: for each enlistment that it makes, and for each notification of a recovery
+abbrev pub granted_in : Present → Outcome → ℕ
+granted_in x o = most_owed * (length o.transactions.enlistments - length x.transactions.enlistments) + count_by is_of_recovery o.sent
 
 -- ---- the law
 
@@ -86,7 +83,7 @@ pub record SlotsLaw : Type 0 where
   pub courses : (x : Present) (t : Transaction) (caller : Option Enlistment) (input : PhaseInput) → IsSoundCourse x → Comes x t caller input
       → let d = led input (course_of x t caller) in length d.sent + owed_in (change_at x.transactions.items t.id (λ u. d.transaction)) d.enlistments ≤ owed_slots x
   -- by a command
-  pub commands : (x : Present) (process : Pid) (command : Command) → IsSoundCourse x → IsPaid x (decide x process command) (granted x process command)
+  pub commands : (x : Present) (process : Pid) (command : Command) → IsSoundCourse x → IsPaid x (decide x process command) (granted_in x (decide x process command))
   -- by the passing of time
   pub ticks : (x : Present) (ms : ℕ) → IsSoundCourse x → IsPaid x (decide_tick x ms) 0
   -- at every time, and so after a restart
