@@ -143,6 +143,26 @@ impl Queues {
         self.slots.reserve(slots.saturating_sub(self.slots.len()))
     }
 
+    /// How many notifications can be sent without memory.
+    pub fn spare(&self) -> usize
+        ensures { result ≡ self.now.spare }
+    {
+        self.slots.spare()
+    }
+
+    /// Makes room for so many notifications more.
+    pub fn reserve_notes(&mut self, n: usize) -> Result<(), NoMemory>
+        ensures room { OnOk result (n ≤ self.new.spare) }
+        ensures enough { n ≤ self.old.spare → IsOk result }
+        ensures queues { self.new.queues ≡ self.old.queues }
+        ensures waiting { self.new.waiting ≡ self.old.waiting }
+        ensures sent { self.new.sent ≡ self.old.sent }
+        ensures spare { self.old.spare ≤ self.new.spare }
+        ensures room_for_queues { self.new.room ≡ self.old.room }
+    {
+        self.slots.reserve(n)
+    }
+
     /// Puts a notification at the end of a queue. It takes no memory, and cannot fail.
     pub fn send(&mut self, manager: usize, note: Note)
         requires there { manager < length self.old.queues }
@@ -184,6 +204,7 @@ impl Queues {
         ensures queues { self.new.queues ≡ without_first self.old.queues manager }
         ensures waiting { OnSome result (self.new.waiting + 1 ≡ self.old.waiting) }
         ensures spare { OnSome result (self.new.spare ≡ min (self.old.spare + 1) (2 ^ 64 - 1 - self.old.sent)) }
+        ensures no_less { self.old.spare ≤ self.new.spare }
         ensures sent { self.new.sent ≡ self.old.sent }
         ensures room { self.new.room ≡ self.old.room }
         ensures none { IfNone result (self.new ≡ self.old) }

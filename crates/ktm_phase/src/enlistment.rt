@@ -252,8 +252,8 @@ impl Enlistment {
         }
     }
 
-    // What it counts for, where it takes part.
-    fn share(&self) -> Share
+    /// What it counts for, where it takes part.
+    pub fn share(&self) -> Share
         ensures { result ≡ share_of self.now }
     {
         Share {

@@ -4,3 +4,4 @@ pub mod Expanding
 pub mod Joining
 pub mod Noting
 pub mod Changed
+pub mod Bringing

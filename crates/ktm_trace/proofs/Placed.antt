@@ -1,5 +1,5 @@
 -- Things with Ids, by rising Id: one is taken out, changed and put back.
-use Rattle.std.proofs.Common.{◌≡◌, ℕ, suc, ◌+◌, ◌<◌, not, Bool, true, false, List, [], ◌∷◌, length, map, filter, get_or, Option, Some, None, refl, sym, ◌∙◌, ap, subst, arith, inl, inr, ◌⊎◌}
+use Rattle.std.proofs.Common.{◌≡◌, ℕ, suc, ◌+◌, ◌<◌, not, Bool, true, false, List, [], ◌∷◌, ◌++◌, length, map, filter, get_or, Option, Some, None, refl, sym, ◌∙◌, ap, subst, arith, inl, inr, ◌⊎◌}
 use Rattle.std.specs.Prelude.{nat_lt, slice_get}
 use Rattle.std.specs.List.{insert, list_all, position, position_or_len, prefix_len, remove}
 use Rattle.std.specs.Option.{unwrap_or}
@@ -11,6 +11,7 @@ use Rattle.ktm_base.specs.declared.id.Id.{Id}
 use Rattle.ktm_world.specs.Durable.{is_before}
 use Rattle.ktm_world.specs.Transactions.{same_id}
 use Rattle.txf_laws.specs.Elements.{IsIn}
+use Rattle.txf_laws.proofs.offered.Diamonds.{IsIn-right}
 use Rattle.txf_laws.proofs.offered.Elements.{each_pair-filter, list_all-at, list_all-from}
 use Rattle.txf_laws.proofs.offered.Tables.{before_other, is_before-then, is_before-turned, same_id-equal, same_id-sym}
 use Rattle.ktm_trace.specs.Placed.{Rises, at_id, placed, without_id}
@@ -168,6 +169,20 @@ module _ {X : Type 0} (id_of : X → Id) where
   placed-first (a ∷ xs) x first =
       let before = first a (inl refl) in
       rw (false_from_ne_true (same_id (id_of a) (id_of x)) (λ same. before_other (id_of x) (id_of a) before (sym (same_id-equal (id_of a) (id_of x) same))), before) refl
+
+  -- behind those that it is behind, it is new, and its place is at the end
+  pub record IsLast (xs : List X) (x : X) : Type 0 where
+    pub new : at_id id_of xs (id_of x) ≡ None
+    pub placed_last : placed id_of xs x ≡ xs ++ x ∷ []
+
+  pub last : (xs ys : List X) (x : X) → Rises id_of (xs ++ x ∷ ys) → IsLast xs x
+  last [] ys x rises = record { new = refl; placed_last = refl }
+  last (a ∷ xs) ys x rises =
+      let before = rises-first a (xs ++ x ∷ ys) rises x (IsIn-right x xs (x ∷ ys) (inl refl)) in
+      let other = false_from_ne_true (same_id (id_of a) (id_of x)) (λ same. before_other (id_of a) (id_of x) before (same_id-equal (id_of a) (id_of x) same)) in
+      let behind = false_from_ne_true (is_before (id_of x) (id_of a)) (λ turned. before_other (id_of a) (id_of a) (is_before-then (id_of a) (id_of x) (id_of a) before turned) refl) in
+      let rest = last xs ys x (rises-rest a (xs ++ x ∷ ys) rises) in
+      record { new = rw other rest.new; placed_last = rw (other, behind) (ap (λ l. a ∷ l) rest.placed_last) }
 
   -- put back once it was taken out
   pub placed-without : (xs : List X) (x : X) → Rises id_of xs → placed id_of (without_id id_of xs (id_of x)) x ≡ placed id_of xs x

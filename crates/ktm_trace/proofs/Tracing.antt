@@ -13,12 +13,8 @@ use Rattle.ktm_types.specs.declared.recorded.Stage.{Stage}
 use Rattle.ktm_world.specs.Durable.{Durable, Recorded, after_event, after_events, decide_recorded, emptied, emptied_part, finish_recorded, is_before, is_part_of, is_ready, parts_done, recorded_at, recorded_or_new, while_not_done, with_recorded, without_recorded}
 use Rattle.ktm_world.specs.Transactions.{same_id}
 use Rattle.ktm_trace.specs.Placed.{at_id, placed, without_id}
-use Rattle.ktm_trace.specs.Traces.{Traced, TracedPart, TracesLaw, id_of, marked, once_decided, once_done, same_participant, stays_while_not_done, traced, traced_or_new, traced_part, traces_after, traces_of, who_of, with_ready, without_done}
+use Rattle.ktm_trace.specs.Traces.{Traced, TracedPart, TracesLaw, id_of, marked, once_decided, once_done, recorded_id, same_participant, stays_while_not_done, traced, traced_or_new, traced_part, traces_after, traces_of, who_of, with_ready, without_done}
 use Rattle.ktm_trace.proofs.Placed.{made, map-at, map-filter, map-placed}
-
--- the Id of a recorded transaction
-abbrev recorded_id : Recorded → Id
-recorded_id t = t.id
 
 placed-recorded : (ts : List Recorded) (t : Recorded) → with_recorded ts t ≡ placed recorded_id ts t
 placed-recorded [] t = refl

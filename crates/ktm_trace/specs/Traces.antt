@@ -34,6 +34,10 @@ pub record TraceState : Type 0 where
 
 -- ---- of what was recorded
 
+-- the Id of a transaction of the durable state
+abbrev pub recorded_id : Recorded → Id
+recorded_id t = t.id
+
 -- whose the part is
 abbrev pub who_of : Part → DonePart
 who_of (Part.Enlistment enlistment manager information) = DonePart.Enlistment enlistment

@@ -1,15 +1,15 @@
 // The transactions of the log, as memory keeps them.
-ghost use Rattle.std.specs.Prelude.{◌≡◌, ◌+◌, ◌<◌, ◌≤◌, [], None, not, OnOk, IsOk, filter, fold, length, if◌then◌else◌};
+ghost use Rattle.std.specs.Prelude.{◌≡◌, ◌+◌, ◌<◌, ◌≤◌, [], None, not, IfOk, OnOk, IsOk, filter, fold, length, map, if◌then◌else◌};
 ghost use Rattle.ktm_world.specs.Durable.{is_ready};
 ghost use Rattle.ktm_world.specs.Steps.{Basis, events_ahead};
 ghost use Rattle.ktm_trace.specs.Joined.{has_undone_mark, head_id, without_marks};
-ghost use Rattle.ktm_trace.specs.Placed.{at_id, placed, without_id};
+ghost use Rattle.ktm_trace.specs.Placed.{Rises, at_id, placed, without_id};
 ghost use Rattle.ktm_trace.specs.Recordings.{behind_step, noted, recording_of, room_of, step_noted, step_room, steps_room};
-ghost use Rattle.ktm_trace.specs.Traces.{id_of, once_decided, once_done, once_held, once_ready, superior_id, traced, traces_after};
+ghost use Rattle.ktm_trace.specs.Traces.{id_of, once_decided, once_done, once_held, once_ready, recorded_id, superior_id, traced, traces_after};
 
 use crate::heads::{Head, Heads};
 use crate::marks::{Mark, Marks};
-use crate::recording::Recording;
+use crate::recording::{Recording, steps_room};
 use ktm_base::{Id, NoMemory};
 use ktm_types::{DonePart, Fact, Stage, Step, Superior};
 use ktm_world::Recorded;
@@ -76,6 +76,19 @@ impl Trace {
         }
     }
 
+    /// The transactions of the log, which stand by rising Id.
+    pub fn of(alloc: Global, transactions: &[Recorded]) -> Result<Self, NoMemory>
+        requires rise { Rises recorded_id transactions.now }
+        ensures transactions { IfOk result (λ trace. trace.transactions ≡ map traced transactions.now) }
+    {
+        let mut trace = Trace::new(alloc);
+        for transaction in transactions {
+            trace.reserve(1, transaction.parts.len())?;
+            trace.add(transaction);
+        }
+        Ok(trace)
+    }
+
     /// Makes room for so many transactions and so many parts more.
     pub fn reserve(&mut self, many: usize, parts: usize) -> Result<(), NoMemory>
         ensures places { OnOk result (many ≤ self.new.places) }
@@ -87,6 +100,19 @@ impl Trace {
     {
         self.heads.reserve(many)?;
         self.marks.reserve(parts)
+    }
+
+    /// Makes room for what the steps record.
+    pub fn reserve_for(&mut self, steps: &[Step]) -> Result<(), NoMemory>
+        ensures places { OnOk result (steps_room steps.now ≤ self.new.places) }
+        ensures spare { OnOk result (steps_room steps.now ≤ self.new.spare) }
+        ensures enough { steps_room steps.now ≤ self.old.places → steps_room steps.now ≤ self.old.spare → IsOk result }
+        ensures same { self.new.transactions ≡ self.old.transactions }
+        ensures places_kept { self.old.places ≤ self.new.places }
+        ensures spare_kept { self.old.spare ≤ self.new.spare }
+    {
+        let room = steps_room(steps);
+        self.reserve(room, room)
     }
 
     /// Brings a transaction of the log back, with its parts. It takes no memory.

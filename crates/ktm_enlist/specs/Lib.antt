@@ -1,0 +1,3 @@
+pub mod Counts
+pub mod Enlistments
+pub mod Telling

@@ -1,0 +1,10 @@
+//! The enlistments of a boot by rising Id, those that a restart brought back first: what counts of those of a transaction, and
+//! how they are told, asked and answer.
+#![tactic(auto)]
+
+mod counts;
+mod enlistments;
+mod telling;
+
+pub use counts::Counts;
+pub use enlistments::Enlistments;

@@ -1,0 +1,2 @@
+pub mod offered
+mod Serving

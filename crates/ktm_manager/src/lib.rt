@@ -1,0 +1,8 @@
+//! The resource managers, by rising Id, with the notifications that wait for each.
+#![tactic(auto)]
+
+mod managers;
+mod order;
+
+pub use managers::Managers;
+pub use order::order_of;
