@@ -41,7 +41,6 @@ use Rattle.ktm_states.specs.Grammatical.{GrammarLaw, is_grammatical}
 use Rattle.ktm_laws.specs.Running.{IsRoomy, is_log_grammatical}
 use Rattle.ktm_laws.proofs.offered.LogCounts.{log-boots, log-events, own-frame, room-for}
 use Rattle.ktm_memory.specs.Memory.{Held, MemoryState, held, now_of}
-use Rattle.ktm_object.specs.Table.{handles_of}
 use Rattle.ktm_world.specs.Tree.{Tree}
 use Rattle.txf_volume.specs.Held.{files_begun, files_of}
 use Rattle.ktm_world.specs.Files.{FilesNow}
@@ -145,7 +144,7 @@ fresh_held j state = record {
 
 pub held_fresh : (m : MemoryState) (j : JournalState) (state : Durable) (boot : ℕ) (tree : Tree) (next : ℕ) (store : Store) → m.is_up ≡ true → m.journal ≡ j → m.tm.boot ≡ boot
     → m.tm.now ≡ record { clock = 0; last_transaction = 0; last_manager = 0; last_enlistment = 0; items = []; enlistments = [] } → files_of m.files ≡ files_begun tree next → m.next_node ≡ next
-    → m.keys.keys ≡ record { store = store; own = [] } → handles_of m.handles ≡ [] → boot ≡ state.boots + 1 → tree ≡ state.tree → next ≡ state.next_node → store ≡ state.keys → held m ≡ fresh_held j state
+    → m.keys.keys ≡ record { store = store; own = [] } → m.handles.handles ≡ [] → boot ≡ state.boots + 1 → tree ≡ state.tree → next ≡ state.next_node → store ≡ state.keys → held m ≡ fresh_held j state
 held_fresh m j state boot tree next store up journal boot_is now files next_node keys handles is tree_is next_is keys_are =
     let h = held m in
     ap (λ (fs : FilesNow). record h { files = fs }) files ∙ rw (up, journal, boot_is, now, next_node, keys, handles, is, tree_is, next_is, keys_are) refl

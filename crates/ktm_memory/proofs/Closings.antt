@@ -3,7 +3,7 @@ use Rattle.std.proofs.Common.{◌≡◌, List, [], ◌∷◌, not, Option, Some,
 use Rattle.std.specs.Option.{option_map}
 use Rattle.ktm_base.specs.declared.id.Label.{Label}
 use Rattle.ktm_base.specs.declared.id.Pid.{Pid}
-use Rattle.ktm_object.specs.declared.entry.Closed.{Closed}
+use Rattle.ktm_object.specs.declared.closed.Closed.{Closed}
 use Rattle.ktm_object.specs.Table.{closed_of, closing, first_label}
 use Rattle.ktm_types.specs.declared.object.Handle.{Handle}
 use Rattle.ktm_types.specs.declared.object.Object.{Object}

@@ -12,7 +12,7 @@ use Rattle.ktm_event.specs.Kept.{EventsState}
 use Rattle.ktm_journal.specs.Image.{JournalState}
 use Rattle.ktm_types.specs.Sizes.{area_len, frame_size, log_size}
 use Rattle.txf_laws.specs.Elements.{each_pair}
-use Rattle.ktm_object.specs.Table.{HandleTable, handles_of}
+use Rattle.ktm_object.specs.Table.{HandleTable}
 use Rattle.ktm_tm.specs.TmState.{TmState}
 use Rattle.ktm_types.specs.declared.event.Event.{Event}
 use Rattle.ktm_types.specs.declared.object.Handle.{Handle}
@@ -63,7 +63,7 @@ pub record Held : Type 0 where
 
 -- what the layers hold
 abbrev pub held : MemoryState → Held
-held m = record { is_up = m.is_up; journal = m.journal; handles = handles_of m.handles; boot = m.tm.boot; transactions = m.tm.now; files = files_of m.files; next_node = m.next_node; keys = m.keys.keys }
+held m = record { is_up = m.is_up; journal = m.journal; handles = m.handles.handles; boot = m.tm.boot; transactions = m.tm.now; files = files_of m.files; next_node = m.next_node; keys = m.keys.keys }
 
 -- what is so now, by what the layers hold of it; no resource managers and enlistments are built yet
 abbrev pub now_of : Held → Present
@@ -113,14 +113,14 @@ pub record CanGoOn (m : MemoryState) (t : Transaction) (steps : List Step) : Typ
 
 -- a label that is to be bound to a file that is opened is free, and there is room for it
 abbrev pub MayBind : MemoryState → Pid → Option Label → Option OpenFile → Type 0
-MayBind m process (Some label) (Some file) = (1 ≤ m.handles.spare) × (object_at (handles_of m.handles) process label ≡ None)
+MayBind m process (Some label) (Some file) = (1 ≤ m.handles.spare) × (object_at m.handles.handles process label ≡ None)
 MayBind m process label opened = Unit {0}
 
 -- the labels can be bound as they are to be
 abbrev pub MayHandle : MemoryState → Pid → Labels → Type 0
-MayHandle m process (Bind label object) = (1 ≤ m.handles.spare) × (object_at (handles_of m.handles) process label ≡ None)
+MayHandle m process (Bind label object) = (1 ≤ m.handles.spare) × (object_at m.handles.handles process label ≡ None)
 MayHandle m process (Duplicate label from source) =
-    (1 ≤ m.handles.spare) × (object_at (handles_of m.handles) process label ≡ None) × (is_some (object_at (handles_of m.handles) from source) ≡ true)
+    (1 ≤ m.handles.spare) × (object_at m.handles.handles process label ≡ None) × (is_some (object_at m.handles.handles from source) ≡ true)
 MayHandle m process (Unbind label) = Unit {0}
 MayHandle m process UnbindAll = Unit {0}
 
@@ -128,7 +128,7 @@ MayHandle m process UnbindAll = Unit {0}
 abbrev pub MaySettle : MemoryState → Settlement → Type 0
 MaySettle m Nothing = Unit {0}
 MaySettle m (Begin process label timeout) =
-    (1 ≤ m.tm.room) × (1 ≤ m.handles.spare) × (no_transaction_left m.tm.now ≡ false) × (object_at (handles_of m.handles) process label ≡ None)
+    (1 ≤ m.tm.room) × (1 ≤ m.handles.spare) × (no_transaction_left m.tm.now ≡ false) × (object_at m.handles.handles process label ≡ None)
 MaySettle m (Change process label plan ready) = CanMakePlain (files_of m.files) plan × IsReady m.files plan ready × MayBind m process label plan.opened
 MaySettle m (Course t steps) = CanGoOn m t steps.items
 MaySettle m (Handles process labels) = MayHandle m process labels

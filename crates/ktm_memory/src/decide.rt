@@ -8,7 +8,6 @@ ghost use Rattle.ktm_memory.specs.Memory.{IsRoomy, MayHandle, MemoryState, held,
 ghost use Rattle.ktm_memory.specs.Routed.{outcome_of, AreReady, IsReadyFor};
 ghost use Rattle.ktm_memory.specs.Takes.{labels_take_memory, routed_takes_memory};
 ghost use Rattle.ktm_memory.specs.declared.routed.Routed.TheVariants.{Create, Handles as OfLabels};
-ghost use Rattle.ktm_object.specs.Table.{handles_of};
 ghost use Rattle.ktm_world.specs.Decide.{of_keys};
 ghost use Rattle.ktm_world.specs.Handles.{object_at};
 ghost use Rattle.ktm_world.specs.Outcome.{first_refusal, refuse_or};
@@ -49,7 +48,7 @@ impl Memory {
     ) -> Result<Decision, NoMemory>
         requires up { self.old.is_up ≡ true }
         requires standing { IsStandingNow (present_of self.old) }
-        requires free { object_at (handles_of self.old.handles) process label ≡ None }
+        requires free { object_at self.old.handles.handles process label ≡ None }
         ensures ok { IfOk result (λ d. (events : _) → Holds events [] → Decides (held self.old) (outcome_of (present_of self.old) process (Create label timeout)) d.reply d.settlement events self.new) }
         ensures no_memory { OnErr result (held self.new ≡ held self.old) }
         ensures spare { 1 ≤ self.old.tm.room → 1 ≤ self.old.handles.spare → IsOk result }

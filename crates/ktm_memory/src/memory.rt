@@ -1,6 +1,5 @@
 // What the machine holds in memory: its layers, of which its journal is one.
 ghost use Rattle.std.specs.Prelude.{◌≡◌, true, false, []};
-ghost use Rattle.ktm_object.specs.Table.{handles_of};
 ghost use Rattle.ktm_world.specs.Tree.{IsWellFormed};
 ghost use Rattle.txf_tree.specs.TreeState.{tree_of, versions_of};
 ghost use Rattle.txf_volume.specs.Held.{files_begun, files_of, tree_units};
@@ -56,7 +55,7 @@ impl Memory {
         ensures files { files_of result.files ≡ files_begun (tree_of committed.tree) committed.next_node }
         ensures next_node { result.next_node ≡ committed.next_node }
         ensures keys { result.keys.keys ≡ record { store = store.items; own = [] } }
-        ensures handles { handles_of result.handles ≡ [] }
+        ensures handles { result.handles.handles ≡ [] }
     {
         Memory {
             is_up: true,

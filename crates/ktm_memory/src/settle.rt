@@ -5,7 +5,6 @@ ghost use Rattle.ktm_journal.specs.Image.{JournalState};
 ghost use Rattle.ktm_memory.specs.declared.settlement.Settlement.TheVariants.{Begin, Change as PlainChange, Handles as OfHandles, Pass};
 ghost use Rattle.ktm_memory.specs.Memory.{MaySettle, present_of};
 ghost use Rattle.ktm_memory.specs.Settled.{IsLeftOf, before, labels_outcome, left_to_do, with_change_made};
-ghost use Rattle.ktm_object.specs.Table.{handles_of};
 ghost use Rattle.ktm_types.specs.declared.change.Change.{Change as Made};
 ghost use Rattle.ktm_world.specs.Changes.{is_make, node_of};
 ghost use Rattle.ktm_world.specs.FileOutcome.{next_node_after};
@@ -57,7 +56,7 @@ impl Memory {
     // file is closed.
     fn let_go(&mut self, closed: Closed)
         requires built { IsBuiltNow (present_of self.old) }
-        requires last { closed.is_last ≡ not (has_handle (handles_of self.old.handles) closed.object) }
+        requires last { closed.is_last ≡ not (has_handle self.old.handles.handles closed.object) }
         ensures now { present_of self.new ≡ apply (present_of self.old) (handle_gone (Some closed.object) (present_of self.old)) }
         ensures journal { self.new.journal ≡ self.old.journal }
         ensures handles { self.new.handles ≡ self.old.handles }
@@ -123,7 +122,7 @@ impl Memory {
         self.files.settle(plan, ready);
         if let (Some(label), Some(file)) = (label, opened) {
             self.handles
-                .insert(process, label, Object::File(file.number), None);
+                .insert(process, label, Object::File(file.number));
         }
     }
 
@@ -135,8 +134,7 @@ impl Memory {
         ensures journal { self.new.journal ≡ self.old.journal }
     {
         let id = self.tm.create(timeout);
-        self.handles
-            .insert(process, label, Object::Transaction(id), None);
+        self.handles.insert(process, label, Object::Transaction(id));
     }
 
     // Labels of the process are bound or unbound.
@@ -147,7 +145,7 @@ impl Memory {
         ensures journal { self.new.journal ≡ self.old.journal }
     {
         match labels {
-            Labels::Bind { label, object } => self.handles.insert(process, label, object, None),
+            Labels::Bind { label, object } => self.handles.insert(process, label, object),
             Labels::Duplicate {
                 label,
                 from,

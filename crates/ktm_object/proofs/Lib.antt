@@ -1,5 +1,4 @@
 pub mod Closing
-pub mod Ends
 pub mod Exits
 pub mod Indexes
 pub mod Labels

@@ -1,5 +1,5 @@
 -- Lemmas on the handles of one object.
-use Rattle.std.proofs.Common.{◌≡◌, ℕ, ◌||◌, Bool, true, false, subst, eqb, List, [], ◌∷◌, map, Option, Some, None, is_some, refl, sym, ap, ◌∙◌, inl, inr, arith}
+use Rattle.std.proofs.Common.{◌≡◌, ℕ, ◌||◌, Bool, true, false, subst, eqb, List, [], ◌∷◌, Option, Some, None, is_some, refl, sym, ap, ◌∙◌, inl, inr, arith}
 use Rattle.std.specs.Prelude.{IfSome, IfNone}
 use Rattle.std.proofs.lemmas.Bool.{cases_Bool, and_parts, and_from, eqb-true, eq-eqb}
 use Rattle.std.proofs.lemmas.Option.{same_Some}
@@ -12,9 +12,8 @@ use Rattle.ktm_links.specs.declared.list.Key.{Key}
 use Rattle.ktm_links.specs.Items.{Item, same_key, value_at}
 use Rattle.ktm_links.specs.Mapped.{NamedItem, Begins}
 use Rattle.ktm_links.specs.Indexed.{values_of, AreNamed, IsIndex, IsFirstUnder, IsNoneUnder}
-use Rattle.ktm_object.specs.declared.entry.Entry.{Entry}
+use Rattle.ktm_types.specs.declared.object.Handle.{Handle}
 use Rattle.ktm_object.specs.declared.name.Owner.{Owner}
-use Rattle.ktm_object.specs.Table.{handle_of}
 use Rattle.ktm_object.specs.Names.{label_name, object_name, object_owner, owner_bytes}
 use Rattle.ktm_links.proofs.offered.Numbers.{number_from}
 
@@ -94,40 +93,40 @@ or_true : (a b : Bool) → b ≡ true → (a || b) ≡ true
 or_true true b is = refl
 or_true false b is = is
 
-has_handle-found : (items : List (Item Entry)) (key : Key) (e : Entry) (object : Object) → value_at items key ≡ Some e → same_object e.handle.object object ≡ true
-    → has_handle (map handle_of (values_of items)) object ≡ true
+has_handle-found : (items : List (Item Handle)) (key : Key) (e : Handle) (object : Object) → value_at items key ≡ Some e → same_object e.object object ≡ true
+    → has_handle (values_of items) object ≡ true
 has_handle-found [] key e object there same = absurd (cc)
 has_handle-found (x ∷ xs) key e object there same =
     elim (cases_Bool (same_key x.key key)) [
       | inl here ↦
           let value : x.value ≡ e = same_Some x.value e (rw here at there) in
-          let x_same : same_object x.value.handle.object object ≡ true = ap (λ (e : Entry). same_object e.handle.object object) value ∙ same in
+          let x_same : same_object x.value.object object ≡ true = ap (λ (e : Handle). same_object e.object object) value ∙ same in
           rw x_same refl
       | inr differs ↦
-          or_true (same_object x.value.handle.object object) (has_handle (map handle_of (values_of xs)) object)
+          or_true (same_object x.value.object object) (has_handle (values_of xs) object)
           (has_handle-found xs key e object (rw differs at there) same)
     ]
 
-has_handle-none : (items : List (Item Entry)) (named : List (NamedItem Key)) (object : Object) → AreNamed object_name named items
-    → IsNoneUnder (Begins (owner_bytes (object_owner object) [])) named → has_handle (map handle_of (values_of items)) object ≡ false
+has_handle-none : (items : List (Item Handle)) (named : List (NamedItem Key)) (object : Object) → AreNamed object_name named items
+    → IsNoneUnder (Begins (owner_bytes (object_owner object) [])) named → has_handle (values_of items) object ≡ false
 has_handle-none [] named object all none = refl
 has_handle-none (x ∷ xs) named object all none =
-    elim (cases_Bool (same_object x.value.handle.object object)) [
+    elim (cases_Bool (same_object x.value.object object)) [
       | inl same ↦
-          let owner = object_to x.value.handle.object object same in
+          let owner = object_to x.value.object object same in
           let nothing = none (object_name x.value) (record { after = label_name x.value; is = ap (λ o. owner_bytes o (label_name x.value)) owner }) in
           absurd (let some = all.0 in cc)
       | inr differs ↦ rw differs (has_handle-none xs named object all.1 none)
     ]
 
 -- a name that begins with the object is there exactly where a handle names it
-pub has_handle-told : (items : List (Item Entry)) (named : List (NamedItem Key)) (object : Object) (owner : Owner) (other : Option Key) → IsIndex object_name items named
+pub has_handle-told : (items : List (Item Handle)) (named : List (NamedItem Key)) (object : Object) (owner : Owner) (other : Option Key) → IsIndex object_name items named
     → owner ≡ object_owner object → IfSome other (λ key. IsFirstUnder (Begins (owner_bytes owner [])) named key)
-    → IfNone other (IsNoneUnder (Begins (owner_bytes owner [])) named) → is_some other ≡ has_handle (map handle_of (values_of items)) object
+    → IfNone other (IsNoneUnder (Begins (owner_bytes owner [])) named) → is_some other ≡ has_handle (values_of items) object
 has_handle-told items named object owner None index is first none =
     sym (has_handle-none items named object index.all (let P : Owner → Type 0 = λ o. IsNoneUnder (Begins (owner_bytes o [])) named in subst P is none))
 has_handle-told items named object owner (Some key) index is first none =
     let at = index.only first.name key first.there in
     let begins : Begins (owner_bytes owner []) (object_name at.0) = rw at.2 first.so in
-    let same = owner_begins (object_owner at.0.handle.object) owner (label_name at.0) begins ∙ is in
-    sym (has_handle-found items key at.0 object at.1 (object_from at.0.handle.object object same))
+    let same = owner_begins (object_owner at.0.object) owner (label_name at.0) begins ∙ is in
+    sym (has_handle-found items key at.0 object at.1 (object_from at.0.object object same))

@@ -1,18 +1,16 @@
--- How the maps from names stand to the entries. No public clause cites this module.
+-- How the maps from names stand to the handles. No public clause cites this module.
 use Rattle.std.specs.Prelude.{◌≡◌}
 use Rattle.ktm_links.specs.declared.list.Key.{Key}
 use Rattle.ktm_links.specs.Items.{Listed}
 use Rattle.ktm_links.specs.Mapped.{Mapped}
 use Rattle.ktm_links.specs.Indexed.{AreDistinct, IsIndex}
-use Rattle.ktm_object.specs.declared.entry.Entry.{Entry}
-use Rattle.ktm_object.specs.Names.{label_name, object_name, group_name}
+use Rattle.ktm_types.specs.declared.object.Handle.{Handle}
+use Rattle.ktm_object.specs.Names.{label_name, object_name}
 
--- the three maps stand for the entries, and no key of one was given out without one of each other
-pub record IsIndexed (listed : Listed Entry) (labels objects groups : Mapped Key) : Type 0 where
+-- the two maps stand for the handles, and no key of one was given out without one of each other
+pub record IsIndexed (listed : Listed Handle) (labels objects : Mapped Key) : Type 0 where
   pub by_label : IsIndex label_name listed.items labels.entries
   pub by_object : IsIndex object_name listed.items objects.entries
-  pub by_group : IsIndex group_name listed.items groups.entries
   pub distinct : AreDistinct listed.items
   pub labels_next : labels.next ≡ listed.next
   pub objects_next : objects.next ≡ listed.next
-  pub groups_next : groups.next ≡ listed.next

@@ -1,4 +1,3 @@
-pub mod Ending
 pub mod Indexed
 pub mod Names
 pub mod Table

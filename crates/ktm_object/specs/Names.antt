@@ -1,11 +1,10 @@
 -- The names under which the handles are sorted. No public clause cites this module.
-use Rattle.std.specs.Prelude.{ℕ, ◌/◌, ◌%◌, List, [], ◌∷◌, Option, Some, None}
-use Rattle.ktm_base.specs.declared.id.Id.{Id}
+use Rattle.std.specs.Prelude.{ℕ, ◌/◌, ◌%◌, List, [], ◌∷◌}
 use Rattle.ktm_base.specs.declared.id.Label.{Label}
 use Rattle.ktm_base.specs.declared.id.Pid.{Pid}
 use Rattle.ktm_types.specs.declared.object.Object.{Object}
 use Rattle.ktm_types.specs.declared.object.Object.TheVariants.{Transaction, Manager, Enlistment, File}
-use Rattle.ktm_object.specs.declared.entry.Entry.{Entry}
+use Rattle.ktm_types.specs.declared.object.Handle.{Handle}
 use Rattle.ktm_object.specs.declared.name.Owner.{Owner}
 use Rattle.ktm_links.specs.Numbers.{number_bytes}
 
@@ -24,19 +23,10 @@ object_owner (Manager id) = record { kind = 2; boot = id.boot; number = id.numbe
 object_owner (Enlistment id) = record { kind = 3; boot = id.boot; number = id.number }
 object_owner (File number) = record { kind = 4; boot = 0; number = number }
 
--- the handles of one group stand together
-abbrev pub group_owner : Option Id → Owner
-group_owner None = record { kind = 0; boot = 0; number = 0 }
-group_owner (Some id) = record { kind = 1; boot = id.boot; number = id.number }
-
 -- by which name the handle stands under its label
-abbrev pub label_name : Entry → List ℕ
-label_name e = label_bytes e.handle.process e.handle.label
+abbrev pub label_name : Handle → List ℕ
+label_name e = label_bytes e.process e.label
 
 -- by which name it stands under its object
-abbrev pub object_name : Entry → List ℕ
-object_name e = owner_bytes (object_owner e.handle.object) (label_name e)
-
--- by which name it stands under its group
-abbrev pub group_name : Entry → List ℕ
-group_name e = owner_bytes (group_owner e.group) (label_name e)
+abbrev pub object_name : Handle → List ℕ
+object_name e = owner_bytes (object_owner e.object) (label_name e)

@@ -1,9 +1,9 @@
 //! The handles of all processes: which process holds which object under which label.
 #![tactic(auto)]
 
-mod entry;
+mod closed;
 mod handles;
 mod name;
 
-pub use entry::{Closed, Entry};
+pub use closed::Closed;
 pub use handles::Handles;

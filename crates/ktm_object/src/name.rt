@@ -1,10 +1,9 @@
 // Names of handles, by which they are sorted.
 ghost use Rattle.std.specs.Prelude.{◌≡◌, []};
-ghost use Rattle.ktm_object.specs.Ending.{after};
-ghost use Rattle.ktm_object.specs.Names.{label_bytes, owner_bytes, object_owner, group_owner};
+ghost use Rattle.ktm_object.specs.Names.{label_bytes, owner_bytes, object_owner};
 
-use ktm_base::{Id, Label, Pid};
-use ktm_types::{Handle, Object};
+use ktm_base::{Label, Pid};
+use ktm_types::Object;
 
 /// The name of a handle by its label: the process, and then the label.
 pub(crate) type LabelName = [u8; 3];
@@ -12,7 +11,7 @@ pub(crate) type LabelName = [u8; 3];
 /// The name of a handle by an owner: the owner, and then as by its label.
 pub(crate) type OwnerName = [u8; 12];
 
-/// What handles stand together by: an object, or a group.
+/// What handles stand together by: an object.
 #[derive(Clone, Copy)]
 pub(crate) struct Owner {
     pub(crate) kind: u8,
@@ -29,17 +28,6 @@ pub(crate) fn object_owner(object: Object) -> Owner
         Object::Manager(id) => (2, id.boot, id.number),
         Object::Enlistment(id) => (3, id.boot, id.number),
         Object::File(number) => (4, 0, number),
-    };
-    Owner { kind, boot, number }
-}
-
-/// The group, as what its handles stand together by.
-pub(crate) fn group_owner(group: Option<Id>) -> Owner
-    ensures { result ≡ group_owner group }
-{
-    let (kind, boot, number) = match group {
-        Some(id) => (1, id.boot, id.number),
-        None => (0, 0, 0),
     };
     Owner { kind, boot, number }
 }
@@ -75,13 +63,4 @@ pub(crate) fn owner_name(owner: Owner, process: Pid, label: Label) -> OwnerName
     let [kind, b3, b2, b1, b0, n3, n2, n1, n0] = owner_bytes(owner);
     let [process, high, low] = label_bytes(process, label);
     [kind, b3, b2, b1, b0, n3, n2, n1, n0, process, high, low]
-}
-
-/// Where the names begin that come after that of a handle of the group.
-pub(crate) fn after(group: Id, handle: Handle) -> [u8; 13]
-    ensures { result ≡ after group handle }
-{
-    let [kind, b3, b2, b1, b0, n3, n2, n1, n0] = owner_bytes(group_owner(Some(group)));
-    let [process, high, low] = label_bytes(handle.process, handle.label);
-    [kind, b3, b2, b1, b0, n3, n2, n1, n0, process, high, low, 0]
 }

@@ -5,7 +5,6 @@ ghost use Rattle.ktm_built.specs.Standing.{IsStandingNow};
 ghost use Rattle.ktm_memory.specs.Memory.{present_of};
 ghost use Rattle.ktm_route.specs.Route.{Routes, is_on_open_file, is_on_path, is_transacted};
 ghost use Rattle.ktm_memory.specs.declared.routed.Routed.TheVariants.{Files as OfFiles};
-ghost use Rattle.ktm_object.specs.Table.{handles_of};
 ghost use Rattle.ktm_types.specs.Values.{IsCommand};
 ghost use Rattle.ktm_types.specs.declared.object.Transaction.{Transaction as Named};
 ghost use Rattle.ktm_world.specs.Handles.{object_at};
@@ -38,8 +37,8 @@ pub(crate) fn to_open_file(
     who: Option<Id>,
     call: FileCall,
 ) -> Result<Routed, Refusal>
-    ensures ok { IfOk result (λ routed. (routed ≡ OfFiles who (Some label) call) × (object_at (handles_of memory.now.handles) process label ≡ None)) }
-    ensures err { IfErr result (λ refusal. (refusal ≡ InvalidParameter) × (is_some (object_at (handles_of memory.now.handles) process label) ≡ true)) }
+    ensures ok { IfOk result (λ routed. (routed ≡ OfFiles who (Some label) call) × (object_at memory.now.handles.handles process label ≡ None)) }
+    ensures err { IfErr result (λ refusal. (refusal ≡ InvalidParameter) × (is_some (object_at memory.now.handles.handles process label) ≡ true)) }
 {
     if object_at(memory, process, label).is_some() {
         return Err(Refusal::InvalidParameter);

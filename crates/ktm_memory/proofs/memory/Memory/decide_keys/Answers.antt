@@ -1,5 +1,4 @@
 use Rattle.std.proofs.Common.{ap, ◌∙◌}
-use Rattle.ktm_object.specs.Table.{handles_of}
 use Rattle.ktm_world.specs.KeyCalls.{KeyOutcome}
 use Rattle.ktm_world.specs.Uses.{key_room}
 use Rattle.kv_rm.specs.Calls.{is_refused, key_outcome}
@@ -15,7 +14,7 @@ returns-clause-ok c = λ events holds.
     let outcome = ap (λ r. key_outcome c.self.inside.keys.keys r c.args.who c.args.call) c.key_room-room.ensures ∙ ap (λ m. key_outcome m.keys.keys room c.args.who c.args.call) c.self.view_is in
     rw (c.only.ensures.reply, c.only.ensures.settlement) (keys_decided (held c.args.self.now) _ (key_outcome c.args.self.now.keys.keys room c.args.who c.args.call) c.in_ok-call.field-0 events c.requires.built
     (c.in_ok-call.ensures.reply ∙ ap (λ (o : KeyOutcome). o.reply) outcome)
-    (ap (λ k. record { is_up = c.self.inside.is_up; journal = c.self.inside.journal; handles = handles_of c.self.inside.handles; boot = c.self.inside.tm.boot; transactions = c.self.inside.tm.now; files = files_of c.self.inside.files; next_node = c.self.inside.next_node; keys = k }) (c.in_ok-call.ensures.keys ∙ ap (λ (o : KeyOutcome). record c.self.inside.keys.keys { own = o.own }) outcome)
+    (ap (λ k. record { is_up = c.self.inside.is_up; journal = c.self.inside.journal; handles = c.self.inside.handles.handles; boot = c.self.inside.tm.boot; transactions = c.self.inside.tm.now; files = files_of c.self.inside.files; next_node = c.self.inside.next_node; keys = k }) (c.in_ok-call.ensures.keys ∙ ap (λ (o : KeyOutcome). record c.self.inside.keys.keys { own = o.own }) outcome)
     ∙ ap (λ m. record (held m) { keys = record m.keys.keys { own = (key_outcome c.args.self.now.keys.keys room c.args.who c.args.call).own } }) c.self.view_is)
     holds)
 

@@ -1,5 +1,4 @@
 use Rattle.std.proofs.Common.{◌≤◌, Some, ap, sym, subst, ◌∙◌}
-use Rattle.ktm_object.specs.Table.{handles_of}
 use Rattle.ktm_world.specs.FileOutcome.{files_after}
 use Rattle.txf_opens.specs.Acts.{open_of}
 use Rattle.std.specs.Option.{option_map}
@@ -16,7 +15,7 @@ returns-clause-ok c = λ events holds.
     let after : MemoryState = record { is_up = c.self.inside.is_up; journal = c.self.inside.journal; handles = c.self.inside.handles; tm = c.self.inside.tm; files = c.keep.new.self; next_node = c.self.inside.next_node; keys = c.self.inside.keys } in
     let reply = c.replace-reply.ensures.value ∙ ap (λ p. p.reply) c.plan.view_is in
     rw (c.binding.ensures, reply) (own_decided (held c.args.self.now) after c.args.process c.args.id c.args.label c.args.plan c.plan.inside.opened events c.requires.built
-    (ap (λ files. record { is_up = c.self.inside.is_up; journal = c.self.inside.journal; handles = handles_of c.self.inside.handles; boot = c.self.inside.tm.boot; transactions = c.self.inside.tm.now; files = files; next_node = c.self.inside.next_node; keys = c.self.inside.keys.keys }) c.in_ok-keep.ensures.done
+    (ap (λ files. record { is_up = c.self.inside.is_up; journal = c.self.inside.journal; handles = c.self.inside.handles.handles; boot = c.self.inside.tm.boot; transactions = c.self.inside.tm.now; files = files; next_node = c.self.inside.next_node; keys = c.self.inside.keys.keys }) c.in_ok-keep.ensures.done
     ∙ ap (λ (h : Held). record h { files = files_after h.files (Some c.args.id) (record { reply = c.plan.inside.reply; change = c.plan.inside.change; first = c.plan.inside.first; opened = option_map open_of c.plan.inside.opened }) }) then
     ∙ ap (λ p. record (held c.args.self.now) { files = files_after (held c.args.self.now).files (Some c.args.id) p }) c.plan.view_is)
     (ap (λ p. p.opened) c.plan.view_is)

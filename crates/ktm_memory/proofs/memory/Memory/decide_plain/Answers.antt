@@ -1,6 +1,5 @@
 use Rattle.std.proofs.Common.{◌≤◌, None, ap, sym, subst, ◌∙◌, ◌≡◌, false}
 use Rattle.std.specs.Option.{option_map}
-use Rattle.ktm_object.specs.Table.{handles_of}
 use Rattle.ktm_types.specs.declared.reply.Reply.TheVariants.{Done}
 use Rattle.ktm_world.specs.Decide.{events_of}
 use Rattle.ktm_world.specs.FileOutcome.{FileOutcome}
@@ -21,7 +20,7 @@ returns-clause-ok c =
     let reserved = ap held c.self-2.view_is ∙ c.in_ok-reserve_for.ensures.same in
     let after : MemoryState = record { is_up = c.self-2.inside.is_up; journal = c.self-2.inside.journal; handles = c.self-2.inside.handles; tm = c.self-2.inside.tm; files = c.prepare.new.self; next_node = c.self-2.inside.next_node; keys = c.self-2.inside.keys } in
     let same =
-    ap (λ (files : FilesNow). record { is_up = c.self-2.inside.is_up; journal = c.self-2.inside.journal; handles = handles_of c.self-2.inside.handles; boot = c.self-2.inside.tm.boot; transactions = c.self-2.inside.tm.now; files = files; next_node = c.self-2.inside.next_node; keys = c.self-2.inside.keys.keys }) c.in_ok-ready.ensures.same
+    ap (λ (files : FilesNow). record { is_up = c.self-2.inside.is_up; journal = c.self-2.inside.journal; handles = c.self-2.inside.handles.handles; boot = c.self-2.inside.tm.boot; transactions = c.self-2.inside.tm.now; files = files; next_node = c.self-2.inside.next_node; keys = c.self-2.inside.keys.keys }) c.in_ok-ready.ensures.same
     ∙ reserved in
     plain_decided (held c.args.self.now) after c.args.process c.args.label c.args.plan c.replace-reply.result _ c.in_ok-ready.ready c.record_plan.new.events c.requires.built
     (c.replace-reply.ensures.value ∙ ap (λ (p : FileOutcome). p.reply) plan)

@@ -1,7 +1,6 @@
 use Rattle.std.proofs.Common.{◌≡◌, length}
 use Rattle.ktm_built.specs.Standing.{IsBuiltNow}
 use Rattle.ktm_memory.specs.Memory.{present_of}
-use Rattle.ktm_object.specs.Table.{handles_of}
 use Rattle.ktm_world.specs.HandleCalls.{exit, labels_of}
 use Rattle.ktm_world.specs.Outcome.{apply}
 use Rattle.ktm_memory.proofs.memory.Memory.exit.Given as goal
@@ -14,4 +13,4 @@ invariant-loop-closed l = record {
 }
 
 abbrev pub decreases-loop-closed : goal.decreases-loop-closed
-decreases-loop-closed l = length (labels_of (handles_of l.self.handles) l.process)
+decreases-loop-closed l = length (labels_of l.self.handles.handles l.process)

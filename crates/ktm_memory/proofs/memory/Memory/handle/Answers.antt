@@ -1,5 +1,4 @@
 use Rattle.std.proofs.Common.{List, ap, refl, sym, ◌∙◌}
-use Rattle.ktm_object.specs.Table.{handles_of}
 use Rattle.ktm_types.specs.declared.object.Handle.{Handle}
 use Rattle.ktm_world.specs.HandleCalls.{duplicate_handle}
 use Rattle.ktm_world.specs.Outcome.{apply}
@@ -20,5 +19,5 @@ pub returns-in-Duplicate-clause-now : goal.returns-in-Duplicate-clause-now
 returns-in-Duplicate-clause-now c =
     let h = held (record { is_up = c.self-in-Duplicate.inside.is_up; journal = c.self-in-Duplicate.inside.journal; handles = c.self-in-Duplicate.inside.handles; tm = c.self-in-Duplicate.inside.tm; files = c.self-in-Duplicate.inside.files; next_node = c.self-in-Duplicate.inside.next_node; keys = c.self-in-Duplicate.inside.keys }) in
     rw c.in-Duplicate.is
-    (duplicated_leaves (now_of h) c.args.process c.in-Duplicate.label c.in-Duplicate.from c.in-Duplicate.source (handles_of c.duplicate.new.self) refl c.duplicate.ensures.handles
+    (duplicated_leaves (now_of h) c.args.process c.in-Duplicate.label c.in-Duplicate.from c.in-Duplicate.source c.duplicate.new.self.handles refl c.duplicate.ensures.handles
     ∙ ap (λ m. apply (present_of m) (duplicate_handle (present_of m) c.args.process c.in-Duplicate.label c.in-Duplicate.from c.in-Duplicate.source)) c.self-in-Duplicate.view_is)

@@ -1,106 +1,87 @@
-use Rattle.std.proofs.Common.{◌≡◌, ◌-◌, ◌^◌, Some, None, not, map, ◌∙◌, sym, ap}
+use Rattle.std.proofs.Common.{◌≡◌, ◌-◌, ◌^◌, Some, None, not, ◌∙◌, sym, ap}
 use Rattle.std.specs.Option.{option_map}
 use Rattle.ktm_world.specs.HandleCalls.{has_handle, without_handle}
-use Rattle.ktm_object.specs.declared.entry.Entry.{Entry}
-use Rattle.ktm_object.specs.Table.{HandleTable, closing, entry_at, handle_of, without_entry}
+use Rattle.ktm_types.specs.declared.object.Handle.{Handle}
+use Rattle.ktm_object.specs.Table.{HandleTable, closing, handle_at}
 use Rattle.ktm_links.specs.Mapped.{key_under}
 use Rattle.ktm_links.proofs.offered.Indexes.{AreDistinct-without, IsIndex-without}
-use Rattle.ktm_object.specs.Names.{label_bytes, label_name, object_name, object_owner, owner_bytes, group_name, group_owner}
-use Rattle.ktm_object.proofs.Closing.{values_of-without, handles-without, label_name-found, name_taken, not_flip, spare_back, spare_rises, without_entry-absent}
-use Rattle.ktm_object.proofs.Labels.{entry_at-absent, entry_at-index, object_at-entry}
+use Rattle.ktm_object.specs.Names.{label_bytes, label_name, object_name, object_owner, owner_bytes}
+use Rattle.ktm_object.proofs.Closing.{values_of-without, label_name-found, name_taken, not_flip, spare_back, spare_rises, without-absent}
+use Rattle.ktm_object.proofs.Labels.{handle_at-absent, handle_at-index, object_at-entry}
 use Rattle.ktm_object.proofs.Owners.{has_handle-told}
 use Rattle.ktm_object.proofs.handles.Handles.close.Goals as goal
 
-pub returns-in_default-clause-entries : goal.returns-in_default-clause-entries
-returns-in_default-clause-entries c =
-    rw (← c.self.view_is)
-    (without_entry-absent _ c.args.process c.args.label
-    (entry_at-absent _ _ _ _ c.self.invariant.by_label (rw c.label_bytes-bytes.ensures at c.in_default.ensures)))
-
 pub returns-in_default-clause-handles : goal.returns-in_default-clause-handles
 returns-in_default-clause-handles c =
-    ap (map handle_of) (returns-in_default-clause-entries c) ∙ handles-without c.args.self.now.entries c.args.process c.args.label
+    rw (← c.self.view_is)
+    (without-absent _ c.args.process c.args.label
+    (handle_at-absent _ _ _ _ c.self.invariant.by_label (rw c.label_bytes-bytes.ensures at c.in_default.ensures)))
 
 pub returns-in_default-clause-closed : goal.returns-in_default-clause-closed
 returns-in_default-clause-closed c =
-    let handles = map handle_of c.args.self.now.entries in
-    let none : None ≡ entry_at c.args.self.now.entries c.args.process c.args.label =
-    rw (← c.self.view_is) (entry_at-absent _ _ _ _ c.self.invariant.by_label (rw c.label_bytes-bytes.ensures at c.in_default.ensures)) in
+    let handles = c.args.self.now.handles in
+    let none : None ≡ handle_at c.args.self.now.handles c.args.process c.args.label =
+    rw (← c.self.view_is) (handle_at-absent _ _ _ _ c.self.invariant.by_label (rw c.label_bytes-bytes.ensures at c.in_default.ensures)) in
     ap (λ o. option_map (closing handles c.args.process c.args.label) o)
-    (ap (λ o. option_map (λ (e : Entry). e.handle.object) o) none ∙ object_at-entry c.args.self.now.entries c.args.process c.args.label)
+    (ap (λ o. option_map (λ (e : Handle). e.object) o) none ∙ object_at-entry c.args.self.now.handles c.args.process c.args.label)
 
 pub invariant_of-self : goal.invariant_of-self
 invariant_of-self c =
     let name =
-    label_name-found _ _ c.args.process c.args.label c.in-Some.key c.in-Some-unlink.entry c.self.invariant.by_label (rw c.label_bytes-bytes.ensures at c.in-Some.ensures)
+    label_name-found _ _ c.args.process c.args.label c.in-Some.key c.in-Some-unlink.handle c.self.invariant.by_label (rw c.label_bytes-bytes.ensures at c.in-Some.ensures)
     c.in-Some-unlink.ensures.value in
     let gone = c.in-Some-unlink.ensures.gone.gone in
     record {
       by_label =
-          IsIndex-without label_name _ _ _ _ c.in-Some.key c.in-Some-unlink.entry _ c.self.invariant.by_label
+          IsIndex-without label_name _ _ _ _ c.in-Some.key c.in-Some-unlink.handle _ c.self.invariant.by_label
           (c.label_bytes-bytes.ensures ∙ sym name)
           (sym c.in-Some-unlink.ensures.value) c.in-Some-unlink.ensures.items gone c.in-Some-unlink.ensures.others
           c.remove-other.ensures.gone c.remove-other.ensures.other_names;
       by_object =
-          IsIndex-without object_name _ _ _ _ c.in-Some.key c.in-Some-unlink.entry _ c.self.invariant.by_object
+          IsIndex-without object_name _ _ _ _ c.in-Some.key c.in-Some-unlink.handle _ c.self.invariant.by_object
           (c.owner_name.ensures ∙ ap (λ o. owner_bytes o (label_bytes c.args.process c.args.label)) c.object_owner-object.ensures
-          ∙ ap (owner_bytes (object_owner c.in-Some-unlink.entry.handle.object)) (sym name))
+          ∙ ap (owner_bytes (object_owner c.in-Some-unlink.handle.object)) (sym name))
           (sym c.in-Some-unlink.ensures.value) c.in-Some-unlink.ensures.items gone c.in-Some-unlink.ensures.others
           c.remove-other-2.ensures.gone c.remove-other-2.ensures.other_names;
-      by_group =
-          IsIndex-without group_name _ _ _ _ c.in-Some.key c.in-Some-unlink.entry _ c.self.invariant.by_group
-          (c.owner_name-2.ensures ∙ ap (λ o. owner_bytes o (label_bytes c.args.process c.args.label)) c.group_owner-group.ensures
-          ∙ ap (owner_bytes (group_owner c.in-Some-unlink.entry.group)) (sym name))
-          (sym c.in-Some-unlink.ensures.value) c.in-Some-unlink.ensures.items gone c.in-Some-unlink.ensures.others
-          c.remove-other-3.ensures.gone c.remove-other-3.ensures.other_names;
       distinct = rw c.in-Some-unlink.ensures.items (AreDistinct-without _ c.in-Some.key c.self.invariant.distinct);
       labels_next = c.remove-other.ensures.next ∙ c.self.invariant.labels_next ∙ sym c.in-Some-unlink.ensures.next;
       objects_next = c.remove-other-2.ensures.next ∙ c.self.invariant.objects_next ∙ sym c.in-Some-unlink.ensures.next;
-      groups_next = c.remove-other-3.ensures.next ∙ c.self.invariant.groups_next ∙ sym c.in-Some-unlink.ensures.next;
     }
 
-pub returns-clause-entries : goal.returns-clause-entries
-returns-clause-entries c =
+pub returns-clause-handles : goal.returns-clause-handles
+returns-clause-handles c =
     values_of-without _ _ _ c.args.process c.args.label c.in-Some.key c.self.invariant.by_label (sym (rw c.label_bytes-bytes.ensures at c.in-Some.ensures))
     c.in-Some-unlink.ensures.items c.in-Some-unlink.ensures.gone.gone
-    ∙ ap (λ (t : HandleTable). without_entry t.entries c.args.process c.args.label) c.self.view_is
-
-pub returns-clause-handles : goal.returns-clause-handles
-returns-clause-handles c = ap (map handle_of) (returns-clause-entries c) ∙ handles-without c.args.self.now.entries c.args.process c.args.label
+    ∙ ap (λ (t : HandleTable). without_handle t.handles c.args.process c.args.label) c.self.view_is
 
 pub returns-clause-closed : goal.returns-clause-closed
 returns-clause-closed c =
-    let handles = map handle_of c.args.self.now.entries in
-    let entry : Some c.in-Some-unlink.entry ≡ entry_at c.args.self.now.entries c.args.process c.args.label =
+    let handles = c.args.self.now.handles in
+    let entry : Some c.in-Some-unlink.handle ≡ handle_at c.args.self.now.handles c.args.process c.args.label =
     rw (← c.self.view_is)
     (c.in-Some-unlink.ensures.value
-    ∙ entry_at-index _ _ _ _ _ c.self.invariant.by_label (rw c.label_bytes-bytes.ensures at c.in-Some.ensures)) in
-    let object = ap (λ o. option_map (λ (e : Entry). e.handle.object) o) entry ∙ object_at-entry c.args.self.now.entries c.args.process c.args.label in
+    ∙ handle_at-index _ _ _ _ _ c.self.invariant.by_label (rw c.label_bytes-bytes.ensures at c.in-Some.ensures)) in
+    let object = ap (λ o. option_map (λ (e : Handle). e.object) o) entry ∙ object_at-entry c.args.self.now.handles c.args.process c.args.label in
     let told =
-    has_handle-told _ _ c.in-Some-unlink.entry.handle.object _ c.first_under-other.result (invariant_of-self c).by_object c.object_owner-object.ensures
+    has_handle-told _ _ c.in-Some-unlink.handle.object _ c.first_under-other.result (invariant_of-self c).by_object c.object_owner-object.ensures
     (rw c.owner_bytes.ensures at c.first_under-other.ensures.first) (rw c.owner_bytes.ensures at c.first_under-other.ensures.none) in
-    let last : c.is_none.result ≡ not (has_handle (without_handle handles c.args.process c.args.label) c.in-Some-unlink.entry.handle.object) =
+    let last : c.is_none.result ≡ not (has_handle (without_handle handles c.args.process c.args.label) c.in-Some-unlink.handle.object) =
     not_flip _ _ c.is_none.ensures
-    ∙ ap not (told ∙ ap (λ hs. has_handle hs c.in-Some-unlink.entry.handle.object) (returns-clause-handles c)) in
-    ap (λ b. Some (record { label = c.args.label; object = c.in-Some-unlink.entry.handle.object; is_last = b })) last
+    ∙ ap not (told ∙ ap (λ hs. has_handle hs c.in-Some-unlink.handle.object) (returns-clause-handles c)) in
+    ap (λ b. Some (record { label = c.args.label; object = c.in-Some-unlink.handle.object; is_last = b })) last
     ∙ ap (λ o. option_map (closing handles c.args.process c.args.label) o) object
 
 pub returns-clause-spare : goal.returns-clause-spare
 returns-clause-spare c =
     let there = c.in-Some-unlink.ensures.value in
     let name =
-    label_name-found _ _ c.args.process c.args.label c.in-Some.key c.in-Some-unlink.entry c.self.invariant.by_label (rw c.label_bytes-bytes.ensures at c.in-Some.ensures)
+    label_name-found _ _ c.args.process c.args.label c.in-Some.key c.in-Some-unlink.handle c.self.invariant.by_label (rw c.label_bytes-bytes.ensures at c.in-Some.ensures)
     there in
     let object : key_under c.self.inside.by_object.entries c.owner_name.result ≡ Some c.in-Some.key =
-    name_taken object_name _ _ c.in-Some.key c.in-Some-unlink.entry _ c.self.invariant.by_object
+    name_taken object_name _ _ c.in-Some.key c.in-Some-unlink.handle _ c.self.invariant.by_object
     (c.owner_name.ensures ∙ ap (λ o. owner_bytes o (label_bytes c.args.process c.args.label)) c.object_owner-object.ensures
-    ∙ ap (owner_bytes (object_owner c.in-Some-unlink.entry.handle.object)) (sym name)) there in
-    let group : key_under c.self.inside.by_group.entries c.owner_name-2.result ≡ Some c.in-Some.key =
-    name_taken group_name _ _ c.in-Some.key c.in-Some-unlink.entry _ c.self.invariant.by_group
-    (c.owner_name-2.ensures ∙ ap (λ o. owner_bytes o (label_bytes c.args.process c.args.label)) c.group_owner-group.ensures
-    ∙ ap (owner_bytes (group_owner c.in-Some-unlink.entry.group)) (sym name)) there in
+    ∙ ap (owner_bytes (object_owner c.in-Some-unlink.handle.object)) (sym name)) there in
     rw (← c.self.view_is)
-    (spare_rises _ _ _ _ _ _ _ _ (2 ^ 64 - 1 - c.self.inside.entries.next) c.in-Some-unlink.ensures.spare
+    (spare_rises _ _ _ _ _ _ (2 ^ 64 - 1 - c.self.inside.listed.next) c.in-Some-unlink.ensures.spare
     (spare_back _ c.in-Some.key _ _ _ _ (c.remove-other.ensures.value ∙ sym c.in-Some.ensures) c.self.invariant.labels_next c.remove-other.ensures.spare)
-    (spare_back _ c.in-Some.key _ _ _ _ (c.remove-other-2.ensures.value ∙ object) c.self.invariant.objects_next c.remove-other-2.ensures.spare)
-    (spare_back _ c.in-Some.key _ _ _ _ (c.remove-other-3.ensures.value ∙ group) c.self.invariant.groups_next c.remove-other-3.ensures.spare))
+    (spare_back _ c.in-Some.key _ _ _ _ (c.remove-other-2.ensures.value ∙ object) c.self.invariant.objects_next c.remove-other-2.ensures.spare))
