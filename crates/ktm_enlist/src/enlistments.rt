@@ -114,6 +114,7 @@ impl Enlistments {
     pub fn reserve(&mut self) -> Result<(), NoMemory>
         ensures room { OnOk result (1 ≤ self.new.room) }
         ensures enough { 1 ≤ self.old.room → IsOk result }
+        ensures grows { self.old.room ≤ self.new.room }
         ensures enlistments { self.new.enlistments ≡ self.old.enlistments }
     {
         if self.items.len() >= MOST {

@@ -96,6 +96,7 @@ impl Managers {
     pub fn reserve(&mut self) -> Result<(), NoMemory>
         ensures room { OnOk result (1 ≤ self.new.room) }
         ensures enough { 1 ≤ self.old.room → IsOk result }
+        ensures grows { self.old.room ≤ self.new.room }
         ensures managers { KeepsManagers self.old self.new }
     {
         self.listed.reserve(1)?;
