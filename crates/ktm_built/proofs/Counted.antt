@@ -14,7 +14,7 @@ use Rattle.ktm_world.specs.Uses.{changes_waiting}
 use Rattle.ktm_world.specs.World.{World, after, present}
 use Rattle.ktm_world.proofs.offered.Durables.{stand-units}
 use Rattle.ktm_laws.specs.Running.{IsRunning, LawfulWorldsLaw}
-use Rattle.ktm_records.proofs.offered.NoMore.{fits-within}
+use Rattle.ktm_records.proofs.offered.NoMore.{Fits, fits-within}
 use Rattle.txf_laws.specs.FileEffects.{AreVersionsFew, CanBeCounted}
 use Rattle.ktm_built.specs.Standing.{IsStanding}
 use Rattle.ktm_built.proofs.Versions.{counted_works}
@@ -27,15 +27,16 @@ units_now w run small =
     omega (arith, same, comes)
 
 -- what is in use can be counted, since no limit is passed
-counted_now : (w : World) → IsRunning w → w.base.units ≤ MOST_UNITS → CanBeCounted (present w).files
+pub counted_fits : (x : Present) → Fits x → x.recorded.units ≤ MOST_UNITS → CanBeCounted x.files
 unfolding changes_waiting
-counted_now w run small =
-    let fits = fits-within (present w) run.now.within in
-    let units = units_now w run small in
+counted_fits x fits units =
     let a = fits.units in
     let b = fits.nodes in
     let c = fits.changes in
     record { units = omega (arith, a, units); nodes = omega (arith, b, units); names = omega (arith, c, units) }
+
+counted_now : (w : World) → IsRunning w → w.base.units ≤ MOST_UNITS → CanBeCounted (present w).files
+counted_now w run small = counted_fits (present w) (fits-within (present w) run.now.within) (units_now w run small)
 
 -- there are no more versions than bytes in the log
 pub few_versions : (w : World) → IsStanding w → AreVersionsFew (present w).files.versions

@@ -15,7 +15,6 @@ use Rattle.ktm_world.specs.Outcome.{Outcome, apply, is_full, refuse_or}
 use Rattle.ktm_world.specs.Present.{Present}
 use Rattle.ktm_records.specs.FileCallsMade.{file_call, in_caller, on_open}
 use Rattle.ktm_built.specs.Laws.{EffectsLaw}
-use Rattle.ktm_built.specs.Standing.{IsBuiltNow}
 
 -- the outcome is what the machine makes of a call on files, which may open a file under a label
 abbrev pub IsOfFiles : Present → Pid → Outcome → Option Id → FileOutcome → Type 0
@@ -82,9 +81,9 @@ pub made_events : (x : Present) (process : Pid) (e : Outcome) (who : Option Id) 
 made_events x process e who o (inl is) = ap (λ (p : Outcome). p.events) is
 made_events x process e who o (inr (label, is)) = ap (λ (p : Outcome). p.events) is ∙ opening_events x process label who o
 
-pub made_files : EffectsLaw → (x : Present) (process : Pid) (e : Outcome) (who : Option Id) (o : FileOutcome) → IsBuiltNow x → IsOfFiles x process e who o → (apply x e).files ≡ files_after x.files who o
-made_files law x process e who o built (inl is) = ap (λ (p : Outcome). (apply x p).files) is ∙ ap (λ (y : Present). y.files) (law.files x who o built)
-made_files law x process e who o built (inr (label, is)) = ap (λ (p : Outcome). (apply x p).files) is ∙ ap (λ (y : Present). y.files) (law.opens x process label who o built)
+pub made_files : EffectsLaw → (x : Present) (process : Pid) (e : Outcome) (who : Option Id) (o : FileOutcome) → IsOfFiles x process e who o → (apply x e).files ≡ files_after x.files who o
+made_files law x process e who o (inl is) = ap (λ (p : Outcome). (apply x p).files) is ∙ ap (λ (y : Present). y.files) (law.files x who o)
+made_files law x process e who o (inr (label, is)) = ap (λ (p : Outcome). (apply x p).files) is ∙ ap (λ (y : Present). y.files) (law.opens x process label who o)
 
 -- what finds room in the log is decided
 pub decides : (x : Present) (process : Pid) (command : Command) (e : Outcome) → with_room x process command ≡ e → is_full x.machine.left e.events ≡ false → decide x process command ≡ e

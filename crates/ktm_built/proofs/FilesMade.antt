@@ -91,7 +91,7 @@ module _ (step : StepLaw) (law : LawfulWorldsLaw) (spelling : SpellingLaw) (form
     counted who o call fits =
         let e = with_room x process command in
         let of = room_made x process command who o unrefused call in
-        counted_after step law w process command e (files_after x.files who o) standing (decides x process command e refl (ap (λ es. is_full x.machine.left es) (made_events x process e who o of) ∙ fits)) (made_files forms x process e who o standing.built.now of)
+        counted_after step law w process command e (files_after x.files who o) standing (decides x process command e refl (ap (λ es. is_full x.machine.left es) (made_events x process e who o of) ∙ fits)) (made_files forms x process e who o of)
 
     spelled : (who : Option Id) (o : FileOutcome) → file_call x process command ≡ Some (who, o) → is_full x.machine.left (events_of who o.change) ≡ false → All IsSpellableEvent (events_of who o.change)
     spelled who o call fits =

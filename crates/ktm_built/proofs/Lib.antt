@@ -1,7 +1,3 @@
-mod Alone
-mod FileCalls
-mod QuietCalls
-mod CommitLeaves
 mod Logs
 mod Opened
 mod Worlds

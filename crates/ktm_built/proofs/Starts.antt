@@ -1,4 +1,4 @@
--- A machine that starts from a state of files and keys alone stands.
+-- A machine that starts from a built state stands.
 use Rattle.std.proofs.Common.{◌≡◌, ℕ, ◌+◌, ◌-◌, ◌≤◌, ◌<◌, ◌^◌, [], ◌∷◌, refl, ◌∙◌, ap, arith}
 use Rattle.std.proofs.lemmas.List.Sums.{sum_by-cons}
 use Rattle.ktm_base.specs.declared.limits.TheConstants.{MOST_UNITS}
@@ -14,13 +14,12 @@ use Rattle.ktm_limits.specs.LimitsKept.{LimitsLaw}
 use Rattle.ktm_laws.specs.Notes.{NotesLaw}
 use Rattle.ktm_states.specs.OwnGroup.{OwnGroupLaw}
 use Rattle.ktm_records.specs.SoundWorlds.{SoundWorldsLaw}
-use Rattle.ktm_records.specs.Spelling.{SpellingLaw}
 use Rattle.ktm_laws.proofs.offered.Starts.{running-opened}
 use Rattle.ktm_built.specs.Laws.{FreshLaw}
 use Rattle.ktm_built.specs.Standing.{IsStandingNow, fresh}
 use Rattle.ktm_built.proofs.Opened.{opened_is, stands_opened}
 
-module _ (states : GoodStatesLaw) (own_groups : OwnGroupLaw) (worlds : SoundWorldsLaw) (agrees : AgreeingLaw) (limits : LimitsLaw) (notes : NotesLaw) (spelling : SpellingLaw) where
+module _ (states : GoodStatesLaw) (own_groups : OwnGroupLaw) (worlds : SoundWorldsLaw) (agrees : AgreeingLaw) (limits : LimitsLaw) (notes : NotesLaw) where
   -- the world has a log with as much room as the group of the restart takes, and is left
   fresh_stands : (s : Durable) (left : ℕ) → IsGoodState s → IsBuiltState s → s.units ≤ MOST_UNITS → s.events + left + frame_size (own_group s) < 2 ^ 63 → s.boots + left + frame_size (own_group s) < 2 ^ 32 → IsStandingNow (fresh s left)
   fresh_stands s left good state small events boots =
@@ -30,7 +29,7 @@ module _ (states : GoodStatesLaw) (own_groups : OwnGroupLaw) (worlds : SoundWorl
       let same : left + frame - 0 - frame ≡ left = omega arith in
       record {
         world = opened s (left + frame) [];
-        stands = stands_opened spelling s (left + frame) [] state small refl state
+        stands = stands_opened s (left + frame) [] state small refl state
             (running-opened states own_groups worlds agrees limits notes s (left + frame) [] good (record { events = omega (arith, events); boots = omega (arith, boots) }) refl refl fits);
         is = opened_is s (left + frame) [] state ∙ ap (λ n. fresh s n) same;
       }

@@ -24,17 +24,18 @@ use Rattle.ktm_built.specs.Laws.{StandingLaw}
 use Rattle.ktm_built.specs.Standing.{IsBuiltNow, IsBuiltWorld, IsStanding, IsStandingNow}
 use Rattle.ktm_built.proofs.Logs.{groups_built, log_with_own}
 use Rattle.ktm_built.proofs.Opened.{stands_opened}
-use Rattle.ktm_built.proofs.offered.Outcomes.{IsBuiltOutcome, decided_outcome, ticked_outcome}
+use Rattle.ktm_built.proofs.offered.Outcomes.{IsBuiltOutcome, built_applied, decided_outcome, ticked_outcome, waits_built}
+use Rattle.ktm_built.proofs.offered.RowEvents.{few_logged}
 
 module _ (step : StepLaw) (law : LawfulWorldsLaw) (spelling : SpellingLaw) where
   -- ---- an outcome
 
-  built_extend : (w : World) (o : Outcome) → IsRunning w → IsBuiltOutcome (present w) o → IsBuiltWorld w → IsBuiltWorld (extend w o)
+  built_extend : (w : World) (o : Outcome) → IsRunning w → IsBuiltOutcome o → IsBuiltWorld w → IsBuiltWorld (extend w o)
   built_extend w o run outcome built =
-      let log = groups_built w.log o.events built.log outcome.group in
-      record { base = built.base; now = subst IsBuiltNow (sym (step.0 w o run.openings)) outcome.now; log = log; logs = left-extend is_built_log w o run.kept log built.logs }
+      let log = groups_built w.log o.events built.log (waits_built o.events outcome.waits) in
+      record { base = built.base; now = subst IsBuiltNow (sym (step.0 w o run.openings)) (built_applied (present w) o built.now outcome); log = log; logs = left-extend is_built_log w o run.kept log built.logs }
 
-  stands_extend : (w : World) (o : Outcome) → IsRunning (extend w o) → IsBuiltOutcome (present w) o → AreTexts (apply (present w) o) → IsStanding w → IsStanding (extend w o)
+  stands_extend : (w : World) (o : Outcome) → IsRunning (extend w o) → IsBuiltOutcome o → AreTexts (apply (present w) o) → IsStanding w → IsStanding (extend w o)
   stands_extend w o run outcome texts standing = record {
     running = run;
     built = built_extend w o standing.running outcome standing.built;
@@ -44,19 +45,20 @@ module _ (step : StepLaw) (law : LawfulWorldsLaw) (spelling : SpellingLaw) where
         let works = sum_by-append (λ (work : Work). length work.changes) w.works o.works in
         let log = log_size-append w.log (as_groups o.events) in
         let before = standing.counted in
-        let then = outcome.few in
-        omega (arith, works, log, before, then);
+        let few = outcome.few in
+        let logged = few_logged o.events in
+        omega (arith, works, log, before, few, logged);
     begun = standing.begun;
   }
 
   stands_after : (w : World) (process : Pid) (command : Command) → IsCommand command → is_built_command command ≡ true → IsStanding w → IsStanding (after w process command)
   stands_after w process command is built standing =
-      stands_extend w (decide (present w) process command) (law.commands w process command standing.running) (decided_outcome (present w) process command built standing.built.now)
+      stands_extend w (decide (present w) process command) (law.commands w process command standing.running) (decided_outcome (present w) process command built standing.built.now.ordinary)
       (spelling.stay (present w) process command is standing.texts) standing
 
   stands_later : (w : World) (ms : ℕ) → IsStanding w → IsStanding (extend w (decide_tick (present w) ms))
   stands_later w ms standing =
-      stands_extend w (decide_tick (present w) ms) (law.ticks w ms standing.running) (ticked_outcome (present w) ms standing.built.now) (spelling.stay_later (present w) ms standing.texts) standing
+      stands_extend w (decide_tick (present w) ms) (law.ticks w ms standing.running) (ticked_outcome (present w) ms standing.built.now.ordinary) (spelling.stay_later (present w) ms standing.texts) standing
 
   -- ---- losses of power
 
@@ -68,7 +70,7 @@ module _ (step : StepLaw) (law : LawfulWorldsLaw) (spelling : SpellingLaw) where
         running = run;
         built = record {
           base = standing.built.base;
-          now = record { managers = now.managers; enlistments = now.enlistments; last_manager = now.last_manager; last_enlistment = now.last_enlistment; unrecorded = now.unrecorded; recorded = now.recorded };
+          now = record { ordinary = now.ordinary; recorded = now.recorded };
           log = standing.built.log;
           logs = logs;
         };
@@ -78,14 +80,14 @@ module _ (step : StepLaw) (law : LawfulWorldsLaw) (spelling : SpellingLaw) where
         begun = standing.begun;
       }
 
-  stands_interrupted : (w : World) (o : Outcome) → IsRunning (interrupted_by w o) → IsBuiltOutcome (present w) o → IsStanding w → IsStanding (interrupted_by w o)
+  stands_interrupted : (w : World) (o : Outcome) → IsRunning (interrupted_by w o) → IsBuiltOutcome o → IsStanding w → IsStanding (interrupted_by w o)
   stands_interrupted w o run outcome standing =
-      stands_down w _ run (left-with is_built_log w.log w.kept o.events standing.running.kept standing.built.log (groups_built w.log o.events standing.built.log outcome.group)) standing
+      stands_down w _ run (left-with is_built_log w.log w.kept o.events standing.running.kept standing.built.log (groups_built w.log o.events standing.built.log (waits_built o.events outcome.waits))) standing
 
   stands_restarted : (w : World) → IsStanding w → IsStanding (interrupted_restart w)
   stands_restarted w standing =
       stands_down w _ (law.interrupted_restarts w standing.running)
-      (left-restart is_built_log w (λ log built. log_with_own log (stand w.base log) built (built_stand w.base log standing.built.base built)) (possible_logs w) standing.built.logs) standing
+      (left-restart is_built_log w (λ log built. log_with_own log (stand w.base log) built) (possible_logs w) standing.built.logs) standing
 
   -- ---- what is so now
 
@@ -109,13 +111,13 @@ module _ (step : StepLaw) (law : LawfulWorldsLaw) (spelling : SpellingLaw) where
     ticks = stands_later;
     crashes = λ w standing. stands_down w (possible_logs w) (law.crashes w standing.running) standing.built.logs standing;
     interrupted_commands = λ w process command is built standing.
-        stands_interrupted w (decide (present w) process command) (law.interrupted_commands w process command standing.running) (decided_outcome (present w) process command built standing.built.now) standing;
-    interrupted_ticks = λ w ms standing. stands_interrupted w (decide_tick (present w) ms) (law.interrupted_ticks w ms standing.running) (ticked_outcome (present w) ms standing.built.now) standing;
+        stands_interrupted w (decide (present w) process command) (law.interrupted_commands w process command standing.running) (decided_outcome (present w) process command built standing.built.now.ordinary) standing;
+    interrupted_ticks = λ w ms standing. stands_interrupted w (decide_tick (present w) ms) (law.interrupted_ticks w ms standing.running) (ticked_outcome (present w) ms standing.built.now.ordinary) standing;
     interrupted_restarts = stands_restarted;
     full_restarts = λ w log finds standing.
         stands_down w (log ∷ []) (law.full_restarts w log finds standing.running) (and_from _ _ (contains-passes is_built_log (possible_logs w) log standing.built.logs finds.possible) refl) standing;
     restarts = λ base room log good state small roomy grammatical built applies space.
-        stands_opened spelling base room log state small built (built_stand base log state built) (law.begins base room log good roomy grammatical applies space);
+        stands_opened base room log state small built (built_stand base log state built) (law.begins base room log good roomy grammatical applies space);
     commands_now = stands_after_now;
     ticks_now = stands_later_now;
   }

@@ -1,4 +1,4 @@
--- What outcomes make of what is so now, where there are no resource managers.
+-- What outcomes make of what is so now.
 use Rattle.std.specs.Prelude.{◌≡◌, ℕ, ◌+◌, ◌-◌, ◌&&◌, not, false, List, [], ◌∷◌, filter, length, Option, Some, None}
 use Rattle.ktm_base.specs.declared.id.Id.{Id}
 use Rattle.ktm_base.specs.declared.id.Label.{Label}
@@ -24,12 +24,13 @@ use Rattle.ktm_world.specs.Present.{Present}
 use Rattle.ktm_world.specs.Phases.{event_if}
 use Rattle.ktm_world.specs.TransactionCalls.{aborted_by, is_due}
 
--- ---- what records and commits nothing
+-- ---- what records, commits and sends nothing
 
--- an outcome records, commits, opens, makes and takes nothing, and the machine goes on
+-- an outcome records, commits, sends, opens, makes and takes nothing, and the machine goes on
 pub record IsSilent (o : Outcome) : Type 0 where
   pub records : o.events ≡ []
   pub commits : o.works ≡ []
+  pub sends : o.sent ≡ []
   pub opens : o.openings ≡ []
   pub makes : o.made ≡ []
   pub takes : o.took ≡ None
@@ -47,6 +48,12 @@ with_parts x o = record x {
   keys = record x.keys { own = o.own };
   handles = o.handles;
 }
+
+-- a second outcome, joined to a first, opens, makes and takes nothing
+pub record IsLater (o : Outcome) : Type 0 where
+  pub opens : o.openings ≡ []
+  pub makes : o.made ≡ []
+  pub takes : o.took ≡ None
 
 -- what is so once a transaction has rolled back, by which no enlistment asked for it
 abbrev pub rolled_back : Present → Transaction → Present

@@ -2,7 +2,6 @@
 use Rattle.std.specs.Prelude.{◌≡◌, false, true, Option, Some, None, All}
 use Rattle.ktm_base.specs.declared.id.Id.{Id}
 use Rattle.ktm_event.specs.Spelling.{IsSpellableEvent}
-use Rattle.ktm_forms.specs.Commits.{commit_events}
 use Rattle.ktm_types.specs.declared.object.Transaction.{Transaction}
 use Rattle.txf_laws.specs.Reservations.{files_committed}
 use Rattle.ktm_world.specs.Changes.{changes_apply}
@@ -14,7 +13,7 @@ use Rattle.ktm_world.specs.Outcome.{is_full}
 use Rattle.ktm_world.specs.Present.{Present}
 use Rattle.ktm_world.specs.Tree.{is_file}
 use Rattle.txf_laws.specs.FileEffects.{AreUnopened, AreVersionsFew, LeavesOthers, IsPlain, LeavesOwn, IsPlanOf, CanBeCounted}
-use Rattle.ktm_built.specs.Effects.{changes_of, settings_of}
+use Rattle.ktm_built.specs.Effects.{changes_of}
 
 -- what a plain call comes to can be made and recorded
 pub record MayMakePlain (x : Present) (o : FileOutcome) : Type 0 where
@@ -28,14 +27,13 @@ abbrev pub MayMake : Present → Option Id → FileOutcome → Type 0
 MayMake x None o = is_full x.machine.left (events_of None o.change) ≡ false → MayMakePlain x o
 MayMake x (Some id) o = IsPlanOf x.files id o
 
--- what a transaction changed and set can be committed and recorded
+-- what a transaction changed can be committed
 pub record MayCommitNow (x : Present) (t : Transaction) : Type 0 where
   pub applies : changes_apply x.files.tree (changes_of x t) ≡ true
   pub left : LeavesOthers x.files t.id
   pub unopened : AreUnopened x.files t.id
   pub counted : CanBeCounted (files_committed x.files t.id)
   pub few : AreVersionsFew x.files.versions
-  pub spelled : All IsSpellableEvent (commit_events t.id (changes_of x t) (settings_of x t))
 
 -- a plain open file that may be written is on a committed file
 abbrev pub IsOnCommitted : Present → OpenFile → Type 0

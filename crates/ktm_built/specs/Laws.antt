@@ -1,5 +1,6 @@
 -- Laws of worlds that have only what built forms make.
-use Rattle.std.specs.Prelude.{◌≡◌, ℕ, ◌+◌, ◌-◌, ◌^◌, ◌<◌, ◌≤◌, ◌&&◌, true, false, List, [], filter, find, fold, IfSome, Option, Some, None, option_and_then}
+use Rattle.std.specs.Prelude.{◌≡◌, ℕ, ◌+◌, ◌-◌, ◌^◌, ◌<◌, ◌≤◌, ◌&&◌, true, false, List, [], All, filter, find, fold, IfSome, Option, Some, None, is_some, option_and_then}
+use Rattle.std.specs.List.{list_all, list_any}
 use Rattle.ktm_base.specs.declared.limits.TheConstants.{MOST_UNITS}
 use Rattle.ktm_base.specs.declared.id.Id.{Id}
 use Rattle.ktm_base.specs.Guid.{IsId, guid_of}
@@ -8,60 +9,89 @@ use Rattle.ktm_base.specs.declared.id.ObjectKind.{ObjectKind}
 use Rattle.ktm_base.specs.declared.id.Pid.{Pid}
 use Rattle.ktm_base.specs.declared.refusal.Refusal.{Refusal}
 use Rattle.ktm_base.specs.declared.refusal.Refusal.TheVariants.{MachineDown}
-use Rattle.ktm_forms.specs.Built.{is_built_command, is_built_log, IsBuiltState}
-use Rattle.ktm_forms.specs.Commits.{commit_events}
+use Rattle.ktm_event.specs.Spelling.{IsSpellableEvent}
+use Rattle.ktm_forms.specs.Built.{is_built_command, is_built_log, waits_for_nothing, IsBuiltState}
 use Rattle.ktm_types.specs.declared.command.Command.{Command}
+use Rattle.ktm_types.specs.declared.input.PhaseInput.{PhaseInput}
 use Rattle.ktm_types.specs.declared.object.Transaction.{Transaction}
+use Rattle.ktm_types.specs.declared.reply.Reply.{Reply}
 use Rattle.ktm_types.specs.declared.reply.Reply.TheVariants.{Refused}
+use Rattle.ktm_types.specs.declared.step.Step.{Step}
 use Rattle.ktm_types.specs.Sizes.{frame_size, log_size}
 use Rattle.ktm_types.specs.Values.{IsCommand}
+use Rattle.ktm_course.specs.Moved.{is_commit}
 use Rattle.ktm_world.specs.Decide.{decide, with_room, command_effect, refusal_of, of_files, opening}
 use Rattle.ktm_world.specs.Durable.{Durable, stand, log_applies}
+use Rattle.ktm_world.specs.Enlistments.{Enlistment, Manager, enlistment_at, is_live_enlistment, manager_at}
 use Rattle.ktm_world.specs.FileOutcome.{FileOutcome}
 use Rattle.ktm_world.specs.Files.{OpenFile}
-use Rattle.ktm_world.specs.Labels.{file_named, transaction_named, transaction_tests}
+use Rattle.ktm_world.specs.Labels.{enlistment_named, file_named, manager_named, transaction_named}
 use Rattle.ktm_world.specs.Logs.{Group, as_groups}
-use Rattle.ktm_world.specs.Outcome.{Outcome, apply, first_refusal, is_full, only_reply}
+use Rattle.ktm_world.specs.Outcome.{Outcome, apply, is_full, joined, only_reply, within_log}
 use Rattle.ktm_world.specs.Present.{Present}
-use Rattle.ktm_world.specs.Transactions.{same_id, transaction_at, is_live}
-use Rattle.ktm_world.specs.TransactionCalls.{transaction_with, later, is_due, with_clock, tick}
+use Rattle.ktm_world.specs.Rows.{row}
+use Rattle.ktm_world.specs.Steps.{led, run, seen}
+use Rattle.ktm_world.specs.Transactions.{same_id, transaction_at, is_live, is_undecided}
+use Rattle.ktm_world.specs.TransactionCalls.{arrived, course_of, enlistment_with, later, is_due, manager_with, tick, transaction_in, transaction_with, with_clock}
 use Rattle.ktm_world.specs.Transcript.{Finds}
 use Rattle.ktm_world.specs.World.{World, present, extend, after, decide_tick, crashed, interrupted_by, interrupted_restart, found_full, opened, own_group}
 use Rattle.ktm_records.specs.FileCallsMade.{file_call}
+use Rattle.ktm_records.specs.Kept.{IsKept}
 use Rattle.ktm_states.specs.GoodState.{IsGoodState}
 use Rattle.ktm_laws.specs.Running.{IsRoomy, is_log_grammatical}
 use Rattle.ktm_courses.specs.SoundCourse.{IsSoundCourse}
 use Rattle.txf_laws.specs.FileEffects.{IsOrderly}
+use Rattle.ktm_built.specs.Courses.{LeadsOn, aside, with_course}
 use Rattle.ktm_built.specs.Files.{IsOnCommitted, MayCommitNow, MayMake}
-use Rattle.ktm_built.specs.Effects.{IsSilent, changes_of, rolled_back, settings_of, with_files, with_opened, with_parts}
+use Rattle.ktm_built.specs.Effects.{IsLater, IsSilent, rolled_back, with_files, with_opened, with_parts}
 use Rattle.ktm_built.specs.Standing.{IsBuiltNow, IsStandingNow, IsStanding, fresh}
 
 -- ---- what commands come to
 
--- where there are no resource managers, an outcome changes the parts that it names, and what it commits
+-- an outcome changes the parts that it names, what it commits, and what it sends
 pub record EffectsLaw : Type 0 where
-  pub silent : (x : Present) (o : Outcome) → IsBuiltNow x → IsSilent o → apply x o ≡ with_parts x o
-  pub files : (x : Present) (who : Option Id) (o : FileOutcome) → IsBuiltNow x → apply x (of_files x who o) ≡ with_files x who o
-  pub opens : (x : Present) (process : Pid) (label : Label) (who : Option Id) (o : FileOutcome) → IsBuiltNow x → apply x (opening x process label who o) ≡ with_opened x process label who o
+  pub silent : (x : Present) (o : Outcome) → IsSilent o → apply x o ≡ with_parts x o
+  pub files : (x : Present) (who : Option Id) (o : FileOutcome) → apply x (of_files x who o) ≡ with_files x who o
+  pub opens : (x : Present) (process : Pid) (label : Label) (who : Option Id) (o : FileOutcome) → apply x (opening x process label who o) ≡ with_opened x process label who o
+  -- two that are joined do what the first does, and then the second, but that the log has one group of both
+  pub joined : (x : Present) (a b : Outcome) → a.openings ≡ [] → IsLater b → aside (apply x (joined a b)) ≡ aside (apply (apply x a) b)
 
--- the passing of time rolls back the transactions that are due then, in order of creation
+-- the passing of time rolls back the transactions that are due then, in order of creation, but that the log has one group of all
 abbrev pub TimeoutLaw : Type 0
-TimeoutLaw = (x : Present) (ms : ℕ) → IsSoundCourse x → IsBuiltNow x
-    → apply x (tick x ms) ≡ fold rolled_back (with_clock x ms) (filter (is_due (later x.transactions.clock ms)) x.transactions.items)
+TimeoutLaw = (x : Present) (ms : ℕ) → IsSoundCourse x
+    → aside (apply x (tick x ms)) ≡ aside (fold rolled_back (with_clock x ms) (filter (is_due (later x.transactions.clock ms)) x.transactions.items))
 
--- the transaction that a label names is the one with its Id
-abbrev pub NamedLaw : Type 0
-NamedLaw = (x : Present) (process : Pid) (label : Label) (t : Transaction) → transaction_named x process label ≡ Some t → transaction_at x.transactions.items t.id ≡ Some t
+-- a transaction goes on by steps, whoever calls
+pub record CoursesLaw : Type 0 where
+  -- what is so once it has gone on by steps
+  pub leads : (x : Present) (t : Transaction) (caller : Option Enlistment) (steps : List Step) (reply : Reply) → LeadsOn x t caller steps
+      → let c = run steps (course_of x t caller) in aside (apply x (arrived x c reply)) ≡ aside (with_course x c (list_any is_commit steps))
+  -- each row leads on
+  pub rows : (x : Present) (t : Transaction) (caller : Option Enlistment) (input : PhaseInput) → LeadsOn x t caller (row (seen (course_of x t caller)) input)
+
+-- what a label names is what has its Id
+pub record NamedLaw : Type 0 where
+  pub transactions : (x : Present) (process : Pid) (label : Label) (t : Transaction) → transaction_named x process label ≡ Some t → transaction_at x.transactions.items t.id ≡ Some t
+  pub managers : (x : Present) (process : Pid) (label : Label) (m : Manager) → manager_named x process label ≡ Some m → manager_at x.managers m.id ≡ Some m
+  pub enlistments : (x : Present) (process : Pid) (label : Label) (e : Enlistment) → enlistment_named x process label ≡ Some e → enlistment_at x.transactions.enlistments e.id ≡ Some e
+  -- the transaction of an enlistment is there, and so is its resource manager
+  pub transaction_of : (x : Present) (process : Pid) (label : Label) (e : Enlistment) → IsSoundCourse x → enlistment_named x process label ≡ Some e → (t : Transaction) × (transaction_in x e ≡ Some t)
+  pub manager_of : (x : Present) (process : Pid) (label : Label) (e : Enlistment) → IsSoundCourse x → enlistment_named x process label ≡ Some e → is_some (manager_at x.managers e.manager) ≡ true
+  pub managers_of : (x : Present) → IsSoundCourse x → list_all (λ e. is_some (manager_at x.managers e.manager)) x.transactions.enlistments ≡ true
 
 -- what a GUID leads to: the Id of the system that has it as an object of the kind, if one has
 pub record LeadsTo (kind : ObjectKind) (image : ℕ) (guid : List ℕ) (found : Option Id) : Type 0 where
   pub has : IfSome found (λ id. guid_of kind image id ≡ guid)
   pub every : (id : Id) → IsId id → guid_of kind image id ≡ guid → found ≡ Some id
 
--- the live transaction with a GUID is the live one with the Id that the GUID leads to, and none where it leads to none
-abbrev pub GuidLaw : Type 0
-GuidLaw = (x : Present) (guid : List ℕ) (found : Option Id) → IsSoundCourse x → LeadsTo ObjectKind.Transaction x.recorded.image guid found
-    → transaction_with x guid ≡ option_and_then (λ id. find (λ t. is_live t && same_id t.id id) x.transactions.items) found
+-- what has a GUID is what has the Id that the GUID leads to, and there is none where it leads to none
+pub record GuidLaw : Type 0 where
+  pub transactions : (x : Present) (guid : List ℕ) (found : Option Id) → IsSoundCourse x → LeadsTo ObjectKind.Transaction x.recorded.image guid found
+      → transaction_with x guid ≡ option_and_then (λ id. find (λ t. is_live t && same_id t.id id) x.transactions.items) found
+  pub managers : (x : Present) (guid : List ℕ) (found : Option Id) → IsSoundCourse x → LeadsTo ObjectKind.Manager x.recorded.image guid found
+      → manager_with x guid ≡ option_and_then (manager_at x.managers) found
+  pub enlistments : (x : Present) (m : Manager) (guid : List ℕ) (found : Option Id) → IsSoundCourse x → LeadsTo ObjectKind.Enlistment x.recorded.image guid found
+      → enlistment_with x (Some m) guid ≡ option_and_then (λ id. find (λ e. same_id e.manager m.id && is_live_enlistment x.transactions.items e && same_id e.id id) x.transactions.enlistments) found
 
 -- what holds of every outcome of a command, and of the passing of time
 pub record DecidedLaw : Type 0 where
@@ -77,16 +107,27 @@ pub record DecidedLaw : Type 0 where
   pub is_up : (x : Present) (process : Pid) (command : Command) → is_built_command command ≡ true → x.machine.is_up ≡ true → (decide x process command).reply ≡ Refused MachineDown → ⊥
   -- time passes where the machine is up, and only there
   pub no_time : (x : Present) (ms : ℕ) → x.machine.is_up ≡ false → decide_tick x ms ≡ only_reply x (Refused MachineDown)
-  pub time : (x : Present) (ms : ℕ) → IsBuiltNow x → x.machine.is_up ≡ true → decide_tick x ms ≡ tick x ms
+  pub time : (x : Present) (ms : ℕ) → x.machine.is_up ≡ true → decide_tick x ms ≡ within_log x (tick x ms)
 
 -- ---- what they record
 
--- what a built command records is a built group, and the passing of time records nothing
+-- what a built command records is a built group or none, and so is what the passing of time records; and where there is no superior the events of a
+-- row wait for nothing
 pub record EventsLaw : Type 0 where
   pub commands : (x : Present) (process : Pid) (command : Command) → is_built_command command ≡ true → IsBuiltNow x → is_built_log (as_groups (decide x process command).events) ≡ true
-  pub ticks : (x : Present) (ms : ℕ) → IsBuiltNow x → (decide_tick x ms).events ≡ []
+  pub ticks : (x : Present) (ms : ℕ) → IsBuiltNow x → is_built_log (as_groups (decide_tick x ms).events) ≡ true
+  pub rows : (x : Present) (t : Transaction) (caller : Option Enlistment) (input : PhaseInput) → IsBuiltNow x → waits_for_nothing (led input (course_of x t caller)).events ≡ true
+
+-- what a machine that stands records has bytes
+pub record SpelledLaw : Type 0 where
+  pub commands : (x : Present) (process : Pid) (command : Command) → IsStandingNow x → IsCommand command → All IsSpellableEvent (decide x process command).events
+  pub ticks : (x : Present) (ms : ℕ) → IsStandingNow x → All IsSpellableEvent (decide_tick x ms).events
 
 -- ---- what a machine that stands may rely on
+
+-- what is so now is kept
+abbrev pub KeptLaw : Type 0
+KeptLaw = (x : Present) → IsStandingNow x → IsKept x
 
 -- in calls on files, and in commits
 pub record FilesLaw : Type 0 where
@@ -96,9 +137,8 @@ pub record FilesLaw : Type 0 where
   pub usable : (x : Present) (process : Pid) (label : Label) (o : OpenFile) → IsStandingNow x → file_named x process label ≡ Some o → IsOnCommitted x o
   -- what a call on files comes to can be made
   pub calls : (x : Present) (process : Pid) (command : Command) (who : Option Id) (o : FileOutcome) → IsStandingNow x → IsCommand command → refusal_of x process command ≡ None → file_call x process command ≡ Some (who, o) → MayMake x who o
-  -- and so can what a transaction changed and set
-  pub commits : (x : Present) (process : Pid) (label : Label) (t : Transaction) → IsStandingNow x → x.machine.is_up ≡ true → transaction_named x process label ≡ Some t → first_refusal (transaction_tests (Some t)) ≡ None
-      → is_full x.machine.left (commit_events t.id (changes_of x t) (settings_of x t)) ≡ false → MayCommitNow x t
+  -- and so can what an undecided transaction changed
+  pub commits : (x : Present) (t : Transaction) → IsStandingNow x → transaction_at x.transactions.items t.id ≡ Some t → is_undecided t ≡ true → MayCommitNow x t
 
 -- ---- what the machine keeps
 
@@ -114,7 +154,7 @@ pub record StandingLaw : Type 0 where
   pub interrupted_restarts : (w : World) → IsStanding w → IsStanding (interrupted_restart w)
   -- a restart found a full log
   pub full_restarts : (w : World) (log : List Group) → Finds w log true → IsStanding w → IsStanding (found_full w log)
-  -- a restart opened a world, from a good state of files and keys alone, and a log of built groups that applies, with room for what it records
+  -- a restart opened a world, from a good state that is built, and a log of built groups that applies, with room for what it records
   pub restarts : (base : Durable) (room : ℕ) (log : List Group) → IsGoodState base → IsBuiltState base → base.units ≤ MOST_UNITS → IsRoomy base room → is_log_grammatical log ≡ true → is_built_log log ≡ true → log_applies base log ≡ true
       → is_full (room - log_size log) (own_group (stand base log)) ≡ false → IsStanding (opened base room log)
   -- what is so now stands, too

@@ -1,35 +1,29 @@
--- Worlds that have only what built forms make: transactions, files and keys.
-use Rattle.std.specs.Prelude.{◌≡◌, ℕ, ◌+◌, ◌≤◌, ◌||◌, not, Bool, true, List, [], length, sum_by}
-use Rattle.std.specs.List.{list_all}
+-- Worlds that have only what built forms make: everything but superiors.
+use Rattle.std.specs.Prelude.{◌≡◌, ℕ, ◌≤◌, not, true, List, [], length, map, sum_by}
+use Rattle.std.specs.List.{flat_map, list_all}
 use Rattle.ktm_base.specs.declared.limits.TheConstants.{MOST_UNITS}
 use Rattle.ktm_types.specs.Sizes.{log_size}
-use Rattle.ktm_types.specs.declared.object.Transaction.{Transaction}
 use Rattle.ktm_forms.specs.Built.{IsBuiltState, is_built_log}
 use Rattle.ktm_world.specs.Committed.{Work}
-use Rattle.ktm_world.specs.Durable.{Durable}
-use Rattle.ktm_world.specs.Present.{Present}
-use Rattle.ktm_world.specs.Enlistments.{is_ended}
-use Rattle.ktm_world.specs.World.{World, present, possible_logs}
+use Rattle.ktm_world.specs.Durable.{Durable, after_events}
+use Rattle.ktm_world.specs.Present.{Present, Transactions}
+use Rattle.ktm_world.specs.Enlistments.{is_superior}
+use Rattle.ktm_world.specs.World.{World, back, by_rising_id, enlistments_back, own_group, present, possible_logs, transaction_back}
 use Rattle.ktm_laws.specs.Running.{IsRunning}
 use Rattle.ktm_records.specs.Spelling.{AreTexts}
 
 -- ---- what has only what built forms make
 
--- is nothing of the transaction in the log, unless it has ended
-abbrev pub is_recorded_at_its_end : Transaction → Bool
-is_recorded_at_its_end t = not t.is_recorded || is_ended t.phase
+-- no enlistment is a superior
+abbrev pub AreOrdinary : Transactions → Type 0
+AreOrdinary ts = list_all (λ e. not (is_superior e)) ts.enlistments ≡ true
 
--- there are no resource managers or enlistments, nothing of a transaction is in the log before it ends, and what was recorded has files and
--- keys alone
+-- no enlistment is a superior, and what was recorded waits for none
 pub record IsBuiltNow (x : Present) : Type 0 where
-  pub managers : x.managers ≡ []
-  pub enlistments : x.transactions.enlistments ≡ []
-  pub last_manager : x.transactions.last_manager ≡ 0
-  pub last_enlistment : x.transactions.last_enlistment ≡ 0
-  pub unrecorded : list_all is_recorded_at_its_end x.transactions.items ≡ true
+  pub ordinary : AreOrdinary x.transactions
   pub recorded : IsBuiltState x.recorded
 
--- the world began with files and keys alone, has them alone now, and all logs that are or may be on its disk have built groups
+-- the world began with a built state, has only what built forms make now, and all logs that are or may be on its disk have built groups
 pub record IsBuiltWorld (w : World) : Type 0 where
   pub base : IsBuiltState w.base
   pub now : IsBuiltNow (present w)
@@ -40,13 +34,20 @@ pub record IsBuiltWorld (w : World) : Type 0 where
 abbrev pub changes_committed : List Work → ℕ
 changes_committed works = sum_by (λ (work : Work). length work.changes) works
 
--- what is so once a machine started from this state and recorded that, with so many bytes left in the log
+-- what is so once a machine started from this state and recorded its own group, with so many bytes left in the log
 abbrev pub fresh : Durable → ℕ → Present
 fresh s left = record {
   machine = record { is_up = true; left = left };
-  recorded = record s { events = s.events + 1; boots = s.boots + 1 };
-  transactions = record { clock = 0; last_transaction = 0; last_manager = 0; last_enlistment = 0; items = []; enlistments = [] };
-  managers = [];
+  recorded = after_events s (own_group s);
+  transactions = record {
+    clock = 0;
+    last_transaction = 0;
+    last_manager = 0;
+    last_enlistment = 0;
+    items = map transaction_back (back s);
+    enlistments = by_rising_id (flat_map enlistments_back (back s));
+  };
+  managers = map (λ id. record { id = id; is_durable = true; queue = [] }) s.managers;
   files = record { tree = s.tree; versions = []; first_opens = []; table = record { own = []; opens = []; last_open = 0; next_node = s.next_node } };
   keys = record { store = s.keys; own = [] };
   handles = [];

@@ -1,12 +1,12 @@
 // Laws of worlds that have only what built forms make, each the contract of a function that does nothing.
-ghost use Rattle.ktm_built.specs.Laws.{EffectsLaw, TimeoutLaw, NamedLaw, GuidLaw, DecidedLaw, EventsLaw, FilesLaw, StandingLaw, FreshLaw};
+ghost use Rattle.ktm_built.specs.Laws.{EffectsLaw, TimeoutLaw, CoursesLaw, NamedLaw, GuidLaw, DecidedLaw, EventsLaw, SpelledLaw, KeptLaw, FilesLaw, StandingLaw, FreshLaw};
 
 use ktm_laws::{law_of_lawful_worlds, law_of_notes, law_of_sound_worlds};
 use ktm_limits::law_of_limits;
 use ktm_records::{law_of_agreement, law_of_file_calls, law_of_spelling};
 use ktm_states::{law_of_good_states, law_of_own_groups};
 use ktm_world::law_of_step;
-use txf_laws::law_of_reservations;
+use txf_laws::{law_of_forms, law_of_lists, law_of_reservations};
 
 /// What an outcome makes of what is so now.
 pub fn law_of_effects()
@@ -18,12 +18,17 @@ pub fn law_of_timeouts()
     ensures { TimeoutLaw }
 {}
 
-/// A label names a transaction by its Id.
+/// A transaction goes on by steps, whoever calls.
+pub fn law_of_courses()
+    ensures { CoursesLaw }
+{}
+
+/// A label names an object by its Id.
 pub fn law_of_named()
     ensures { NamedLaw }
 {}
 
-/// A GUID leads to a live transaction by its Id.
+/// A GUID leads to an object by its Id.
 pub fn law_of_guids()
     ensures { GuidLaw }
 {}
@@ -38,6 +43,18 @@ pub fn law_of_events()
     ensures { EventsLaw }
 {}
 
+/// What a machine that stands records has bytes.
+pub fn law_of_spelled()
+    ensures { SpelledLaw }
+{
+    law_of_spelling();
+}
+
+/// What is so in a machine that stands is kept.
+pub fn law_of_kept()
+    ensures { KeptLaw }
+{}
+
 /// What calls on files and commits come to can be made by a machine that stands.
 pub fn law_of_files()
     ensures { FilesLaw }
@@ -46,9 +63,10 @@ pub fn law_of_files()
     law_of_lawful_worlds();
     law_of_spelling();
     law_of_reservations();
+    law_of_lists();
+    law_of_forms();
     law_of_file_calls();
     law_of_effects();
-    law_of_named();
 }
 
 /// A machine keeps what it keeps, whatever it does.
@@ -70,5 +88,4 @@ pub fn law_of_fresh()
     law_of_agreement();
     law_of_limits();
     law_of_notes();
-    law_of_spelling();
 }

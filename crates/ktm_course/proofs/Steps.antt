@@ -1,29 +1,22 @@
 -- Steps one after another.
-use Rattle.std.proofs.Common.{◌≡◌, ℕ, suc, Bool, true, false, ◌==◌, not, List, [], ◌∷◌, ◌++◌, length, cond, refl, sym, ◌∙◌, ap, subst, append_assoc, arith}
+use Rattle.std.proofs.Common.{◌≡◌, ℕ, suc, Bool, true, false, ◌==◌, not, List, [], ◌∷◌, ◌++◌, length, refl, sym, ◌∙◌, ap, append_assoc, arith}
 use Rattle.std.proofs.lemmas.Bool.{eqb-true, false_from_ne_true}
-use Rattle.std.specs.List.{list_any}
 use Rattle.ktm_event.specs.Work.{bytes_changes, changes_of}
 use Rattle.ktm_event.specs.declared.work.FileBytes.{FileBytes}
 use Rattle.ktm_types.specs.declared.change.Change.{Change}
-use Rattle.ktm_types.specs.declared.object.Phase.{Phase}
-use Rattle.ktm_types.specs.declared.object.Transaction.{Transaction}
-use Rattle.ktm_types.specs.declared.object.TransactionOutcome.{TransactionOutcome}
-use Rattle.ktm_world.specs.Changes.{has_changes}
-use Rattle.ktm_world.specs.Enlistments.{is_unfinished, with_enlistments}
-use Rattle.ktm_course.specs.Moved.{IsAlone}
 use Rattle.ktm_types.specs.declared.event.Event.{Event}
-use Rattle.ktm_world.specs.Phases.{Course, ended, ended_if_finished, is_its_superior, unchanged}
 use Rattle.ktm_types.specs.declared.step.Step.{Step}
 use Rattle.ktm_types.specs.declared.step.Step.TheVariants.{Record, Tell, Ask, Enter, Decide, End, EndWhereFinished}
-use Rattle.ktm_world.specs.Steps.{Basis, events_of, is_recorded_by}
-use Rattle.ktm_course.specs.Recorded.{recorded_after, steps_events}
+use Rattle.ktm_world.specs.Changes.{has_changes}
+use Rattle.ktm_world.specs.Steps.{Basis, events_ahead, events_of, is_recorded_by}
+use Rattle.ktm_course.specs.Recorded.{recorded_after}
 
 -- the basis once these steps are recorded
 abbrev then_basis : List Step → Basis → Basis
 then_basis steps b = record b { is_recorded = recorded_after steps b }
 
 -- what steps and then others record
-pub both_record : (xs ys : List Step) (b : Basis) → steps_events (xs ++ ys) b ≡ steps_events xs b ++ steps_events ys (then_basis xs b)
+pub both_record : (xs ys : List Step) (b : Basis) → events_ahead (xs ++ ys) b ≡ events_ahead xs b ++ events_ahead ys (then_basis xs b)
 both_record [] ys b = refl
 both_record (Record fact ∷ xs) ys b =
     ap (λ (es : List Event). events_of fact b ++ es) (both_record xs ys (record b { is_recorded = is_recorded_by fact b }))
@@ -39,21 +32,8 @@ both_record (EndWhereFinished outcome ∷ xs) ys b = both_record xs ys b
 
 -- the first step, and then the others
 pub first_records : (step : Step) (steps left : List Step) (b : Basis) → left ≡ step ∷ steps
-    → steps_events left b ≡ steps_events (step ∷ []) b ++ steps_events steps (then_basis (step ∷ []) b)
-first_records step steps left b is = ap (λ (l : List Step). steps_events l b) is ∙ both_record (step ∷ []) steps b
-
--- ---- a step that ends the transaction
-
-pub ended_alone : (c : Course) (t : Transaction) (has_files has_keys : Bool) (outcome : TransactionOutcome) → IsAlone c t has_files has_keys
-    → IsAlone (ended c outcome) (record t { phase = Phase.Ended; outcome = outcome }) has_files has_keys
-unfolding ended
-ended_alone c t has_files has_keys outcome alone = record {
-  transaction = ap (λ (u : Transaction). record u { phase = Phase.Ended; outcome = outcome }) alone.transaction;
-  enlistments = ap (with_enlistments (is_its_superior c) unchanged) alone.enlistments;
-  caller = alone.caller;
-  files = alone.files;
-  keys = alone.keys;
-}
+    → events_ahead left b ≡ events_ahead (step ∷ []) b ++ events_ahead steps (then_basis (step ∷ []) b)
+first_records step steps left b is = ap (λ (l : List Step). events_ahead l b) is ∙ both_record (step ∷ []) steps b
 
 -- ---- the parts
 
@@ -75,10 +55,3 @@ by_files [] (f ∷ fs) none unwritten is all written =
     some_bytes : (file : ℕ) (bytes : List ℕ) (rest : List Change) → has_changes (bytes_changes file bytes ++ rest) ≡ true
     some_bytes file [] rest = refl
     some_bytes file (b ∷ bs) rest = refl
-
--- a step after which it has ended where nobody is unfinished
-pub finished_alone : (c : Course) (t : Transaction) (has_files has_keys : Bool) (outcome : TransactionOutcome) → IsAlone c t has_files has_keys
-    → IsAlone (ended_if_finished c outcome) (record t { phase = Phase.Ended; outcome = outcome }) has_files has_keys
-finished_alone c t has_files has_keys outcome alone =
-    subst (λ (b : Bool). IsAlone (cond b c (ended c outcome)) (record t { phase = Phase.Ended; outcome = outcome }) has_files has_keys) (sym (ap (list_any (is_unfinished c.transaction.id)) alone.enlistments))
-    (ended_alone c t has_files has_keys outcome alone)

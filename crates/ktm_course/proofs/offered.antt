@@ -1,2 +1,2 @@
 pub mod Alone
-pub mod Events
+pub mod Bases

@@ -1,20 +1,26 @@
--- What steps make of a course without enlistments.
-use Rattle.std.specs.Prelude.{◌≡◌, Bool, true, false, [], None}
-use Rattle.ktm_types.specs.declared.object.Transaction.{Transaction}
+-- Which steps commit, and which record the changes of the files.
+use Rattle.std.specs.Prelude.{Bool, true, false, List}
+use Rattle.std.specs.List.{list_any}
+use Rattle.ktm_types.specs.declared.step.Fact.{Fact}
 use Rattle.ktm_types.specs.declared.step.Step.{Step}
 use Rattle.ktm_types.specs.declared.step.Step.TheVariants.{Commit}
-use Rattle.ktm_world.specs.Changes.{has_changes}
-use Rattle.ktm_world.specs.Phases.{Course, has_settings}
 
 -- do the files and the keys commit by this step
 abbrev pub is_commit : Step → Bool
 is_commit Commit = true
 is_commit _ = false
 
--- the course is that of this transaction, which has no enlistments and was asked by none, and the files and the keys take part in it so
-pub record IsAlone (c : Course) (t : Transaction) (has_files has_keys : Bool) : Type 0 where
-  pub transaction : c.transaction ≡ t
-  pub enlistments : c.enlistments ≡ []
-  pub caller : c.caller ≡ None
-  pub files : has_changes c.changes ≡ has_files
-  pub keys : has_settings c.settings ≡ has_keys
+-- are the changes of the files recorded by this fact
+abbrev pub is_of_changes : Fact → Bool
+is_of_changes Fact.ReadyFiles = true
+is_of_changes Fact.SingleFiles = true
+is_of_changes _ = false
+
+-- are they by this step
+abbrev pub records_changes : Step → Bool
+records_changes (Step.Record fact) = is_of_changes fact
+records_changes _ = false
+
+-- are they by one of these steps
+abbrev pub records_files : List Step → Bool
+records_files steps = list_any records_changes steps

@@ -1,30 +1,43 @@
--- What a transaction without enlistments records by its steps.
-use Rattle.std.specs.Prelude.{Bool, List, [], ◌∷◌, Option, Some, None}
+-- What a transaction records by its steps.
+use Rattle.std.specs.Prelude.{◌≡◌, Bool, List, [], ◌∷◌, Option, Some, None}
 use Rattle.ktm_base.specs.declared.id.Id.{Id}
+use Rattle.ktm_course.specs.declared.parts.Enlisted.{Enlisted}
+use Rattle.ktm_course.specs.declared.parts.Entry.{Entry}
+use Rattle.ktm_course.specs.declared.parts.Entry.TheVariants.{Work, Held, Decide, Undo, Done}
+use Rattle.ktm_course.specs.declared.parts.Parts.{Parts}
 use Rattle.ktm_event.specs.Work.{changes_of, part_of, work_event}
 use Rattle.ktm_types.specs.declared.event.Event.{Event}
-use Rattle.ktm_course.specs.declared.parts.Entry.{Entry}
-use Rattle.ktm_course.specs.declared.parts.Entry.TheVariants.{Work, Decide, Undo, Done}
-use Rattle.ktm_course.specs.declared.parts.Parts.{Parts}
 use Rattle.ktm_types.specs.declared.step.Step.{Step}
 use Rattle.ktm_types.specs.declared.step.Step.TheVariants.{Record}
-use Rattle.ktm_world.specs.Steps.{Basis, events_ahead, is_recorded_by}
+use Rattle.ktm_world.specs.Enlistments.{Enlistment, Manager, is_durable_at}
+use Rattle.ktm_world.specs.Steps.{Basis, is_recorded_by}
 
--- what it records from
-abbrev pub basis_of : Id → Bool → Parts → Basis
-basis_of id is_recorded parts = record {
-  id = id;
-  is_recorded = is_recorded;
-  changes = changes_of parts.names.now parts.files.now;
-  settings = parts.settings.now;
-  managers = [];
-  superior = None;
-  caller = None;
-}
+-- this is recorded of the enlistment
+pub record IsEnlisted (e : Enlistment) (enlisted : Enlisted) : Type 0 where
+  pub id : e.id ≡ enlisted.enlistment
+  pub manager : e.manager ≡ enlisted.manager
+  pub information : e.information ≡ enlisted.information.now
 
--- what its steps record
-abbrev pub steps_events : List Step → Basis → List Event
-steps_events steps b = events_ahead steps b
+-- the enlistment that calls, of a resource manager that is durable or not, or none
+abbrev pub IsCaller : List Manager → Option Enlistment → Option Enlisted → Type 0
+IsCaller ms None None = Unit {0}
+IsCaller ms (Some e) (Some enlisted) = IsEnlisted e enlisted × (is_durable_at ms e.manager ≡ enlisted.is_durable)
+IsCaller ms _ _ = ⊥
+
+-- the superior, or none
+abbrev pub IsSuperior : Option Enlistment → Option Enlisted → Type 0
+IsSuperior None None = Unit {0}
+IsSuperior (Some e) (Some enlisted) = IsEnlisted e enlisted
+IsSuperior _ _ = ⊥
+
+-- from this a transaction with such parts records, of which the log has a Ready or a Held, or has none
+pub record IsBasis (b : Basis) (transaction : Id) (is_recorded : Bool) (parts : Parts) : Type 0 where
+  pub id : b.id ≡ transaction
+  pub recorded : b.is_recorded ≡ is_recorded
+  pub changes : b.changes ≡ changes_of parts.names.now parts.files.now
+  pub settings : b.settings ≡ parts.settings.now
+  pub caller : IsCaller b.managers b.caller parts.caller
+  pub superior : IsSuperior b.superior parts.superior
 
 -- has the log a Ready or a Held of it, once its steps are recorded
 abbrev pub recorded_after : List Step → Basis → Bool
@@ -35,6 +48,7 @@ recorded_after (_ ∷ steps) b = recorded_after steps b
 -- the event of an entry
 abbrev pub entry_event : Id → Entry → Event
 entry_event id (Work stage work) = work_event stage id (part_of work)
+entry_event id (Held enlistment manager information) = Event.Held id enlistment manager information.now
 entry_event id Decide = Event.Decide id
 entry_event id Undo = Event.Undo id
 entry_event id (Done done) = Event.Done id done

@@ -1,9 +1,9 @@
-//! What the steps of a transaction record, and what they make of it, where it has no enlistments: of the steps that are
-//! carried out by whoever holds the enlistments nothing is left to do then.
+//! What the steps of a transaction record, known before anything is carried out, and whether its files and keys commit by
+//! them.
 #![tactic(auto)]
 
 mod moved;
 mod parts;
 
-pub use moved::{after, commits, is_undecided};
-pub use parts::Parts;
+pub use moved::{commits, is_undecided, records_files};
+pub use parts::{Enlisted, Parts};

@@ -1,13 +1,10 @@
-// What steps make of a transaction.
-ghost use Rattle.std.specs.Prelude.{◌≡◌, None};
+// What steps make of the files and the keys.
+ghost use Rattle.std.specs.Prelude.{◌≡◌};
 ghost use Rattle.std.specs.List.{list_any};
-ghost use Rattle.ktm_course.specs.Moved.{IsAlone, is_commit};
-ghost use Rattle.ktm_types.specs.declared.object.Phase.{Phase};
-ghost use Rattle.ktm_world.specs.Steps.{carried, run};
-ghost use Rattle.ktm_world.specs.Phases.{Course};
+ghost use Rattle.ktm_course.specs.Moved.{is_commit, is_of_changes, records_changes, records_files};
 ghost use Rattle.ktm_world.specs.Transactions.{is_undecided};
 
-use ktm_types::{Fact, Phase, Step, Transaction, TransactionOutcome};
+use ktm_types::{Fact, Step, Transaction, TransactionOutcome};
 
 // Is this the step by which the files and the keys commit.
 fn is_commit(step: &Step) -> bool
@@ -26,15 +23,31 @@ pub fn commits(steps: &[Step]) -> bool
     steps.iter().any(is_commit)
 }
 
-// It has ended with this outcome.
-fn ended(t: Transaction, outcome: TransactionOutcome) -> Transaction
-    ensures { result ≡ record t { phase = Phase.Ended; outcome = outcome } }
+// Are the changes of the files recorded by this fact.
+fn is_of_changes(fact: Fact) -> bool
+    ensures { result ≡ is_of_changes fact }
 {
-    Transaction {
-        phase: Phase::Ended,
-        outcome,
-        ..t
+    match fact {
+        Fact::ReadyFiles | Fact::SingleFiles => true,
+        _ => false,
     }
+}
+
+// Are they by this step.
+fn records_changes(step: &Step) -> bool
+    ensures { result ≡ records_changes step.now }
+{
+    match step {
+        Step::Record(fact) => is_of_changes(*fact),
+        _ => false,
+    }
+}
+
+/// Are the changes of the files recorded by one of these steps, where they take part.
+pub fn records_files(steps: &[Step]) -> bool
+    ensures { result ≡ records_files steps.now }
+{
+    steps.iter().any(records_changes)
 }
 
 /// Is the outcome of the transaction not known yet.
@@ -45,36 +58,4 @@ pub fn is_undecided(t: &Transaction) -> bool
         TransactionOutcome::Undetermined => true,
         TransactionOutcome::Committed | TransactionOutcome::Aborted => false,
     }
-}
-
-// The transaction after one step.
-fn after_step(t: Transaction, has_files: bool, has_keys: bool, step: &Step) -> Transaction
-    ensures { (c : Course) → IsAlone c t has_files has_keys → IsAlone (carried step.now c) result has_files has_keys }
-{
-    match *step {
-        Step::Record(Fact::ReadyFiles) => Transaction {
-            is_recorded: t.is_recorded || has_files,
-            ..t
-        },
-        Step::Record(Fact::ReadyKeys) => Transaction {
-            is_recorded: t.is_recorded || has_keys,
-            ..t
-        },
-        Step::Enter(phase) => Transaction { phase, ..t },
-        Step::Decide(outcome) => Transaction { outcome, ..t },
-        Step::End(outcome) => ended(t, outcome),
-        Step::EndWhereFinished(outcome) => ended(t, outcome),
-        _ => t,
-    }
-}
-
-/// The transaction once its steps are carried out. The flags say whether the files and the keys take part.
-pub fn after(t: Transaction, has_files: bool, has_keys: bool, steps: &[Step]) -> Transaction
-    ensures { (c : Course) → IsAlone c t has_files has_keys → IsAlone (run steps.now c) result has_files has_keys }
-{
-    let mut then = t;
-    for step in steps {
-        then = after_step(then, has_files, has_keys, step);
-    }
-    then
 }

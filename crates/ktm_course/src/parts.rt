@@ -1,35 +1,57 @@
 // What a transaction records by its steps.
-ghost use Rattle.std.specs.Prelude.{◌≡◌, ◌+◌, ◌-◌, ◌^◌, ◌≤◌, ◌∷◌, ◌++◌, [], All, List, None, min, sum_by};
-ghost use Rattle.ktm_course.specs.Recorded.{basis_of, entries, entry_event, recorded_after, steps_events};
+ghost use Rattle.std.specs.Prelude.{◌≡◌, ◌+◌, ◌-◌, ◌^◌, ◌≤◌, ◌∷◌, ◌++◌, [], All, List, Option, None, min, sum_by, is_some};
+ghost use Rattle.ktm_course.specs.Recorded.{IsBasis, IsCaller, IsSuperior, entries, entry_event, recorded_after};
 ghost use Rattle.ktm_event.specs.Kept.{Holds};
 ghost use Rattle.ktm_event.specs.Spelling.{IsSpellableEvent};
 ghost use Rattle.ktm_event.specs.Work.{changes_of};
-ghost use Rattle.ktm_world.specs.Steps.{events_of, is_recorded_by};
+ghost use Rattle.ktm_world.specs.Enlistments.{Enlistment, Manager};
+ghost use Rattle.ktm_world.specs.Steps.{Basis, event_of_caller, events_ahead, events_of, held_event, is_of_durable, is_recorded_by};
 ghost use Rattle.ktm_types.specs.Sizes.{event_size};
 ghost use Rattle.ktm_base.specs.declared.id.Id.{Id as OfTransaction};
+ghost use Rattle.ktm_types.specs.declared.event.DonePart.{DonePart as OfDone};
 ghost use Rattle.ktm_types.specs.declared.event.Event.{Event as Recorded};
 ghost use Rattle.ktm_world.specs.Changes.{has_changes};
-ghost use Rattle.ktm_world.specs.Phases.{has_settings};
+ghost use Rattle.ktm_world.specs.Phases.{enlistment_part, has_settings};
 
 use ktm_base::Id;
-use ktm_event::{Events, FileBytes, Stage, Work, event_size, work_size};
+use ktm_event::{Events, FileBytes, Stage, Work, event_size, held_size, work_size};
 use ktm_types::{Change, DonePart, Event, Fact, Setting, Step};
 
-/// The parts that the files and the keys have in a transaction.
+/// An enlistment, as it is recorded.
+#[derive(Clone, Copy)]
+pub struct Enlisted<'a> {
+    pub enlistment: Id,
+    pub manager: Id,
+    /// Its recovery information.
+    pub information: &'a [u8],
+    /// Whether its resource manager is durable: of others nothing is recorded.
+    pub is_durable: bool,
+}
+
+/// Who takes part in a transaction, as far as that is recorded.
 #[derive(Clone, Copy)]
 pub struct Parts<'a> {
-    /// What it made, moved and dropped, in order.
+    /// What the files made, moved and dropped, in order.
     pub names: &'a [Change],
-    /// The files that it wrote, with all of their bytes.
+    /// The files that were written, with all of their bytes.
     pub files: &'a [FileBytes<'a>],
-    /// What it set.
+    /// What was set of the keys.
     pub settings: &'a [Setting],
+    /// The enlistment that calls.
+    pub caller: Option<Enlisted<'a>>,
+    /// The superior.
+    pub superior: Option<Enlisted<'a>>,
 }
 
 // What one event says of a transaction.
 #[derive(Clone, Copy)]
 enum Entry<'a> {
     Work(Stage, Work<'a>),
+    Held {
+        enlistment: Id,
+        manager: Id,
+        information: &'a [u8],
+    },
     Decide,
     Undo,
     Done(DonePart),
@@ -42,6 +64,7 @@ impl Entry<'_> {
     {
         match self {
             Entry::Work(_, work) => work_size(work),
+            Entry::Held { information, .. } => held_size(information),
             Entry::Decide => event_size(&Event::Decide { transaction }),
             Entry::Undo => event_size(&Event::Undo { transaction }),
             Entry::Done(done) => event_size(&Event::Done { transaction, done }),
@@ -58,6 +81,11 @@ impl Entry<'_> {
     {
         match self {
             Entry::Work(stage, work) => events.push_work(stage, transaction, work),
+            Entry::Held {
+                enlistment,
+                manager,
+                information,
+            } => events.push_held(transaction, enlistment, manager, information),
             Entry::Decide => events.push(&Event::Decide { transaction }),
             Entry::Undo => events.push(&Event::Undo { transaction }),
             Entry::Done(done) => events.push(&Event::Done { transaction, done }),
@@ -65,22 +93,71 @@ impl Entry<'_> {
     }
 }
 
+// The event by which the caller is prepared, where its resource manager is durable.
+fn ready_entry<'a>(caller: Option<Enlisted<'a>>) -> Option<Entry<'a>>
+    ensures { (id : OfTransaction) (ms : List Manager) (e : Option Enlistment) → IsCaller ms e caller.entry
+        → entries id result ≡ event_of_caller e ms (λ e. Recorded.Ready id (enlistment_part e)) }
+{
+    match caller {
+        Some(caller) if caller.is_durable => {
+            let work = Work::Enlistment {
+                enlistment: caller.enlistment,
+                manager: caller.manager,
+                information: caller.information,
+            };
+            Some(Entry::Work(Stage::Ready, work))
+        }
+        _ => None,
+    }
+}
+
+// The event by which the caller is done, where its resource manager is durable.
+fn done_entry(caller: Option<Enlisted<'_>>) -> Option<Entry<'static>>
+    ensures { (id : OfTransaction) (ms : List Manager) (e : Option Enlistment) → IsCaller ms e caller.entry
+        → entries id result ≡ event_of_caller e ms (λ e. Recorded.Done id (OfDone.Enlistment e.id)) }
+{
+    match caller {
+        Some(caller) if caller.is_durable => {
+            Some(Entry::Done(DonePart::Enlistment(caller.enlistment)))
+        }
+        _ => None,
+    }
+}
+
+// The event by which the superior has prepared the transaction.
+fn held_entry<'a>(superior: Option<Enlisted<'a>>) -> Option<Entry<'a>>
+    ensures { (id : OfTransaction) (e : Option Enlistment) → IsSuperior e superior.entry → entries id result ≡ held_event id e }
+{
+    match superior {
+        Some(superior) => Some(Entry::Held {
+            enlistment: superior.enlistment,
+            manager: superior.manager,
+            information: superior.information,
+        }),
+        None => None,
+    }
+}
+
 impl Parts<'static> {
-    /// Neither takes part, or what they have is not recorded.
+    /// Nobody takes part, or what they have is not recorded.
     pub fn none() -> Self
         ensures names { result.names.now ≡ [] }
         ensures files { result.files.now ≡ [] }
         ensures settings { result.settings.now ≡ [] }
+        ensures caller { result.caller ≡ None }
+        ensures superior { result.superior ≡ None }
     {
         Parts {
             names: &[],
             files: &[],
             settings: &[],
+            caller: None,
+            superior: None,
         }
     }
 }
 
-impl Parts<'_> {
+impl<'a> Parts<'a> {
     // Do the files take part.
     fn has_changes(&self) -> bool
         ensures { result ≡ has_changes (changes_of self.now.names.now self.now.files.now) }
@@ -95,9 +172,19 @@ impl Parts<'_> {
         !self.settings.is_empty()
     }
 
+    // Is the resource manager of the caller durable.
+    fn has_durable_caller(&self) -> bool
+        ensures { (ms : List Manager) (e : Option Enlistment) → IsCaller ms e self.now.caller → result ≡ is_of_durable ms e }
+    {
+        match self.caller {
+            Some(caller) => caller.is_durable,
+            None => false,
+        }
+    }
+
     // What is recorded by a fact, if anything is.
-    fn entry(&self, fact: Fact, is_recorded: bool) -> Option<Entry<'_>>
-        ensures { (id : OfTransaction) → entries id result ≡ events_of fact (basis_of id is_recorded self.now) }
+    fn entry(&self, fact: Fact, is_recorded: bool) -> Option<Entry<'a>>
+        ensures { (id : OfTransaction) (b : Basis) → IsBasis b id is_recorded self.now → entries id result ≡ events_of fact b }
     {
         let changes = Work::Changes {
             names: self.names,
@@ -107,81 +194,102 @@ impl Parts<'_> {
         match fact {
             Fact::ReadyFiles if self.has_changes() => Some(Entry::Work(Stage::Ready, changes)),
             Fact::ReadyKeys if self.has_settings() => Some(Entry::Work(Stage::Ready, settings)),
+            Fact::Ready => ready_entry(self.caller),
+            Fact::Held => held_entry(self.superior),
             Fact::SingleFiles => Some(Entry::Work(Stage::Single, changes)),
             Fact::SingleKeys => Some(Entry::Work(Stage::Single, settings)),
             Fact::Decide if is_recorded => Some(Entry::Decide),
             Fact::Undo if is_recorded => Some(Entry::Undo),
             Fact::DoneFiles if self.has_changes() => Some(Entry::Done(DonePart::Files)),
             Fact::DoneKeys if self.has_settings() => Some(Entry::Done(DonePart::Keys)),
+            Fact::Done => done_entry(self.caller),
             _ => None,
         }
     }
 
-    // Has the log a Ready once a fact is recorded.
+    // Has the log a Ready or a Held once a fact is recorded.
     fn is_recorded_by(&self, fact: Fact, is_recorded: bool) -> bool
-        ensures { (id : OfTransaction) → result ≡ is_recorded_by fact (basis_of id is_recorded self.now) }
+        ensures { (id : OfTransaction) (b : Basis) → IsBasis b id is_recorded self.now → result ≡ is_recorded_by fact b }
     {
         match fact {
             Fact::ReadyFiles => is_recorded || self.has_changes(),
             Fact::ReadyKeys => is_recorded || self.has_settings(),
+            Fact::Ready => self.has_durable_caller() || is_recorded,
+            Fact::Held => self.superior.is_some() || is_recorded,
             _ => is_recorded,
         }
     }
 
+    // The same, once a step is carried out.
+    fn is_recorded_after(&self, step: &Step, is_recorded: bool) -> bool
+        ensures { (id : OfTransaction) (b : Basis) → IsBasis b id is_recorded self.now → result ≡ recorded_after (step.now ∷ []) b }
+    {
+        match step {
+            Step::Record(fact) => self.is_recorded_by(*fact, is_recorded),
+            _ => is_recorded,
+        }
+    }
+
+    // How many bytes the events take that a step records of a transaction.
+    fn step_size(&self, transaction: Id, is_recorded: bool, step: &Step) -> usize
+        ensures { (b : Basis) → IsBasis b transaction is_recorded self.now
+            → result ≡ min (sum_by event_size (events_ahead (step.now ∷ []) b)) (2 ^ 64 - 1) }
+    {
+        let Step::Record(fact) = step else {
+            return 0;
+        };
+        match self.entry(*fact, is_recorded) {
+            Some(entry) => entry.size(transaction),
+            None => 0,
+        }
+    }
+
     /// How many bytes the events take that the steps record of a transaction, or 2^64 - 1, where they take more. The flag
-    /// says whether the log has a Ready of it before.
+    /// says whether the log has a Ready or a Held of it before.
     pub fn size(&self, transaction: Id, is_recorded: bool, steps: &[Step]) -> usize
-        ensures { result ≡ min (sum_by event_size (steps_events steps.now (basis_of transaction is_recorded self.now))) (2 ^ 64 - 1) }
+        ensures { (b : Basis) → IsBasis b transaction is_recorded self.now
+            → result ≡ min (sum_by event_size (events_ahead steps.now b)) (2 ^ 64 - 1) }
     {
         let mut size = 0usize;
         let mut recorded = is_recorded;
         for step in steps {
-            if let Step::Record(fact) = step {
-                if let Some(entry) = self.entry(*fact, recorded) {
-                    size = size.saturating_add(entry.size(transaction));
-                }
-                recorded = self.is_recorded_by(*fact, recorded);
-            }
+            size = size.saturating_add(self.step_size(transaction, recorded, step));
+            recorded = self.is_recorded_after(step, recorded);
         }
         size
     }
 
-    // Puts the events into the list that a step records of a transaction, and tells whether the log has a Ready of it then.
-    fn record_step(
-        &self,
-        transaction: Id,
-        is_recorded: bool,
-        step: &Step,
-        events: &mut Events,
-    ) -> bool
-        requires spelled { All IsSpellableEvent (steps_events (step.now ∷ []) (basis_of transaction is_recorded self.now)) }
-        requires fits { sum_by event_size (steps_events (step.now ∷ []) (basis_of transaction is_recorded self.now)) ≤ events.old.spare }
-        ensures adds { (group : List Recorded) → Holds events.old group
-            → Holds events.new (group ++ steps_events (step.now ∷ []) (basis_of transaction is_recorded self.now)) }
-        ensures spare { events.new.spare + sum_by event_size (steps_events (step.now ∷ []) (basis_of transaction is_recorded self.now)) ≡ events.old.spare }
+    // Puts the events into the list that a step records of a transaction.
+    fn record_step(&self, transaction: Id, is_recorded: bool, step: &Step, events: &mut Events)
+        requires spelled { (b : Basis) → IsBasis b transaction is_recorded self.now → All IsSpellableEvent (events_ahead (step.now ∷ []) b) }
+        requires fits { (b : Basis) → IsBasis b transaction is_recorded self.now → sum_by event_size (events_ahead (step.now ∷ []) b) ≤ events.old.spare }
+        ensures adds { (b : Basis) (group : List Recorded) → IsBasis b transaction is_recorded self.now → Holds events.old group
+            → Holds events.new (group ++ events_ahead (step.now ∷ []) b) }
+        ensures spare { (b : Basis) → IsBasis b transaction is_recorded self.now
+            → events.new.spare + sum_by event_size (events_ahead (step.now ∷ []) b) ≡ events.old.spare }
         ensures room { events.new.room ≡ events.old.room }
-        ensures recorded { result ≡ recorded_after (step.now ∷ []) (basis_of transaction is_recorded self.now) }
     {
-        let Step::Record(fact) = step else {
-            return is_recorded;
-        };
-        if let Some(entry) = self.entry(*fact, is_recorded) {
-            entry.push(transaction, events);
+        if let Step::Record(fact) = step {
+            if let Some(entry) = self.entry(*fact, is_recorded) {
+                entry.push(transaction, events);
+            }
         }
-        self.is_recorded_by(*fact, is_recorded)
     }
 
     /// Puts the events into the list that the steps record of a transaction.
     pub fn record(&self, transaction: Id, is_recorded: bool, steps: &[Step], events: &mut Events)
-        requires spelled { All IsSpellableEvent (steps_events steps.now (basis_of transaction is_recorded self.now)) }
-        requires fits { sum_by event_size (steps_events steps.now (basis_of transaction is_recorded self.now)) ≤ events.old.spare }
-        ensures adds { (group : List Recorded) → Holds events.old group
-            → Holds events.new (group ++ steps_events steps.now (basis_of transaction is_recorded self.now)) }
+        requires spelled { (b : Basis) → IsBasis b transaction is_recorded self.now → All IsSpellableEvent (events_ahead steps.now b) }
+        requires fits { (b : Basis) → IsBasis b transaction is_recorded self.now → sum_by event_size (events_ahead steps.now b) ≤ events.old.spare }
+        ensures adds { (b : Basis) (group : List Recorded) → IsBasis b transaction is_recorded self.now → Holds events.old group
+            → Holds events.new (group ++ events_ahead steps.now b) }
+        ensures spare { (b : Basis) → IsBasis b transaction is_recorded self.now
+            → events.new.spare + sum_by event_size (events_ahead steps.now b) ≡ events.old.spare }
         ensures room { events.new.room ≡ events.old.room }
     {
         let mut recorded = is_recorded;
         for step in steps {
-            recorded = self.record_step(transaction, recorded, step, events);
+            self.record_step(transaction, recorded, step, events);
+            recorded = self.is_recorded_after(step, recorded);
         }
     }
 }

@@ -15,3 +15,4 @@ pub mod Groups
 pub mod KeptLemmas
 pub mod LeastSizes
 pub mod GroupSizes
+pub mod Joined

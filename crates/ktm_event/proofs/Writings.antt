@@ -17,7 +17,7 @@ use Rattle.ktm_types.specs.declared.event.Part.TheVariants.{Enlistment, Changes,
 use Rattle.ktm_types.specs.EventGrammar.{IsIdOf, IsPutOf, IsSetTo, IsSettingOf, AreSettingsOf, IsPartOf, IsSoleOf, IsEventOf}
 use Rattle.ktm_types.specs.Sizes.{event_size, part_size}
 use Rattle.ktm_types.specs.Values.{IsText}
-use Rattle.ktm_event.specs.Spelling.{IsSpellableId, AreSpellableChanges, AreSpellableSettings, IsSpellablePart, IsSpellableSole, IsSpellableEvent}
+use Rattle.ktm_event.specs.Spelling.{IsSpellableId, AreSpellableChanges, AreSpellableSettings, IsSpellablePart, IsSpellableRecord, IsSpellableSole, IsSpellableEvent}
 use Rattle.ktm_event.specs.Work.{stage_tag, work_event}
 use Rattle.ktm_event.specs.declared.work.Stage.{Stage}
 use Rattle.ktm_event.specs.declared.work.Stage.TheVariants.{Ready, Single}
@@ -110,3 +110,8 @@ pub work_settings : (stage : Stage) (transaction : Id) (settings : List (Keyed (
     → AreSpellableSettings settings
 work_settings Ready transaction settings spellable = spellable.1
 work_settings Single transaction settings spellable = spellable.1
+
+pub work_enlistment : (stage : Stage) (transaction enlistment manager : Id) (information : List ℕ) → IsSpellableEvent (work_event stage transaction (Enlistment enlistment manager information))
+    → IsSpellableRecord enlistment manager information
+work_enlistment Ready transaction enlistment manager information spellable = spellable.1
+work_enlistment Single transaction enlistment manager information spellable = absurd spellable.1

@@ -10,7 +10,7 @@ use Rattle.ktm_types.specs.declared.event.Event.{Event}
 use Rattle.ktm_types.specs.declared.event.Event.TheVariants.{Ready, Single}
 use Rattle.ktm_event.specs.declared.work.FileBytes.{FileBytes}
 use Rattle.ktm_event.specs.declared.work.Work.{Work}
-use Rattle.ktm_event.specs.declared.work.Work.TheVariants.{Changes, Settings}
+use Rattle.ktm_event.specs.declared.work.Work.TheVariants.{Changes, Settings, Enlistment}
 use Rattle.ktm_event.specs.declared.work.Stage.{Stage}
 use Rattle.ktm_event.specs.declared.work.Stage.TheVariants.{Ready as Prepared, Single as Alone}
 
@@ -31,6 +31,7 @@ changes_of names files = names ++ flat_map changes_of_file files
 abbrev pub part_of : Work → Part
 part_of (Changes names files) = Part.Changes (changes_of names.now files.now)
 part_of (Settings settings) = Part.Settings settings.now
+part_of (Enlistment enlistment manager information) = Part.Enlistment enlistment manager information.now
 
 -- the event of a participant that is prepared, or of a transaction that has this one part alone and commits
 abbrev pub work_event : Stage → Id → Part → Event

@@ -13,8 +13,8 @@ ghost use Rattle.ktm_event.specs.Work.{part_of, work_event};
 use crate::change::{change_at, put_change};
 use crate::field::{count_at, id_at, put_id, tag_at};
 use crate::part::{
-    done_at, part_at, put_done, put_names_and_files_part, put_part, put_record, put_settings_part,
-    record_at, sole_at,
+    done_at, part_at, put_done, put_enlistment, put_names_and_files_part, put_part, put_record,
+    put_settings_part, record_at, sole_at,
 };
 use crate::{EventFault, Stage, Work};
 use ktm_base::{Id, NoMemory};
@@ -197,7 +197,7 @@ fn put_single(out: &mut Vec<u8>, transaction: Id, part: &Part) -> Result<(), NoM
     put_part(out, part)
 }
 
-fn put_held(
+pub(crate) fn put_held(
     out: &mut Vec<u8>,
     transaction: Id,
     enlistment: Id,
@@ -244,6 +244,11 @@ pub(crate) fn put_work(
     match work {
         Work::Changes { names, files } => put_names_and_files_part(out, names, files),
         Work::Settings(settings) => put_settings_part(out, settings),
+        Work::Enlistment {
+            enlistment,
+            manager,
+            information,
+        } => put_enlistment(out, enlistment, manager, information),
     }
 }
 

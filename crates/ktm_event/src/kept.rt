@@ -6,11 +6,12 @@ ghost use Rattle.ktm_log.specs.Settle.{IsBodyOf, behind_gate};
 ghost use Rattle.ktm_types.specs.EventGrammar.{IsGroupOf};
 ghost use Rattle.ktm_types.specs.Sizes.{event_size, frame_size};
 ghost use Rattle.ktm_types.specs.declared.event.Event.{Event};
+ghost use Rattle.ktm_types.specs.declared.event.Event.TheVariants.{Held};
 ghost use Rattle.ktm_event.specs.Kept.{Holds};
 ghost use Rattle.ktm_event.specs.Spelling.{IsSpellableEvent};
 ghost use Rattle.ktm_event.specs.Work.{part_of, work_event};
 
-use crate::event::{put_work, write_event};
+use crate::event::{put_held, put_work, write_event};
 use crate::{Stage, Work};
 use ktm_base::{Id, NoMemory};
 use ktm_types::Event;
@@ -163,6 +164,29 @@ impl Events {
     {
         open(&mut self.bytes);
         put_work(&mut self.bytes, stage, transaction, work).unwrap();
+        self.count += 1;
+        close(&mut self.bytes, self.count);
+    }
+
+    /// Adds the event of a superior that has prepared its transaction, with its recovery information.
+    pub fn push_held(&mut self, transaction: Id, enlistment: Id, manager: Id, information: &[u8])
+        requires spellable { IsSpellableEvent (Held transaction enlistment manager information.now) }
+        requires fits { event_size (Held transaction enlistment manager information.now) ≤ self.old.spare }
+        ensures adds { (events : List Event) → Holds self.old events
+            → Holds self.new (events ++ Held transaction enlistment manager information.now ∷ []) }
+        ensures spare { self.new.spare + event_size (Held transaction enlistment manager information.now) ≡ self.old.spare }
+        ensures room { self.new.room ≡ self.old.room }
+        ensures capacity { self.old.capacity ≤ self.new.capacity }
+    {
+        open(&mut self.bytes);
+        put_held(
+            &mut self.bytes,
+            transaction,
+            enlistment,
+            manager,
+            information,
+        )
+        .unwrap();
         self.count += 1;
         close(&mut self.bytes, self.count);
     }

@@ -20,5 +20,5 @@ pub use fault::EventFault;
 pub use group::read_group;
 pub use kept::Events;
 pub use laws::{law_of_events, law_of_groups, law_of_kept_events, law_of_round_trip};
-pub use size::{event_size, work_size};
+pub use size::{event_size, held_size, work_size};
 pub use work::{FileBytes, Stage, Work};

@@ -112,7 +112,7 @@ pub(crate) fn put_record(
     Ok(())
 }
 
-fn put_enlistment(
+pub(crate) fn put_enlistment(
     out: &mut Vec<u8>,
     enlistment: Id,
     manager: Id,

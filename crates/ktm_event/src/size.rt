@@ -4,6 +4,7 @@ ghost use Rattle.std.specs.Prelude.{◌≡◌, ◌-◌, ◌^◌, min, sum_by};
 ghost use Rattle.std.specs.List.{flat_map};
 ghost use Rattle.ktm_base.specs.declared.id.Id.{Id};
 ghost use Rattle.ktm_types.specs.Sizes.{change_size, done_size, event_size, part_size, put_size, record_size, set_to_size, setting_size};
+ghost use Rattle.ktm_types.specs.declared.event.Event.TheVariants.{Held};
 ghost use Rattle.ktm_event.specs.Work.{changes_of_file, part_of, work_event};
 ghost use Rattle.ktm_event.specs.declared.work.Stage.{Stage};
 
@@ -126,7 +127,7 @@ pub fn event_size(event: &Event) -> usize
         Event::Ready { part, .. } | Event::Single { part, .. } => {
             part_size(part).saturating_add(9)
         }
-        Event::Held { information, .. } => record_size(information.as_slice()).saturating_add(9),
+        Event::Held { information, .. } => held_size(information.as_slice()),
         Event::Done { done, .. } => done_size(*done) + 9,
     }
 }
@@ -136,9 +137,21 @@ pub fn work_size(work: Work<'_>) -> usize
     ensures { (stage : Stage) (transaction : Id)
         → result ≡ min (event_size (work_event stage transaction (part_of work.entry))) (2 ^ 64 - 1) }
 {
-    let items = match work {
-        Work::Changes { names, files } => changes_size(names).saturating_add(files_size(files)),
-        Work::Settings(settings) => settings_size(settings),
+    let part = match work {
+        Work::Changes { names, files } => {
+            let items = changes_size(names).saturating_add(files_size(files));
+            items.saturating_add(5)
+        }
+        Work::Settings(settings) => settings_size(settings).saturating_add(5),
+        Work::Enlistment { information, .. } => record_size(information).saturating_add(1),
     };
-    items.saturating_add(14)
+    part.saturating_add(9)
+}
+
+/// The same of the event of a superior that has prepared its transaction, from its recovery information.
+pub fn held_size(information: &[u8]) -> usize
+    ensures { (transaction enlistment manager : Id)
+        → result ≡ min (event_size (Held transaction enlistment manager information.now)) (2 ^ 64 - 1) }
+{
+    record_size(information).saturating_add(9)
 }

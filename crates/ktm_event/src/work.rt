@@ -3,6 +3,7 @@ ghost use Rattle.std.specs.Prelude.{◌≡◌};
 ghost use Rattle.ktm_event.specs.Work.{stage_tag};
 
 use crate::event::{READY, SINGLE};
+use ktm_base::Id;
 use ktm_types::{Change, Setting};
 
 /// All bytes of a file that a transaction wrote.
@@ -23,6 +24,12 @@ pub enum Work<'a> {
     },
     /// Settings of keys.
     Settings(&'a [Setting]),
+    /// An enlistment with its recovery information, which is recorded once it is prepared.
+    Enlistment {
+        enlistment: Id,
+        manager: Id,
+        information: &'a [u8],
+    },
 }
 
 /// What a participant's work is recorded with.

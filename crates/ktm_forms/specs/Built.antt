@@ -1,41 +1,26 @@
 -- Which lines the machine answers, and which groups of events it records; every other line is a bad line to it, and an image with another
 -- group a bad image, until it is built.
-use Rattle.std.specs.Prelude.{◌≡◌, ℕ, ◌&&◌, Bool, true, false, List, [], ◌∷◌, Option, Some, None}
+use Rattle.std.specs.Prelude.{◌≡◌, ◌&&◌, ◌||◌, not, Bool, true, false, List, [], ◌∷◌, Option, Some, None, is_none}
 use Rattle.std.specs.List.{list_all}
+use Rattle.ktm_base.specs.declared.id.Id.{Id}
 use Rattle.ktm_types.specs.declared.command.Command.{Command}
-use Rattle.ktm_types.specs.declared.command.Command.TheVariants.{CreateResourceManager, OpenResourceManager, RecoverResourceManager, GetNotificationResourceManager, CreateEnlistment, OpenEnlistment, RecoverEnlistment, PrePrepareComplete, PrepareComplete, ReadOnlyEnlistment, CommitComplete, RollbackComplete, SinglePhaseReject, RollbackEnlistment, PrePrepareEnlistment, PrepareEnlistment, CommitEnlistment, SetEnlistmentRecoveryInformation, GetEnlistmentRecoveryInformation}
+use Rattle.ktm_types.specs.declared.command.Command.TheVariants.{CreateEnlistment, PrePrepareEnlistment, PrepareEnlistment, CommitEnlistment}
 use Rattle.ktm_types.specs.declared.command.Line.{Line}
 use Rattle.ktm_types.specs.declared.command.Line.TheVariants.{Tick, Cut, Crash, Restart, Process}
-use Rattle.ktm_types.specs.declared.event.DonePart.{DonePart}
-use Rattle.ktm_types.specs.declared.event.Event.TheVariants.{Boot, Plain, Ready, Single, Decide, Done}
+use Rattle.ktm_types.specs.declared.event.Event.{Event}
+use Rattle.ktm_types.specs.declared.event.Event.TheVariants.{Ready, Held, Decide}
 use Rattle.ktm_types.specs.declared.event.Part.TheVariants.{Changes, Settings}
-use Rattle.ktm_world.specs.Durable.{Durable, is_sole}
-use Rattle.ktm_world.specs.Keys.{Store}
+use Rattle.ktm_world.specs.Durable.{Durable, Recorded, is_decided, is_held, is_sole}
 use Rattle.ktm_world.specs.Logs.{Group}
+use Rattle.ktm_world.specs.TransactionCalls.{is_superior_kind}
 use Rattle.ktm_world.specs.Transactions.{same_id}
-use Rattle.ktm_world.specs.Tree.{Tree}
 
--- is the call built: all are but those on resource managers and enlistments
+-- is the call built: all are but those that make a superior, or that only a superior may make
 abbrev pub is_built_command : Command → Bool
-is_built_command (CreateResourceManager label durability) = false
-is_built_command (OpenResourceManager label guid) = false
-is_built_command (RecoverResourceManager label) = false
-is_built_command (GetNotificationResourceManager label) = false
-is_built_command (CreateEnlistment label manager transaction kind) = false
-is_built_command (OpenEnlistment label manager guid) = false
-is_built_command (RecoverEnlistment label) = false
-is_built_command (PrePrepareComplete label) = false
-is_built_command (PrepareComplete label) = false
-is_built_command (ReadOnlyEnlistment label) = false
-is_built_command (CommitComplete label) = false
-is_built_command (RollbackComplete label) = false
-is_built_command (SinglePhaseReject label) = false
-is_built_command (RollbackEnlistment label) = false
+is_built_command (CreateEnlistment label manager transaction kind) = not (is_superior_kind kind)
 is_built_command (PrePrepareEnlistment label) = false
 is_built_command (PrepareEnlistment label) = false
 is_built_command (CommitEnlistment label) = false
-is_built_command (SetEnlistmentRecoveryInformation label information) = false
-is_built_command (GetEnlistmentRecoveryInformation label) = false
 is_built_command _ = true
 
 -- is the line built
@@ -51,23 +36,37 @@ abbrev pub is_built_line : Option Line → Bool
 is_built_line None = true
 is_built_line (Some line) = is_built line
 
--- is the group built: a start of the machine, a plain change, or a transaction that commits what it changed, what it set, or both
+-- does the next event decide this transaction, or make its settings ready, and the one behind it decide it
+abbrev pub is_decided_next : Id → Group → Bool
+is_decided_next id (Decide other ∷ events) = same_id other id
+is_decided_next id (Ready other (Settings settings) ∷ Decide another ∷ events) = same_id other id && same_id another id
+is_decided_next id _ = false
+
+-- does nothing wait that the event made ready or held, once those behind it are recorded: changes and settings are decided next
+abbrev pub leaves_nothing : Event → Group → Bool
+leaves_nothing (Ready id (Changes changes)) events = is_decided_next id events
+leaves_nothing (Ready id (Settings settings)) events = is_decided_next id events
+leaves_nothing (Held transaction enlistment manager information) events = false
+leaves_nothing _ events = true
+
+-- do no changes or settings wait once the events are recorded, and is no transaction held
+abbrev pub waits_for_nothing : Group → Bool
+waits_for_nothing [] = true
+waits_for_nothing (event ∷ events) = leaves_nothing event events && waits_for_nothing events
+
+-- is the group built: it has events, and waits for nothing
 abbrev pub is_built_group : Group → Bool
-is_built_group (Boot boot ∷ []) = true
-is_built_group (Plain change ∷ []) = true
-is_built_group (Single transaction part ∷ []) = is_sole part
-is_built_group (Ready a (Changes changes) ∷ Ready b (Settings settings) ∷ Decide c ∷ Done d DonePart.Files ∷ Done e DonePart.Keys ∷ []) = same_id b a && same_id c a && same_id d a && same_id e a
-is_built_group _ = false
+is_built_group [] = false
+is_built_group (event ∷ events) = waits_for_nothing (event ∷ events)
 
 -- has a log built groups alone
 abbrev pub is_built_log : List Group → Bool
 is_built_log log = list_all is_built_group log
 
--- the state that built groups come to: committed files and keys, and no resource managers or transactions that are not over
-abbrev pub built_state : ℕ → ℕ → ℕ → ℕ → ℕ → Tree → Store → Durable
-built_state units image events boots next_node tree keys =
-    record { units = units; image = image; events = events; boots = boots; next_node = next_node; tree = tree; keys = keys; managers = []; transactions = [] }
+-- has the transaction no superior, and is it not held, and is it decided, or are all its parts those of enlistments
+abbrev pub is_built_recorded : Recorded → Bool
+is_built_recorded t = is_none t.superior && not (is_held t.stage) && (is_decided t.stage || list_all (λ p. not (is_sole p.part)) t.parts)
 
--- the state has files and keys alone
+-- no transaction of the state has a superior or is held, and none that is not decided has changes or settings
 abbrev pub IsBuiltState : Durable → Type 0
-IsBuiltState s = s ≡ built_state s.units s.image s.events s.boots s.next_node s.tree s.keys
+IsBuiltState s = list_all is_built_recorded s.transactions ≡ true

@@ -2,6 +2,10 @@ pub mod Possible
 pub mod Left
 pub mod Worlds
 pub mod Ready
+pub mod OwnGroups
+pub mod Begun
+pub mod Sent
+pub mod Asked
 pub mod Restarts
 pub mod StartAgain
 pub mod Ends

@@ -1,5 +1,5 @@
--- What an outcome leaves of what is so now.
-use Rattle.std.proofs.Common.{◌≡◌, ◌⊎◌, ◌||◌, ℕ, Bool, true, false, [], Option, Result, Ok, Err, sym, ◌∙◌, ap, subst, refl, inl, inr, arith}
+-- What an answer leaves, for the line by which it came.
+use Rattle.std.proofs.Common.{◌≡◌, ◌≢◌, ◌⊎◌, ◌||◌, ◌≤◌, ℕ, Bool, true, false, Option, Some, Result, Ok, Err, sym, ◌∙◌, ap, subst, refl, inl, inr, arith}
 use Rattle.std.proofs.lemmas.Bool.{both_ways}
 use Rattle.ktm_base.specs.declared.fault.NoMemory.{NoMemory}
 use Rattle.ktm_base.specs.declared.id.Pid.{Pid}
@@ -8,23 +8,24 @@ use Rattle.ktm_base.specs.Count.{Rose}
 use Rattle.ktm_base.specs.Disk.{DiskState, DiskStatus, DeviceCalls}
 use Rattle.ktm_forms.specs.Built.{is_built_command}
 use Rattle.ktm_log.specs.OnDisk.{OnDisk}
+use Rattle.ktm_slots.specs.Owed.{owed_slots}
 use Rattle.ktm_types.specs.declared.command.Command.{Command}
+use Rattle.ktm_types.specs.declared.command.Line.{Line}
+use Rattle.ktm_types.specs.declared.command.Line.TheVariants.{Process, Tick}
 use Rattle.ktm_types.specs.declared.reply.Reply.{Reply}
 use Rattle.ktm_types.specs.declared.reply.Reply.TheVariants.{Refused}
 use Rattle.ktm_types.specs.Values.{IsCommand}
 use Rattle.ktm_world.specs.Decide.{decide}
 use Rattle.ktm_world.specs.Outcome.{Outcome, apply}
 use Rattle.ktm_world.specs.Present.{Present}
-use Rattle.ktm_world.specs.World.{decide_tick}
+use Rattle.ktm_world.specs.World.{World, decide_tick, present}
 use Rattle.ktm_built.specs.Laws.{StandingLaw}
-use Rattle.ktm_built.specs.Standing.{IsBuiltNow, IsStandingNow}
+use Rattle.ktm_built.specs.Standing.{IsStanding, IsStandingNow}
 use Rattle.ktm_built.proofs.offered.Decided.{decided_law}
-use Rattle.ktm_built.proofs.offered.Decided.{done_tick}
-use Rattle.ktm_memory.specs.Recorded.{IsUntouched}
-use Rattle.ktm_kernel.specs.Answers.{AnswerLeaves, CallLeaves, IsAnswered, IsCallAnswered}
-use Rattle.ktm_kernel.specs.Done.{Ends, IsDone}
-use Rattle.ktm_kernel.specs.Stands.{IsPowered, IsReady, KernelState}
-use Rattle.ktm_kernel.proofs.Worlds.{call_goes_on, down_call, ended_line}
+use Rattle.ktm_kernel.specs.Answers.{AnswerLeaves, CallLeaves, IsAnswered, IsLineAnswered}
+use Rattle.ktm_kernel.specs.Done.{Ends}
+use Rattle.ktm_kernel.specs.Stands.{DoesLine, IsPowered, IsReady, KernelAt, KernelState}
+use Rattle.ktm_kernel.proofs.Worlds.{DoesCall, GoesOn, call_goes_on, down_call, down_tick, ended_line, tick_goes_on, tick_not_down}
 
 -- ---- a machine that is down
 
@@ -36,8 +37,16 @@ unpowered k told status off = record {
   image = λ on. absurd (both_ways k.now.machine.is_up off on);
 }
 
+-- and needs no room
+pub off_slots : (k : KernelState) → k.now.machine.is_up ≡ false → k.now.machine.is_up ≡ true → owed_slots k.now ≤ k.slots
+off_slots k off on = absurd (both_ways k.now.machine.is_up off on)
+
 pub off_ready : (k : KernelState) (told : Option DiskState) (status : DiskStatus) → k.now.machine.is_up ≡ false → IsReady k told status
-off_ready k told status off = record { powered = unpowered k told status off; standing = λ on. absurd (both_ways k.now.machine.is_up off on) }
+off_ready k told status off = record {
+  powered = unpowered k told status off;
+  standing = λ on. absurd (both_ways k.now.machine.is_up off on);
+  slots = off_slots k off;
+}
 
 -- ---- an outcome
 
@@ -49,7 +58,7 @@ ends_standing true old new o reply before now standing cut on = let off = sym on
 
 -- a reply that says that the machine is down has a cause
 down_cause : (is_down : Bool) (old new : KernelState) (o : Outcome) (reply : Reply) (before now : Option DiskState) (a b : DiskStatus)
-    → (o.reply ≡ Refused MachineDown → ⊥) → a.is_down ≡ false → Ends is_down old o reply new before now → DeviceCalls 4 a b is_down
+    → o.reply ≢ Refused MachineDown → a.is_down ≡ false → Ends is_down old o reply new before now → DeviceCalls 4 a b is_down
     → reply ≡ Refused MachineDown → (old.now.machine.is_up ≡ false) ⊎ Rose a.downs b.downs
 down_cause false old new o reply before now a b other on done calls is = absurd (other (sym done.says ∙ is))
 down_cause true old new o reply before now a b other on cut calls is = elim (calls.cause refl) [
@@ -57,55 +66,60 @@ down_cause true old new o reply before now a b other on cut calls is = elim (cal
   | inr rose ↦ inr rose
 ]
 
--- ---- an answer
-
-module _ (o : Outcome) (old new : OnDisk KernelState) (reply : Reply) (answered : IsAnswered o old new reply) where
-  -- what an outcome leaves is ready for the next line
-  pub ready_after : IsStandingNow (apply old.it.now o) → IsReady new.it new.told new.status
-  ready_after standing = record { powered = answered.powered; standing = ends_standing new.status.is_down old.it new.it o reply old.told new.told standing answered.ends }
-
-  -- one that records nothing touches nothing
-  pub quiet_untouched : o.events ≡ [] → IsUntouched old new
-  quiet_untouched none = answered.untouched (inr none)
-
-  -- and where the disk is as it was, the machine was not cut off
-  pub never_cut : (o.reply ≡ Refused MachineDown → ⊥) → old.status.is_down ≡ false → o.events ≡ [] → reply ≡ Refused MachineDown → old.it.now.machine.is_up ≡ false
-  never_cut other on none is =
-      let same = ap (λ s. s.is_down) (quiet_untouched none).status in
-      let done : IsDone old.it o reply new.it old.told new.told = subst (λ d. Ends d old.it o reply new.it old.told new.told) (same ∙ on) answered.ends in
-      absurd (other (sym done.says ∙ is))
-
--- nor is the passing of time refused while the machine is up
-pub tick_answered : (x : Present) (ms : ℕ) → IsBuiltNow x → x.machine.is_up ≡ true → (decide_tick x ms).reply ≡ Refused MachineDown → ⊥
-tick_answered x ms built up is =
-    let done = sym (done_tick x ms).says ∙ ap (λ (o : Outcome). o.reply) (sym (decided_law.time x ms built up)) ∙ is in
-    absurd (cc)
-
--- ---- a call
-
--- while the machine is up, for each world that it stands for
-pub call_answered : StandingLaw → (process : Pid) (command : Command) → IsCommand command → is_built_command command ≡ true → (old new : OnDisk KernelState) → old.it.now.machine.is_up ≡ true → IsReady old.it old.told old.status
-    → (r : Result Reply NoMemory) → AnswerLeaves (decide old.it.now process command) old new r → CallLeaves process command old new r
-call_answered law process command can built old new up ready (Ok reply) answered = record {
-  does = ended_line (λ x. decide x process command) new.status.is_down old.it new.it reply old.told new.told up (call_goes_on law process command can built) answered.ends;
-  cause = down_cause new.status.is_down old.it new.it (decide old.it.now process command) reply old.told new.told old.status new.status
-      (decided_law.is_up old.it.now process command built up) (ready.powered.power up) answered.ends answered.calls;
-  ready = ready_after (decide old.it.now process command) old new reply answered (law.commands_now old.it.now process command can built (ready.standing up));
-  calls = answered.calls;
-  untouched = answered.untouched;
-}
-call_answered law process command can built old new up ready (Err fault) untouched = untouched
+-- ---- a line
 
 or_same : (b : Bool) → b ≡ (b || b)
 or_same true = refl
 or_same false = refl
 
--- while it is down, when nothing is done
-pub call_down : (process : Pid) (command : Command) (old : OnDisk KernelState) → old.it.now.machine.is_up ≡ false → IsReady old.it old.told old.status → IsCallAnswered process command old old (Refused MachineDown)
-call_down process command old off ready = record {
-  does = down_call old.it old.told process command off;
-  cause = λ is. inl off;
-  ready = ready;
-  calls = record { later = omega arith; counted = omega arith; few = omega arith; cause = λ refused. inl refused; down = or_same old.status.is_down; plan = refl; places = refl };
-  untouched = λ touches. record { told = refl; status = refl };
-}
+-- a line that is decided so
+module _ (line : Line) (decides : Present → Outcome) (does : (w : World) (k : KernelState) (told : Option DiskState) (reply : Reply) → DoesCall w (decides (present w)) reply k told → DoesLine w (Some line) reply k told) where
+  -- while the machine is up, for each world that it stands for
+  up_answered : ((w : World) → IsStanding w → GoesOn w (decides (present w))) → (old new : OnDisk KernelState) → old.it.now.machine.is_up ≡ true → IsReady old.it old.told old.status
+      → IsStandingNow (apply old.it.now (decides old.it.now)) → (decides old.it.now).reply ≢ Refused MachineDown
+      → (reply : Reply) → IsAnswered (decides old.it.now) old new reply → IsLineAnswered line (decides old.it.now) old new reply
+  up_answered goes_on old new up ready standing other reply answered = record {
+    does = λ w at. does w new.it new.told reply (ended_line decides new.status.is_down old.it new.it reply old.told new.told up goes_on answered.ends w at);
+    cause = down_cause new.status.is_down old.it new.it (decides old.it.now) reply old.told new.told old.status new.status other (ready.powered.power up) answered.ends answered.calls;
+    ready = record {
+      powered = answered.powered;
+      standing = ends_standing new.status.is_down old.it new.it (decides old.it.now) reply old.told new.told standing answered.ends;
+      slots = answered.slots;
+    };
+    calls = answered.calls;
+    untouched = answered.untouched;
+  }
+
+  -- while it is down, when nothing is done
+  down_answered : (old : OnDisk KernelState) → ((w : World) → KernelAt old.it old.told w → DoesCall w (decides (present w)) (Refused MachineDown) old.it old.told)
+      → old.it.now.machine.is_up ≡ false → IsReady old.it old.told old.status → IsLineAnswered line (decides old.it.now) old old (Refused MachineDown)
+  down_answered old stays off ready = record {
+    does = λ w at. does w old.it old.told (Refused MachineDown) (stays w at);
+    cause = λ is. inl off;
+    ready = ready;
+    calls = record { later = omega arith; counted = omega arith; few = omega arith; cause = λ refused. inl refused; down = or_same old.status.is_down; plan = refl; places = refl };
+    untouched = λ touches. record { told = refl; status = refl };
+  }
+
+-- a call of a process
+pub call_answered : StandingLaw → (process : Pid) (command : Command) → IsCommand command → is_built_command command ≡ true → (old new : OnDisk KernelState) → old.it.now.machine.is_up ≡ true → IsReady old.it old.told old.status
+    → (r : Result Reply NoMemory) → AnswerLeaves (decide old.it.now process command) old new r → CallLeaves process command old new r
+call_answered law process command can built old new up ready (Ok reply) answered =
+    up_answered (Process process command) (λ x. decide x process command) (λ w k told r does. does) (call_goes_on law process command can built) old new up ready
+    (law.commands_now old.it.now process command can built (ready.standing up)) (decided_law.is_up old.it.now process command built up) reply answered
+call_answered law process command can built old new up ready (Err fault) untouched = untouched
+
+pub call_down : (process : Pid) (command : Command) (old : OnDisk KernelState) → old.it.now.machine.is_up ≡ false → IsReady old.it old.told old.status
+    → IsLineAnswered (Process process command) (decide old.it.now process command) old old (Refused MachineDown)
+call_down process command old off ready =
+    down_answered (Process process command) (λ x. decide x process command) (λ w k told r does. does) old (down_call old.it old.told process command off) off ready
+
+-- the passing of time
+pub tick_answered : StandingLaw → (ms : ℕ) (old new : OnDisk KernelState) → old.it.now.machine.is_up ≡ true → IsReady old.it old.told old.status
+    → (reply : Reply) → IsAnswered (decide_tick old.it.now ms) old new reply → IsLineAnswered (Tick ms) (decide_tick old.it.now ms) old new reply
+tick_answered law ms old new up ready reply answered =
+    up_answered (Tick ms) (λ x. decide_tick x ms) (λ w k told r does. does) (tick_goes_on law ms) old new up ready
+    (law.ticks_now old.it.now ms (ready.standing up)) (tick_not_down old.it.now ms up) reply answered
+
+pub tick_down : (ms : ℕ) (old : OnDisk KernelState) → old.it.now.machine.is_up ≡ false → IsReady old.it old.told old.status → IsLineAnswered (Tick ms) (decide_tick old.it.now ms) old old (Refused MachineDown)
+tick_down ms old off ready = down_answered (Tick ms) (λ x. decide_tick x ms) (λ w k told r does. does) old (down_tick old.it old.told ms off) off ready

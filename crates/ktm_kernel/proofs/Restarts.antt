@@ -1,6 +1,6 @@
 -- What a restart finds on a disk, and what it makes of it.
-use Rattle.std.proofs.Common.{◌≡◌, ℕ, ◌+◌, ◌-◌, ◌^◌, ◌≤◌, ◌<◌, true, false, List, [], ◌∷◌, ◌++◌, length, Bool, Result, Ok, Err, Option, None, Some, refl, sym, ◌∙◌, ap, subst, arith, inl, inr, append_assoc}
-use Rattle.std.proofs.lemmas.Bool.{and_from, and_parts, eq-eqb, lt-ltb}
+use Rattle.std.proofs.Common.{◌≡◌, ℕ, ◌+◌, ◌-◌, ◌*◌, ◌^◌, ◌≤◌, ◌<◌, true, false, List, [], ◌∷◌, ◌++◌, length, Bool, Result, Err, Option, None, Some, refl, sym, ◌∙◌, ap, subst, arith, inl, inr, append_assoc}
+use Rattle.std.proofs.lemmas.Bool.{and_from, and_parts, both_ways, ltb-false}
 use Rattle.std.proofs.lemmas.List.Folds.{list_all-append}
 use Rattle.std.proofs.lemmas.List.Sums.{sum_by-cons}
 use Rattle.std.specs.List.{list_all}
@@ -10,46 +10,46 @@ use Rattle.ktm_base.specs.Disk.{DeviceCalls, DiskState, DiskStatus, IsSafe}
 use Rattle.ktm_base.proofs.offered.Images.{safe_law}
 use Rattle.ktm_base.proofs.offered.ToldSteps.{IfSome-map, IsSomeAnd-map}
 use Rattle.ktm_log.specs.declared.area.Area.{Area}
-use Rattle.ktm_log.specs.Log.{LogState}
 use Rattle.ktm_log.specs.OnDisk.{OnDisk, ReadsInto, on}
-use Rattle.ktm_restart.specs.Loads.{IsLoaded}
+use Rattle.ktm_restart.specs.Loads.{IsJournalOf, IsLoaded, MayStart}
 use Rattle.ktm_restart.specs.declared.replay.Loaded.{Loaded}
-use Rattle.ktm_restart.specs.Logs.{AreInLog, AreSpelled, HoldsLog, StandsFor}
-use Rattle.ktm_journal.specs.Append.{HasNoRoom, IsInterrupted, IsSameImage, Records}
-use Rattle.ktm_journal.specs.Image.{JournalState, JournalAt, IsImage, IsFormatted, LeavesGroupOrNot, left_after, log_area}
+use Rattle.ktm_restart.specs.Logs.{AreSpelled, HoldsLog, StandsFor}
+use Rattle.ktm_journal.specs.Append.{IsSameImage, has_no_room}
+use Rattle.ktm_journal.specs.Image.{JournalState, JournalAt, IsImage, IsFormatted, LeavesGroupOrNot, left_after}
 use Rattle.ktm_journal.proofs.offered.GroupSizes.{journal_left}
 use Rattle.ktm_restart.proofs.offered.OneState.{one_held}
 use Rattle.ktm_event.specs.Kept.{EventsState, Holds}
-use Rattle.ktm_types.specs.declared.event.Event.{Event}
-use Rattle.ktm_types.specs.declared.event.Event.TheVariants.{Boot}
 use Rattle.ktm_forms.specs.Built.{is_built_group, is_built_log, IsBuiltState}
-use Rattle.ktm_forms.specs.Taking.{within}
-use Rattle.ktm_forms.proofs.Applying.{applies_boot, within_built}
-use Rattle.ktm_forms.proofs.BuiltStates.{built_log, built_stand, own_is}
+use Rattle.ktm_forms.proofs.BuiltStates.{built_log, built_own}
 use Rattle.ktm_world.specs.Durable.{Durable, empty_state, stand, events_apply, log_applies}
 use Rattle.ktm_types.specs.Sizes.{area_len, frame_size, log_size}
 use Rattle.ktm_world.specs.Logs.{Group}
 use Rattle.ktm_world.specs.Outcome.{is_full as is_full_in}
 use Rattle.ktm_world.specs.World.{own_group, opened, present}
-use Rattle.ktm_world.proofs.offered.Durables.{stand-append, stand-units, log_applies-append}
+use Rattle.ktm_world.proofs.offered.Durables.{after_events-events, after_events-image, after_events-units, stand-append, stand-units, log_applies-append}
+use Rattle.ktm_world.specs.Present.{Present}
 use Rattle.ktm_world.proofs.offered.SizeLemmas.{log_size-append}
 use Rattle.ktm_built.specs.Laws.{FreshLaw, StandingLaw}
 use Rattle.ktm_built.specs.Standing.{IsStanding, IsStandingNow, fresh}
 use Rattle.ktm_states.specs.GoodState.{IsGoodState}
 use Rattle.ktm_states.specs.GoodStates.{GoodStatesLaw}
 use Rattle.ktm_states.specs.Grammatical.{GrammarLaw, is_grammatical}
+use Rattle.ktm_states.specs.OwnGroup.{OwnGroupLaw}
+use Rattle.ktm_slots.specs.Owed.{owed_slots}
+use Rattle.ktm_trace.specs.Contents.{ContentsLaw}
+use Rattle.ktm_tm.specs.TmState.{TmState}
 use Rattle.ktm_laws.specs.Running.{IsRoomy, is_log_grammatical}
-use Rattle.ktm_laws.proofs.offered.LogCounts.{log-boots, log-events, own-frame, room-for}
-use Rattle.ktm_memory.specs.Memory.{Held, MemoryState, held, now_of}
-use Rattle.ktm_world.specs.Tree.{Tree}
-use Rattle.txf_volume.specs.Held.{files_begun, files_of}
-use Rattle.ktm_world.specs.Files.{FilesNow}
-use Rattle.ktm_world.specs.Keys.{Store}
+use Rattle.ktm_laws.proofs.offered.LogCounts.{frame-counts, log-boots, log-events, own-frame, room-for}
+use Rattle.ktm_memory.specs.Memory.{IsRoomy as HasRoom, MemoryState, Shows, present_of}
+use Rattle.ktm_memory.specs.Recorded.{AreCutOff, AreRecorded, HaveNoRoom, RecordingLeaves}
+use Rattle.ktm_memory.proofs.offered.Shown.{Counts, shown-is}
+use Rattle.ktm_memory.proofs.offered.Standing.{kept as kept_now}
 use Rattle.ktm_log.specs.declared.fault.AppendFault.{AppendFault}
-use Rattle.ktm_kernel.specs.Restarts.{HoldsBoth, IsStarted, IsUnpowered, IsUnwritten, LeavesOwnOrNot, ListsStart, NoStartLeaves, StartLeaves, Started, base_of, is_full_for_own, restart_went_down, unrecorded}
+use Rattle.ktm_kernel.specs.Restarts.{FoundFull, HoldsBoth, IsStarted, IsUnpowered, IsUnwritten, LeavesOwnOrNot, NoStartLeaves, Started, base_of, is_full_for_own, restart_went_down, unrecorded}
+use Rattle.ktm_kernel.specs.Starting.{Begun, NothingBegins}
 use Rattle.ktm_kernel.specs.declared.restart.Restarted.{Restarted}
 use Rattle.ktm_kernel.specs.declared.restart.RestartFault.{RestartFault}
-use Rattle.ktm_kernel.specs.Stands.{KernelState, IsReady}
+use Rattle.ktm_kernel.specs.Stands.{KernelState, machine_of}
 
 -- ---- what the grammar has
 
@@ -86,68 +86,92 @@ pub found : (units image : ℕ) (before log : List Group) (state : Durable) (tol
 found units image before log state None stands holds = absurd holds
 found units image before log state (Some s) stands holds = found_in units image before log state s.seen stands holds.1
 
--- there are numbers for one boot and one event more, and the limits hold
-pub next_applies : (state : Durable) (log : LogState) → IsBuiltState state → IsGoodState state → AreInLog state log.end → log.end < log.area.len → log.area ≡ log_area state.units → state.units ≤ MOST_UNITS → events_apply state (own_group state) ≡ true
-next_applies state log built good counted inside area most =
-    let len = ap (λ (a : Area). a.len) area in
-    let boot = and_from _ _ (eq-eqb (state.boots + 1) (state.boots + 1) refl) (lt-ltb (state.boots + 1) (2 ^ 32 - 1) (omega (arith, counted.boots, counted.events, inside, len, most))) in
-    let limits : within state.units state.tree state.keys ≡ true = sym (within_built state built) ∙ good.limits in
-    ap (λ (es : List Event). events_apply state es) (own_is state built) ∙ applies_boot state (state.boots + 1) built
-    ∙ and_from _ _ (and_from _ _ boot limits) (lt-ltb (state.events + 1) (2 ^ 63) (omega (arith, counted.events, inside, len, most)))
+-- ---- what a restart records
 
--- how many bytes the group of a restart has
-pub own_size : (state : Durable) → IsBuiltState state → frame_size (own_group state) ≡ 14
-own_size state built = ap (λ (es : List Event). frame_size es) (own_is state built) ∙ omega arith
+-- where the log has room for it
+pub own_fits : (j : JournalState) (state : Durable) → has_no_room j (own_group state) ≡ false → frame_size (own_group state) + 1 ≤ j.log.area.len - j.log.end
+own_fits j state room = ltb-false (j.log.area.len - j.log.end) (frame_size (own_group state) + 1) room
 
--- the boot that a restart records is its whole group
-pub own_held : (events : EventsState) (state : Durable) (boot : ℕ) → IsBuiltState state → boot ≡ state.boots + 1 → Holds events ([] ++ Boot boot ∷ []) → Holds events (own_group state)
-own_held events state boot built is holds = subst (λ (es : List Event). Holds events es) (ap (λ (n : ℕ). Boot n ∷ []) is ∙ sym (own_is state built)) holds
+-- of a state whose events are in this log, which has room for what a restart records
+module _ (state : Durable) (j : JournalState) (most : state.units ≤ MOST_UNITS) (is : IsJournalOf state j) (room : has_no_room j (own_group state) ≡ false) where
+  len : j.log.area.len ≡ area_len state.units
+  len = ap (λ (a : Area). a.len) is.area
 
--- it is one event
-pub own_length : (state : Durable) → IsBuiltState state → length (own_group state) ≡ 1
-own_length state built = ap (λ (es : List Event). length es) (own_is state built)
+  -- there are numbers for its events
+  pub few_events : state.events + length (own_group state) < 2 ^ 63
+  few_events = omega (arith, len, is.events.events, is.inside, most, frame-counts (own_group state), own_fits j state room)
 
--- the list of a start has it, and room for whatever a log of so many units has room for
-pub lists_start : (events : EventsState) (room units : ℕ) (state : Durable) (boot : ℕ) → IsBuiltState state → boot ≡ state.boots + 1 → Holds events ([] ++ Boot boot ∷ []) → events.room ≡ room → room + frame_size [] ≡ area_len units
-    → ListsStart state units events
-lists_start events room units state boot built is holds same all = record { holds = own_held events state boot built is holds; room = ap (λ n. n + frame_size []) same ∙ all }
+  -- and for two boots more, and it applies
+  pub own_may : OwnGroupLaw → IsGoodState state → events_apply state (own_group state) ≡ true
+  own_may law good = (law state good (omega (arith, len, is.events.boots, is.events.events, is.inside, most)) few_events).0
 
 -- the journal has the group of a start more
 pub record HasStart (state : Durable) (old new : OnDisk JournalState) : Type 0 where
   pub same : IsSameImage old.it new.it
   pub end : new.it.log.end ≡ old.it.log.end + frame_size (own_group state)
-  pub counted : new.it.events ≡ old.it.events + 1
-  pub room : is_full_in (old.it.log.area.len - old.it.log.end) (own_group state) ≡ false
+  pub counted : new.it.events ≡ old.it.events + length (own_group state)
+  pub room : has_no_room old.it (own_group state) ≡ false
   pub adds : (gs : List Group) → IsSomeAnd old.told (JournalAt old.it gs) → IsSomeAnd new.told (JournalAt new.it (gs ++ own_group state ∷ []))
 
-pub has_start : (state : Durable) (units : ℕ) (events : EventsState) (old new : OnDisk JournalState) → IsBuiltState state → ListsStart state units events → Records events old new → HasStart state old new
-has_start state units events old new built lists records = record {
-  same = records.same;
-  end = ap (λ (j : JournalState). j.log.end) (records.grows (own_group state) lists.holds);
-  counted = ap (λ (j : JournalState). j.events) (records.grows (own_group state) lists.holds) ∙ ap (λ n. old.it.events + n) (own_length state built);
-  room = records.room (own_group state) lists.holds;
-  adds = λ gs at. records.adds gs (own_group state) lists.holds at;
-}
+-- the journal of a memory that recorded it
+abbrev pub journal_of : OnDisk MemoryState → OnDisk JournalState
+journal_of m = on m.it.journal m.told m.status
 
--- what a machine holds that starts from this state
-abbrev pub fresh_held : JournalState → Durable → Held
-fresh_held j state = record {
-  is_up = true;
-  journal = j;
-  handles = [];
-  boot = state.boots + 1;
-  transactions = record { clock = 0; last_transaction = 0; last_manager = 0; last_enlistment = 0; items = []; enlistments = [] };
-  files = files_begun state.tree state.next_node;
-  next_node = state.next_node;
-  keys = record { store = state.keys; own = [] };
-}
+-- what a memory recorded that lists the group
+pub has_start : (state : Durable) (events : EventsState) (old new : OnDisk MemoryState) → Holds events (own_group state) → AreRecorded events old new → HasStart state (journal_of old) (journal_of new)
+has_start state events old new holds recorded =
+    let grows = ap (λ (m : MemoryState). m.journal) (recorded.grows (own_group state) holds) in
+    let one = sum_by-cons frame_size (own_group state) [] in
+    record {
+      same = record { units = ap (λ (j : JournalState). j.units) grows; image = ap (λ (j : JournalState). j.image) grows; area = ap (λ (j : JournalState). j.log.area) grows };
+      end = omega (arith, ap (λ (j : JournalState). j.log.end) grows, one);
+      counted = ap (λ (j : JournalState). j.events) grows;
+      room = recorded.room (own_group state) holds;
+      adds = λ gs at. recorded.adds gs (own_group state) holds at;
+    }
 
-pub held_fresh : (m : MemoryState) (j : JournalState) (state : Durable) (boot : ℕ) (tree : Tree) (next : ℕ) (store : Store) → m.is_up ≡ true → m.journal ≡ j → m.tm.boot ≡ boot
-    → m.tm.now ≡ record { clock = 0; last_transaction = 0; last_manager = 0; last_enlistment = 0; items = []; enlistments = [] } → files_of m.files ≡ files_begun tree next → m.next_node ≡ next
-    → m.keys.keys ≡ record { store = store; own = [] } → m.handles.handles ≡ [] → boot ≡ state.boots + 1 → tree ≡ state.tree → next ≡ state.next_node → store ≡ state.keys → held m ≡ fresh_held j state
-held_fresh m j state boot tree next store up journal boot_is now files next_node keys handles is tree_is next_is keys_are =
-    let h = held m in
-    ap (λ (fs : FilesNow). record h { files = fs }) files ∙ rw (up, journal, boot_is, now, next_node, keys, handles, is, tree_is, next_is, keys_are) refl
+-- a memory that showed what is so at the start of this state recorded that
+module _ (state : Durable) (events : EventsState) (old new : OnDisk MemoryState) (most : state.units ≤ MOST_UNITS) (built : IsBuiltState state) (good : IsGoodState state) (is : IsJournalOf state old.it.journal)
+    (holds : Holds events (own_group state)) (recorded : AreRecorded events old new) where
+  abbrev pub left_then : ℕ
+  left_then = new.it.journal.log.area.len - new.it.journal.log.end
+
+  has_then : HasStart state (journal_of old) (journal_of new)
+  has_then = has_start state events old new holds recorded
+
+  -- what is so then stands: its counts do not end, since each event and each boot took bytes of the log
+  pub fresh_stands : FreshLaw → IsStandingNow (fresh state left_then)
+  fresh_stands law =
+      let fits = own_fits old.it.journal state has_then.room in
+      let len = ap (λ (a : Area). a.len) is.area in
+      let area = ap (λ (a : Area). a.len) has_then.same.area in
+      let end = has_then.end in
+      law.stands state left_then good built most (omega (arith, len, area, end, is.events.events, is.inside, most, fits)) (omega (arith, len, area, end, is.events.events, is.events.boots, is.inside, most, fits))
+
+  shows_then : Shows old.it (fresh state left_then) → Shows new.it (fresh state left_then)
+  shows_then was = subst (λ (m : MemoryState). Shows m (fresh state left_then)) (sym (recorded.grows (own_group state) holds)) (record {
+    is_up = was.is_up;
+    boot = was.boot;
+    transactions = was.transactions;
+    managers = was.managers;
+    traces = was.traces;
+    files = was.files;
+    next_node = was.next_node;
+    keys = was.keys;
+    handles = was.handles;
+  })
+
+  counts_then : Counts new.it.journal (fresh state left_then)
+  counts_then = record {
+    units = has_then.same.units ∙ is.units ∙ sym (after_events-units state (own_group state));
+    image = has_then.same.image ∙ is.image ∙ sym (after_events-image state (own_group state));
+    events = has_then.counted ∙ ap (λ n. n + length (own_group state)) is.counted ∙ sym (after_events-events state (own_group state));
+    left = refl;
+  }
+
+  -- and the memory shows all of it
+  pub shown_fresh : FreshLaw → ContentsLaw → Shows old.it (fresh state left_then) → present_of new.it ≡ fresh state left_then
+  shown_fresh law contents was = shown-is contents new.it (fresh state left_then) (shows_then was) counts_then (kept_now (fresh state left_then) (fresh_stands law))
 
 -- what a disk that nothing was written to may leave
 pub unwritten_leaves : (units image : ℕ) (before log : List Group) (told : Option DiskState) → IsSomeAnd told (HoldsBoth units image before log) → IsSomeAnd told (LeavesOwnOrNot units image before log)
@@ -164,12 +188,6 @@ module _ (units image : ℕ) (before log : List Group) (state : Durable) (is : I
 
   built_base : IsBuiltState base
   built_base = built_log units image before made.0
-
-  built_found : IsBuiltState (stand base log)
-  built_found = built_stand base log built_base made.1
-
-  built_state_is : IsBuiltState state
-  built_state_is = subst IsBuiltState (sym is.is) built_found
 
   applied : IsTrue (log_applies (empty_state units image) before) × IsTrue (log_applies base log)
   applied = and_parts _ _ (sym (log_applies-append (empty_state units image) before log) ∙ is.applies)
@@ -230,14 +248,11 @@ module _ (units image : ℕ) (before log : List Group) (state : Durable) (is : I
       law.restarts base (left_after units before) log (good_base good number grammatical.0) built_base (omega (arith, units_are, most)) (roomy most fits) grammatical.1 made.1 applied.1 fits
 
   -- what is so then is that of the world that was opened
-  fresh_is : FreshLaw → (left : ℕ) → left ≡ left_after units before - log_size log - 14 → fresh state left ≡ present (opened base (left_after units before) log)
-  fresh_is law left left_is = ap (λ (s : Durable). fresh s left) is.is ∙ ap (λ n. fresh (stand base log) n) less ∙ sym (law.opens base (left_after units before) log built_base made.1)
-    where
-      own : frame_size (own_group (stand base log)) ≡ 14
-      own = own_size (stand base log) built_found
-
-      less : left ≡ left_after units before - log_size log - frame_size (own_group (stand base log))
-      less = omega (arith, own)
+  fresh_is : FreshLaw → (left : ℕ) → left ≡ left_after units before - log_size log - frame_size (own_group state) → fresh state left ≡ present (opened base (left_after units before) log)
+  fresh_is law left left_is =
+      ap (λ (s : Durable). fresh s left) is.is
+      ∙ ap (λ n. fresh (stand base log) n) (left_is ∙ ap (λ (s : Durable). left_after units before - log_size log - frame_size (own_group s)) is.is)
+      ∙ sym (law.opens base (left_after units before) log built_base made.1)
 
   -- of the journal that the group of the restart was added to
   module _ (may : events_apply state (own_group state) ≡ true) (j k : JournalState) (units_are : j.units ≡ state.units) (image_is : j.image ≡ state.image) (old new : Option DiskState)
@@ -247,7 +262,7 @@ module _ (units image : ℕ) (before log : List Group) (state : Durable) (is : I
     started good law begins grammatical number most kernel left count doubts journal now left_is count_is none s t has = record {
       room = sym (is_full j old units_are at) ∙ has.room;
       stands = record {
-        now = now ∙ fresh_is begins left (omega (arith, left_is, ap (λ (a : Area). a.len) has.same.area, has.end, left_found j old units_are at, own_size state built_state_is));
+        now = now ∙ fresh_is begins left (omega (arith, left_is, ap (λ (a : Area). a.len) has.same.area, has.end, left_found j old units_are at));
         standing = standing good law (subst (λ (n : ℕ). n < 2 ^ 16) is.image_is number) (subst (λ (n : ℕ). n ≤ 1024) is.units_are most) (sym (is_full j old units_are at) ∙ has.room) grammatical;
         before = before;
         began = rw (journal, has.same.units ∙ units_are ∙ is.units_are, has.same.image ∙ image_is ∙ is.image_is) (record { built = made.0; applies = applied.0; base = refl; room = refl });
@@ -275,114 +290,144 @@ module _ (units image : ℕ) (before log : List Group) (state : Durable) (is : I
         both_built =
             list_all-append is_built_group before (log ++ own_group (stand base log) ∷ [])
             ∙ and_from _ _ made.0 (list_all-append is_built_group log (own_group (stand base log) ∷ [])
-            ∙ and_from _ _ made.1 (ap (λ (g : Group). is_built_log (g ∷ [])) (own_is (stand base log) built_found)))
+            ∙ and_from _ _ made.1 (and_from _ _ (built_own (stand base log)) refl))
 
         both_apply : IsTrue (log_applies (empty_state units image) (before ++ (log ++ own_group (stand base log) ∷ [])))
         both_apply =
             log_applies-append (empty_state units image) before (log ++ own_group (stand base log) ∷ [])
             ∙ and_from _ _ applied.0 (log_applies-append base log (own_group (stand base log) ∷ []) ∙ and_from _ _ applied.1 (and_from _ _ (own_applies may) refl))
 
--- what a machine holds that started, with the journal that recorded that
-pub fresh_now : (k : JournalState) (h : Held) (state : Durable) (left : ℕ) → IsBuiltState state → k.units ≡ state.units → k.image ≡ state.image → k.events ≡ state.events + 1 → left ≡ k.log.area.len - k.log.end
-    → h ≡ fresh_held k state → now_of h ≡ fresh state left
-fresh_now k h state left built units image events left_is is =
-    rw (is, left_is, units, image, events)
-    (ap (λ (s : Durable). fresh (record s { events = state.events; boots = state.boots; next_node = state.next_node; tree = state.tree; keys = state.keys }) (k.log.area.len - k.log.end)) (sym built))
-
--- a machine that started is ready for calls: its counts do not end, since each event and each boot took bytes of the log
-pub fresh_ready : FreshLaw → (kernel : KernelState) (state : Durable) (log : LogState) (left : ℕ) (told : Option DiskState) (status : DiskStatus) → kernel.now ≡ fresh state left → IsBuiltState state → IsGoodState state
-    → AreInLog state log.end → log.end < log.area.len → log.area ≡ log_area state.units → state.units ≤ MOST_UNITS → left ≤ log.area.len
-    → status.is_down ≡ false → status.pending ≡ 0 → IfSome told (λ s. IsFormatted kernel.journal.units kernel.journal.image s.seen) → IsReady kernel told status × (kernel.now.machine.is_up ≡ true)
-fresh_ready law kernel state log left told status now built good counted inside area most few up settled formatted = (
-  record {
-    powered = record { power = λ on. up; settled = λ on. settled; image = λ on. formatted };
-    standing = λ on. subst IsStandingNow (sym now) (law.stands state left good built most events boots);
-  },
-  ap (λ x. x.machine.is_up) now,
-)
-  where
-    own : frame_size (own_group state) ≡ 14
-    own = own_size state built
-
-    len : log.area.len ≡ (log_area state.units).len
-    len = ap (λ (a : Area). a.len) area
-
-    events : state.events + left + frame_size (own_group state) < 2 ^ 63
-    events = omega (arith, own, len, counted.events, inside, most, few)
-
-    boots : state.boots + left + frame_size (own_group state) < 2 ^ 32
-    boots = omega (arith, own, len, counted.boots, counted.events, inside, most, few)
-
 -- ---- a restart, by what was loaded
 
+-- the journal of a memory that recorded a list has as many units as before, and so the list has room for whatever its log has room for
+pub roomy_recorded : (events : EventsState) (old new : OnDisk MemoryState) (group : Group) → Holds events group → AreRecorded events old new → HasRoom old.it.journal events → HasRoom new.it.journal events
+roomy_recorded events old new group holds recorded roomy = subst (λ (m : MemoryState). HasRoom m.journal events) (sym (recorded.grows group holds)) (record { most = roomy.most; room = roomy.room })
+
+-- the list of a start has that room
+pub roomy_begun : (loaded : Loaded) (events : EventsState) (m : MemoryState) → MayStart loaded.state → IsJournalOf loaded.state loaded.journal → Begun loaded events m → HasRoom m.journal events
+roomy_begun loaded events m may is begun =
+    subst (λ (j : JournalState). HasRoom j events) (sym begun.journal) (record { most = omega (arith, is.units, may.most); room = omega (arith, begun.lists.room) })
+
+-- the disk has the image of its journal
+pub formatted_begun : (loaded : Loaded) (events : EventsState) (m : MemoryState) (told : Option DiskState) → Begun loaded events m → IfSome told (λ s. IsFormatted loaded.journal.units loaded.journal.image s.seen)
+    → IfSome told (λ s. IsFormatted m.journal.units m.journal.image s.seen)
+formatted_begun loaded events m told begun formatted = subst (λ (j : JournalState). IfSome told (λ s. IsFormatted j.units j.image s.seen)) (sym begun.journal) formatted
+
+-- a journal that recorded a list has as many units, so the list has room for whatever it has room for
+pub roomy_then : (events : EventsState) (old new : OnDisk MemoryState) (group : Group) → Holds events group → HasRoom old.it.journal events → AreRecorded events old new → HasRoom new.it.journal events
+roomy_then events old new group holds roomy recorded =
+    let units : new.it.journal.units ≡ old.it.journal.units = ap (λ (m : MemoryState). m.journal.units) (recorded.grows group holds) in
+    record { most = omega (arith, units, roomy.most); room = omega (arith, units, ap area_len units, roomy.room) }
+
 module _ {Z : Type 0} (most : ℕ) (old mid : OnDisk (Vec ℕ Z)) (loaded : Loaded) (is : IsLoaded most old mid loaded) where
-  abbrev pub loaded_at : OnDisk JournalState
-  loaded_at = on loaded.journal mid.told mid.status
-
-  may : events_apply loaded.state (own_group loaded.state) ≡ true
-  may = next_applies loaded.state loaded.journal.log is.state.built is.state.good is.journal.events is.journal.inside is.journal.area is.state.most
-
   -- there is a number for a boot more
   pub numbered : loaded.state.boots + 1 < 2 ^ 32
   numbered = omega (arith, is.journal.events.boots, is.journal.events.events, is.journal.inside, ap (λ (a : Area). a.len) is.journal.area, is.state.most)
+
+  -- the buffer has room for whatever the log has room for
+  pub reserved : area_len loaded.journal.units ≤ vec_capacity mid.it
+  reserved = omega (arith, ap area_len is.journal.units, ap (λ (a : Area). a.len) is.journal.area, is.room)
+
+  state_found : IfSome old.told (λ s. (state : Durable) × StandsFor state s.seen)
+  state_found = IfSome-map old.told _ _ is.stands (λ s stands. (loaded.state, stands))
 
   module _ (units image : ℕ) (before log : List Group) (holds : IsSomeAnd old.told (HoldsBoth units image before log)) where
     found_here : IsFound units image before log loaded.state
     found_here = found units image before log loaded.state old.told is.stands holds
 
-    at : IsSomeAnd mid.told (JournalAt loaded.journal (before ++ log))
-    at = journal_at units image before log loaded.state found_here loaded.journal old.told mid.told is.knows.at holds
+    at_loaded : IsSomeAnd mid.told (JournalAt loaded.journal (before ++ log))
+    at_loaded = journal_at units image before log loaded.state found_here loaded.journal old.told mid.told is.knows.at holds
 
-    starts_here : GoodStatesLaw → GrammarLaw → StandingLaw → FreshLaw → (new : OnDisk JournalState) (kernel : KernelState) (count doubts : ℕ) → HasStart loaded.state loaded_at new
-        → kernel.journal ≡ new.it → kernel.now ≡ fresh loaded.state (new.it.log.area.len - new.it.log.end) → count ≡ loaded.state.events → doubts ≡ 0 → Started units image before log kernel count doubts new.told
-    starts_here good grammar law begins new kernel count doubts has journal now count_is none =
-        started units image before log loaded.state found_here may loaded.journal new.it is.journal.units is.journal.image mid.told new.told at good law begins
-        (found_grammatical units image before log loaded.state found_here grammar old.told is.knows.spelled holds) is.state.number is.state.most
-        kernel (new.it.log.area.len - new.it.log.end) count doubts journal now refl count_is none mid.status new.status has
+    full_here : has_no_room loaded.journal (own_group loaded.state) ≡ true → is_full_for_own units image before log ≡ true
+    full_here full = sym (is_full units image before log loaded.state found_here loaded.journal mid.told is.journal.units at_loaded) ∙ full
 
-    left_here : (events : EventsState) (new : OnDisk JournalState) → ListsStart loaded.state loaded.journal.units events → IsInterrupted events loaded_at new → IsSomeAnd new.told (LeavesOwnOrNot units image before log)
-    left_here events new lists cut =
-        cut_off units image before log loaded.state found_here may loaded.journal new.it is.journal.units is.journal.image mid.told new.told at (λ gs j_at. cut.either gs (own_group loaded.state) lists.holds j_at)
+  -- nothing was written, and the buffer lost no memory since
+  pub unwritten : (new : OnDisk (Vec ℕ Z)) → new.told ≡ mid.told → new.status.pending ≡ mid.status.pending → vec_capacity mid.it ≤ vec_capacity new.it → IsUnwritten old new
+  unwritten new told pending kept = record { told = told ∙ is.read.reads.reads.same; pending = pending ∙ is.read.reads.reads.pending; kept = omega (arith, is.read.reads.kept, kept) }
 
-    full_here : (events : EventsState) (new : OnDisk JournalState) → ListsStart loaded.state loaded.journal.units events → HasNoRoom events loaded_at new → is_full_for_own units image before log ≡ true
-    full_here events new lists full = sym (is_full units image before log loaded.state found_here loaded.journal mid.told is.journal.units at) ∙ full.room (own_group loaded.state) lists.holds
+  -- the log has no room
+  pub found_full : (new : OnDisk (Vec ℕ Z)) → IsUnwritten old new → has_no_room loaded.journal (own_group loaded.state) ≡ true → FoundFull old new
+  found_full new none full = record { full = λ units image before log holds. full_here units image before log holds full; found = state_found; unwritten = none }
 
-  pub counted_one : (new : OnDisk JournalState) (events : EventsState) → StartLeaves loaded.state loaded_at new (Ok events) → new.it.events ≡ loaded.state.events + 1
-  counted_one new events (lists, records) = (has_start loaded.state loaded.journal.units events loaded_at new is.state.built lists records).counted ∙ ap (λ n. n + 1) is.journal.counted
+  -- nothing started from it
+  pub not_begun : (new : OnDisk (Vec ℕ Z)) (fault : RestartFault) → IsUnwritten old new → NothingBegins loaded fault → NoStartLeaves old new fault
+  not_begun new RestartFault.Full none full = found_full new none full
+  not_begun new RestartFault.NoMemory none why = none
+  not_begun new RestartFault.Down none why = absurd why
+  not_begun new (RestartFault.Bad offset) none why = absurd why
 
-  state_found : IfSome old.told (λ s. (state : Durable) × StandsFor state s.seen)
-  state_found = IfSome-map old.told _ _ is.stands (λ s stands. (loaded.state, stands))
+  module _ (events : EventsState) (m : MemoryState) (begun : Begun loaded events m) where
+    abbrev pub begun_at : OnDisk MemoryState
+    begun_at = on m mid.told mid.status
 
-  -- the start was recorded
-  pub restarted : GoodStatesLaw → GrammarLaw → StandingLaw → FreshLaw → (new : OnDisk (Vec ℕ Z)) (k : JournalState) (events : EventsState) (r : Restarted) → StartLeaves loaded.state loaded_at (on k new.told new.status) (Ok events)
-      → r.kernel.journal ≡ k → r.kernel.now ≡ fresh loaded.state (k.log.area.len - k.log.end) → r.events ≡ loaded.state.events → r.in_doubt ≡ 0 → IsStarted old new r
-  restarted good grammar law begins new k events r (lists, records) journal now count_is none =
-      let has = has_start loaded.state loaded.journal.units events loaded_at (on k new.told new.status) is.state.built lists records in
-      let (ready, up) = fresh_ready begins r.kernel loaded.state loaded.journal.log (k.log.area.len - k.log.end) new.told new.status now is.state.built is.state.good is.journal.events is.journal.inside is.journal.area is.state.most
-      (omega (arith, ap (λ (a : Area). a.len) records.same.area)) records.synced.up records.synced.pending
-      (subst (λ j. IfSome new.told (λ s. IsFormatted j.units j.image s.seen)) (sym journal) records.formatted) in
-      record {
-        starts = λ units image before log holds. starts_here units image before log holds good grammar law begins (on k new.told new.status) r.kernel r.events r.in_doubt has journal now count_is none;
-        ready = ready;
-        up = up;
-        found = state_found;
-      }
+    its : IsJournalOf loaded.state m.journal
+    its = subst (λ j. IsJournalOf loaded.state j) (sym begun.journal) is.journal
 
-  -- it was not
-  pub unstarted : (new : OnDisk (Vec ℕ Z)) (k : JournalState) (fault : AppendFault) → StartLeaves loaded.state loaded_at (on k new.told new.status) (Err fault) → vec_capacity mid.it ≤ vec_capacity new.it → NoStartLeaves old new (unrecorded fault)
-  unstarted new k AppendFault.Down (events, lists, cut) kept = record {
-    leaves = λ units image before log holds. left_here units image before log holds events (on k new.told new.status) lists cut;
-    kept = omega (arith, is.read.reads.kept, kept);
-  }
-  unstarted new k AppendFault.Full (events, lists, full) kept = record {
-    full = λ units image before log holds. full_here units image before log holds events (on k new.told new.status) lists full;
-    found = state_found;
-    unwritten = record {
-      told = ap (λ (d : OnDisk JournalState). d.told) full.same ∙ is.read.reads.reads.same;
-      pending = ap (λ (d : OnDisk JournalState). d.status.pending) full.same ∙ is.read.reads.reads.pending;
-      kept = omega (arith, is.read.reads.kept, kept);
-    };
-  }
+    room_there : has_no_room m.journal (own_group loaded.state) ≡ false
+    room_there = ap (λ j. has_no_room j (own_group loaded.state)) begun.journal ∙ begun.room
+
+    may : OwnGroupLaw → events_apply loaded.state (own_group loaded.state) ≡ true
+    may law = own_may loaded.state m.journal is.state.most its room_there law is.state.good
+
+    -- the start was recorded
+    module _ (new : OnDisk (Vec ℕ Z)) (n : MemoryState) (r : Restarted) (recorded : AreRecorded events begun_at (on n new.told new.status)) (kernel : r.kernel ≡ machine_of n) where
+      has : HasStart loaded.state (journal_of begun_at) (on n.journal new.told new.status)
+      has = has_start loaded.state events begun_at (on n new.told new.status) begun.lists.holds recorded
+
+      abbrev left : ℕ
+      left = n.journal.log.area.len - n.journal.log.end
+
+      stands_here : FreshLaw → IsStandingNow (fresh loaded.state left)
+      stands_here begins = fresh_stands loaded.state events begun_at (on n new.told new.status) is.state.most is.state.built is.state.good its begun.lists.holds recorded begins
+
+      shown_here : FreshLaw → ContentsLaw → present_of n ≡ fresh loaded.state left
+      shown_here begins contents = shown_fresh loaded.state events begun_at (on n new.told new.status) is.state.most is.state.built is.state.good its begun.lists.holds recorded begins contents (begun.shows left)
+
+      slots_here : FreshLaw → ContentsLaw → owed_slots (present_of n) ≤ n.tm.slots
+      slots_here begins contents = subst (λ (x : Present). owed_slots x ≤ n.tm.slots) (sym (shown_here begins contents))
+          (subst (λ (t : TmState). owed_slots (fresh loaded.state left) ≤ t.slots) (ap (λ (a : MemoryState). a.tm) (sym (recorded.grows (own_group loaded.state) begun.lists.holds))) (begun.slots left))
+
+      pub restarted : GoodStatesLaw → OwnGroupLaw → GrammarLaw → StandingLaw → FreshLaw → ContentsLaw → r.events ≡ loaded.state.events → r.in_doubt ≡ 0 → IsStarted old new r
+      restarted good owns grammar law begins contents count_is none =
+          let now : r.kernel.now ≡ fresh loaded.state left = ap (λ (k : KernelState). k.now) kernel ∙ shown_here begins contents in
+          record {
+            starts = λ units image before log holds.
+                let here = found_here units image before log holds in
+                started units image before log loaded.state here (may owns) m.journal n.journal its.units its.image mid.told new.told
+                (subst (λ j. IsSomeAnd mid.told (JournalAt j (before ++ log))) (sym begun.journal) (at_loaded units image before log holds)) good law begins
+                (found_grammatical units image before log loaded.state here grammar old.told is.knows.spelled holds) is.state.number is.state.most
+                r.kernel left r.events r.in_doubt (ap (λ (k : KernelState). k.journal) kernel) now refl count_is none mid.status new.status has;
+            ready = record {
+              powered = record {
+                power = λ up. recorded.synced.up;
+                settled = λ up. recorded.synced.pending;
+                image = λ up. subst (λ (k : KernelState). IfSome new.told (λ s. IsFormatted k.journal.units k.journal.image s.seen)) (sym kernel) recorded.formatted;
+              };
+              standing = λ up. subst IsStandingNow (sym now) (stands_here begins);
+              slots = λ up. subst (λ (k : KernelState). owed_slots k.now ≤ k.slots) (sym kernel) (slots_here begins contents);
+            };
+            up = ap (λ (x : Present). x.machine.is_up) now;
+            found = state_found;
+          }
+
+    -- it was not
+    cut_here : OwnGroupLaw → (new : OnDisk MemoryState) → AreCutOff events begun_at new → (units image : ℕ) (before log : List Group) → IsSomeAnd old.told (HoldsBoth units image before log) → IsSomeAnd new.told (LeavesOwnOrNot units image before log)
+    cut_here owns new left units image before log holds =
+        cut_off units image before log loaded.state (found_here units image before log holds) (may owns) m.journal new.it.journal its.units its.image mid.told new.told
+        (subst (λ j. IsSomeAnd mid.told (JournalAt j (before ++ log))) (sym begun.journal) (at_loaded units image before log holds))
+        (λ gs at. left.either gs (own_group loaded.state) begun.lists.holds at)
+
+    never_full : (new : OnDisk MemoryState) → HaveNoRoom events begun_at new → ⊥
+    never_full new full = both_ways _ room_there (full.room (own_group loaded.state) begun.lists.holds)
+
+    pub unstarted : OwnGroupLaw → (new : OnDisk (Vec ℕ Z)) (n : MemoryState) (fault : AppendFault) → RecordingLeaves events begun_at (on n new.told new.status) (Err fault) → vec_capacity mid.it ≤ vec_capacity new.it → NoStartLeaves old new (unrecorded fault)
+    unstarted owns new n AppendFault.Down left kept = record { leaves = cut_here owns (on n new.told new.status) left; kept = omega (arith, is.read.reads.kept, kept) }
+    unstarted owns new n AppendFault.Full full kept = absurd (never_full (on n new.told new.status) full)
+
+    -- how many device calls the recording made that failed; a restart found the disk down where that did
+    pub start_calls : (new : OnDisk MemoryState) (fault : AppendFault) → RecordingLeaves events begun_at new (Err fault) → (let r : Result ℕ RestartFault = Err (unrecorded fault) in DeviceCalls 4 mid.status new.status (restart_went_down r))
+    start_calls new AppendFault.Down left = left.calls
+    start_calls new AppendFault.Full full = absurd (never_full new full)
 
 -- the disk went down in the load
 pub unloaded : {Z : Type 0} (most : ℕ) (old new : OnDisk (Vec ℕ Z)) → ReadsInto most old new true → IsUnpowered old new
@@ -392,9 +437,13 @@ unloaded most old new reads = record { leaves = λ units image before log holds.
 pub unread : {Z : Type 0} (most : ℕ) (old new : OnDisk (Vec ℕ Z)) (refused : Bool) → ReadsInto most old new refused → IsUnwritten old new
 unread most old new refused reads = record { told = reads.reads.same; pending = reads.reads.pending; kept = reads.kept }
 
--- how many device calls the recording of a start made that failed; a restart found the disk down where that did
-pub start_calls : (state : Durable) (old new : OnDisk JournalState) (fault : AppendFault) → StartLeaves state old new (Err fault) → old.status.is_down ≡ false
-    → (let r : Result ℕ RestartFault = Err (unrecorded fault) in DeviceCalls 4 old.status new.status (restart_went_down r))
-start_calls state old new AppendFault.Down (events, lists, cut) up = cut.calls
-start_calls state old new AppendFault.Full (events, lists, full) up =
-    subst (λ (d : OnDisk JournalState). DeviceCalls 4 old.status d.status false) (sym full.same) (record { later = omega arith; counted = omega arith; few = omega arith; cause = λ refused. absurd (cc); down = rw up refl; plan = refl; places = refl })
+-- a load makes fewer device calls than a restart may
+more_calls : (s t : DiskStatus) → DeviceCalls (8 * MOST_UNITS + 64) s t false → DeviceCalls (8 * MOST_UNITS + 68) s t false
+more_calls s t calls = record { later = calls.later; counted = calls.counted; few = omega (arith, calls.few); cause = calls.cause; down = calls.down; plan = calls.plan; places = calls.places }
+
+-- where nothing began, no others are made
+pub not_begun_calls : (loaded : Loaded) (s t : DiskStatus) (fault : RestartFault) → NothingBegins loaded fault → DeviceCalls (8 * MOST_UNITS + 64) s t false → (let r : Result Restarted RestartFault = Err fault in DeviceCalls (8 * MOST_UNITS + 68) s t (restart_went_down r))
+not_begun_calls loaded s t RestartFault.Full why calls = more_calls s t calls
+not_begun_calls loaded s t RestartFault.NoMemory why calls = more_calls s t calls
+not_begun_calls loaded s t RestartFault.Down why calls = absurd why
+not_begun_calls loaded s t (RestartFault.Bad offset) why calls = absurd why

@@ -1,5 +1,6 @@
 -- From what an outcome did to what it is for the world that the machine stands for.
-use Rattle.std.proofs.Common.{◌≡◌, ℕ, Bool, true, false, not, List, [], ◌∷◌, ◌++◌, length, Option, Some, refl, sym, ◌∙◌, ap, subst, inl, inr, append_assoc}
+use Rattle.std.proofs.Common.{◌≡◌, ◌≢◌, ℕ, Bool, true, false, not, cond, List, [], ◌∷◌, ◌++◌, length, Option, Some, refl, sym, ◌∙◌, ap, subst, inl, inr, append_assoc}
+use Rattle.std.proofs.lemmas.Bool.{both_ways, cases_Bool}
 use Rattle.std.proofs.lemmas.List.{append-nil}
 use Rattle.std.specs.Prelude.{Contains, IsSomeAnd}
 use Rattle.ktm_base.specs.declared.id.Pid.{Pid}
@@ -18,15 +19,15 @@ use Rattle.ktm_types.specs.Values.{IsCommand}
 use Rattle.ktm_forms.specs.Built.{is_built_command}
 use Rattle.ktm_world.specs.Decide.{command_tests, decide, refusal_of}
 use Rattle.ktm_world.specs.Logs.{Group, Power, up, down, is_up, as_groups, prefixes_from, possible_by}
-use Rattle.ktm_world.specs.Outcome.{Outcome, apply, first_refusal}
+use Rattle.ktm_world.specs.Outcome.{Outcome, apply, first_refusal, is_full}
 use Rattle.ktm_world.specs.Present.{Present}
+use Rattle.ktm_world.specs.TransactionCalls.{tick}
 use Rattle.ktm_world.specs.Transcript.{Step, answered, interrupted, CallDoes, CrashDoes}
 use Rattle.ktm_world.specs.World.{World, present, extend, decide_tick, power_after, crashed, interrupted_by}
 use Rattle.ktm_world.proofs.offered.Worlds.{step_law, refusal_law}
 use Rattle.ktm_built.specs.Laws.{StandingLaw}
 use Rattle.ktm_built.specs.Standing.{IsStanding}
-use Rattle.ktm_built.proofs.offered.Decided.{decided_law}
-use Rattle.ktm_built.proofs.offered.Outcomes.{events_law}
+use Rattle.ktm_built.proofs.offered.Decided.{decided_law, done_tick, full_log}
 use Rattle.ktm_kernel.specs.Stands.{KernelState, Began, Stands, HasFallen, StandsBy, KernelAt, LeavesPossible, DoesLine}
 use Rattle.ktm_kernel.specs.Done.{IsDone, IsCutOff, Ends, fallen}
 use Rattle.ktm_kernel.proofs.Left.{both_apply, both_built, log_is_possible, left_up}
@@ -46,6 +47,28 @@ up_by (down may) k told w is fallen on = let off = sym on ∙ ap (λ x. x.machin
 pub began_on : (j k : JournalState) (before : List Group) (w v : World) → k.units ≡ j.units → k.image ≡ j.image → v.base ≡ w.base → v.room ≡ w.room → Began j before w → Began k before v
 began_on j k before w v units image base room began = rw (units, image) (record { built = began.built; applies = began.applies; base = base ∙ began.base; room = room ∙ began.room })
 
+-- ---- the passing of time
+
+-- it stops a machine that is up only where the log is full, and then it records nothing
+tick_stops : (x : Present) (ms : ℕ) (full : Bool) → (cond full (full_log x) (tick x ms)).stops ≡ true → (cond full (full_log x) (tick x ms)).events ≡ []
+tick_stops x ms true stops = refl
+tick_stops x ms false stops = absurd (both_ways (tick x ms).stops (done_tick x ms).goes_on stops)
+
+time_stops : (x : Present) (ms : ℕ) → (decide_tick x ms).stops ≡ true → (decide_tick x ms).events ≡ []
+time_stops x ms stops = elim (cases_Bool x.machine.is_up) [
+  | inl on ↦ (let is = decided_law.time x ms on in
+      ap (λ (o : Outcome). o.events) is ∙ tick_stops x ms (is_full x.machine.left (tick x ms).events) (ap (λ (o : Outcome). o.stops) (sym is) ∙ stops))
+  | inr off ↦ ap (λ (o : Outcome). o.events) (decided_law.no_time x ms off)
+]
+
+-- where the machine is up it does not say that it is down
+tick_says : (x : Present) (ms : ℕ) (full : Bool) → (cond full (full_log x) (tick x ms)).reply ≢ Refused MachineDown
+tick_says x ms true is = absurd (cc)
+tick_says x ms false is = let done = sym (done_tick x ms).says ∙ is in absurd (cc)
+
+pub tick_not_down : (x : Present) (ms : ℕ) → x.machine.is_up ≡ true → (decide_tick x ms).reply ≢ Refused MachineDown
+tick_not_down x ms on is = tick_says x ms (is_full x.machine.left (tick x ms).events) (ap (λ (o : Outcome). o.reply) (sym (decided_law.time x ms on)) ∙ is)
+
 -- ---- outcomes of which the laws of what is built hold
 
 -- the world stands after the outcome, and where the power goes in it; and one that stops the machine records nothing
@@ -62,12 +85,12 @@ call_goes_on law process command is built w standing = record {
   stops = decided_law.stops (present w) process command built;
 }
 
--- and of that of the passing of time, which records nothing
+-- and of that of the passing of time
 pub tick_goes_on : StandingLaw → (ms : ℕ) (w : World) → IsStanding w → GoesOn w (decide_tick (present w) ms)
 tick_goes_on law ms w standing = record {
   stands = law.ticks w ms standing;
   falls = law.interrupted_ticks w ms standing;
-  stops = λ stops. events_law.ticks (present w) ms standing.built.now;
+  stops = time_stops (present w) ms;
 }
 
 -- ---- a machine that was up

@@ -1,12 +1,14 @@
 -- What an answer of the machine leaves.
-use Rattle.std.specs.Prelude.{◌≡◌, ◌⊎◌, ℕ, false, Some, Result, Ok, Err}
+use Rattle.std.specs.Prelude.{◌≡◌, ◌⊎◌, ℕ, ◌≤◌, true, false, Some, Result, Ok, Err}
 use Rattle.ktm_base.specs.Count.{Rose}
 use Rattle.ktm_base.specs.declared.fault.NoMemory.{NoMemory}
 use Rattle.ktm_base.specs.declared.id.Pid.{Pid}
 use Rattle.ktm_base.specs.declared.refusal.Refusal.TheVariants.{LogFull, MachineDown, MachineUp}
 use Rattle.ktm_base.specs.Disk.{DeviceCalls}
 use Rattle.ktm_log.specs.OnDisk.{OnDisk}
+use Rattle.ktm_slots.specs.Owed.{owed_slots}
 use Rattle.ktm_types.specs.declared.command.Command.{Command}
+use Rattle.ktm_types.specs.declared.command.Line.{Line}
 use Rattle.ktm_types.specs.declared.command.Line.TheVariants.{Process, Restart}
 use Rattle.ktm_types.specs.declared.reply.Reply.{Reply}
 use Rattle.ktm_types.specs.declared.reply.Reply.TheVariants.{BadImage, Refused}
@@ -23,6 +25,8 @@ use Rattle.ktm_kernel.specs.Stands.{DoesLine, FoundAt, IsPowered, IsReady, Kerne
 pub record IsAnswered (o : Outcome) (old new : OnDisk KernelState) (reply : Reply) : Type 0 where
   pub ends : Ends new.status.is_down old.it o reply new.it old.told new.told
   pub powered : IsPowered new.it new.told new.status
+  -- there is room for all notifications that may come to be sent without a call that makes room
+  pub slots : new.it.now.machine.is_up ≡ true → owed_slots new.it.now ≤ new.it.slots
   pub calls : DeviceCalls 4 old.status new.status new.status.is_down
   pub untouched : TouchesNothing o reply → IsUntouched old new
 
@@ -31,20 +35,20 @@ abbrev pub AnswerLeaves : Outcome → OnDisk KernelState → OnDisk KernelState 
 AnswerLeaves o old new (Ok reply) = IsAnswered o old new reply
 AnswerLeaves o old new (Err fault) = IsUntouched old new
 
--- ---- a call of a process
+-- ---- a line that is decided: a call of a process, or the passing of time
 
--- it was answered, for each world that the machine stands for; a call that is refused, but for MACHINE_DOWN, and one that records
+-- it was answered by this outcome, for each world that the machine stands for; one that is refused, but for MACHINE_DOWN, and one that records
 -- nothing left the disk as it was
-pub record IsCallAnswered (process : Pid) (command : Command) (old new : OnDisk KernelState) (reply : Reply) : Type 0 where
-  pub does : (w : World) → KernelAt old.it old.told w → DoesLine w (Some (Process process command)) reply new.it new.told
+pub record IsLineAnswered (line : Line) (o : Outcome) (old new : OnDisk KernelState) (reply : Reply) : Type 0 where
+  pub does : (w : World) → KernelAt old.it old.told w → DoesLine w (Some line) reply new.it new.told
   pub cause : reply ≡ Refused MachineDown → (old.it.now.machine.is_up ≡ false) ⊎ Rose old.status.downs new.status.downs
   pub ready : IsReady new.it new.told new.status
   pub calls : DeviceCalls 4 old.status new.status new.status.is_down
-  pub untouched : TouchesNothing (decide old.it.now process command) reply → IsUntouched old new
+  pub untouched : TouchesNothing o reply → IsUntouched old new
 
--- what it leaves; where memory is wanting the disk is as it was
+-- what a call leaves; where memory is wanting the disk is as it was
 abbrev pub CallLeaves : Pid → Command → OnDisk KernelState → OnDisk KernelState → Result Reply NoMemory → Type 0
-CallLeaves process command old new (Ok reply) = IsCallAnswered process command old new reply
+CallLeaves process command old new (Ok reply) = IsLineAnswered (Process process command) (decide old.it.now process command) old new reply
 CallLeaves process command old new (Err fault) = IsUntouched old new
 
 -- ---- the restart of a machine that is down

@@ -1,4 +1,5 @@
 pub mod Stands
 pub mod Restarts
+pub mod Starting
 pub mod Done
 pub mod Answers

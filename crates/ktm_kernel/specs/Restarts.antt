@@ -2,8 +2,7 @@
 use Rattle.std.specs.Prelude.{◌≡◌, ◌⊎◌, ℕ, ◌-◌, Bool, true, false, List, [], ◌∷◌, ◌++◌, Option, Some, None, Result, Ok, Err, Vec, vec_capacity, IfSome, IsSomeAnd, ◌+◌, ◌≤◌}
 use Rattle.ktm_base.specs.Disk.{DiskState, MayLeave, IsSafe}
 use Rattle.ktm_restart.specs.Logs.{HoldsLog, StandsFor}
-use Rattle.ktm_journal.specs.Append.{RecordLeaves, Records}
-use Rattle.ktm_journal.specs.Image.{JournalState, left_after}
+use Rattle.ktm_journal.specs.Image.{left_after}
 use Rattle.ktm_log.specs.OnDisk.{OnDisk}
 use Rattle.ktm_event.specs.Kept.{EventsState, Holds}
 use Rattle.ktm_restart.specs.Bad.{IsBadAt}
@@ -45,17 +44,12 @@ abbrev pub LeavesOwnOrNot : ℕ → ℕ → List Group → List Group → DiskSt
 LeavesOwnOrNot units image before log s = (bytes : List ℕ) → MayLeave s bytes
     → HoldsLog units image (before ++ log) bytes ⊎ HoldsLog units image (before ++ (log ++ own_group (stand (base_of units image before) log) ∷ [])) bytes
 
--- ---- what the recording of a start leaves
+-- ---- what a start records
 
 -- the list has the group of a start from this state, and the room for whatever a log of so many units has room for
 pub record ListsStart (state : Durable) (units : ℕ) (events : EventsState) : Type 0 where
   pub holds : Holds events (own_group state)
   pub room : events.room + frame_size [] ≡ area_len units
-
--- it was appended to the journal, or why it was not
-abbrev pub StartLeaves : Durable → OnDisk JournalState → OnDisk JournalState → Result EventsState AppendFault → Type 0
-StartLeaves state old new (Ok events) = ListsStart state old.it.units events × Records events old new
-StartLeaves state old new (Err fault) = (events : EventsState) × ListsStart state old.it.units events × RecordLeaves events old new (Err fault)
 
 -- ---- what a restart leaves
 

@@ -1,5 +1,5 @@
 -- When a machine with its disk stands for a world.
-use Rattle.std.specs.Prelude.{◌≡◌, ℕ, Bool, true, false, List, ◌++◌, Option, Contains, IsTrue, IfSome, IsSomeAnd}
+use Rattle.std.specs.Prelude.{◌≡◌, ℕ, ◌≤◌, Bool, true, false, List, ◌++◌, Option, Contains, IsTrue, IfSome, IsSomeAnd}
 use Rattle.ktm_base.specs.Disk.{DiskState, DiskStatus, MayLeave, IsSafe}
 use Rattle.ktm_base.specs.Power.{Restored, NotRestored}
 use Rattle.ktm_base.specs.Told.{Goes}
@@ -13,17 +13,19 @@ use Rattle.ktm_world.specs.World.{World, present, possible_logs, interrupted_res
 use Rattle.ktm_forms.specs.Built.{is_built_log}
 use Rattle.ktm_world.specs.Logs.{Group, is_up}
 use Rattle.ktm_built.specs.Standing.{IsStanding, IsStandingNow}
+use Rattle.ktm_slots.specs.Owed.{owed_slots}
 use Rattle.ktm_world.specs.Transcript.{Does, Step}
 use Rattle.ktm_memory.specs.Memory.{MemoryState, present_of}
 
--- what a machine is: what is so now, and its journal
+-- what a machine is: what is so now, its journal, and how many notifications it can send without memory
 pub record KernelState : Type 0 where
   pub now : Present
   pub journal : JournalState
+  pub slots : ℕ
 
 -- the machine whose memory this is
 abbrev pub machine_of : MemoryState → KernelState
-machine_of m = record { now = present_of m; journal = m.journal }
+machine_of m = record { now = present_of m; journal = m.journal; slots = m.tm.slots }
 
 -- the world's run began with an image of this journal that held these groups
 pub record Began (j : JournalState) (before : List Group) (w : World) : Type 0 where
@@ -75,6 +77,8 @@ pub record IsPowered (k : KernelState) (told : Option DiskState) (status : DiskS
 pub record IsReady (k : KernelState) (told : Option DiskState) (status : DiskStatus) : Type 0 where
   pub powered : IsPowered k told status
   pub standing : k.now.machine.is_up ≡ true → IsStandingNow k.now
+  -- there is room for all notifications that may come to be sent without a call that makes room
+  pub slots : k.now.machine.is_up ≡ true → owed_slots k.now ≤ k.slots
 
 -- a machine that is down, whose disk has the power again and holds one of the possible logs, all of it safe
 pub record FoundAt (k : KernelState) (told : Option DiskState) (w : World) : Type 0 where

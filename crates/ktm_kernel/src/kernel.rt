@@ -6,8 +6,8 @@ ghost use Rattle.ktm_types.specs.declared.command.Line.TheVariants.{Crash, Tick}
 ghost use Rattle.ktm_types.specs.declared.reply.Reply.TheVariants.{Refused, Done};
 ghost use Rattle.ktm_forms.specs.Built.{is_built_command};
 ghost use Rattle.ktm_types.specs.Values.{IsCommand};
-ghost use Rattle.ktm_world.specs.World.{World};
-ghost use Rattle.ktm_kernel.specs.Answers.{AnswerLeaves, CallLeaves};
+ghost use Rattle.ktm_world.specs.World.{World, decide_tick};
+ghost use Rattle.ktm_kernel.specs.Answers.{AnswerLeaves, CallLeaves, IsLineAnswered};
 ghost use Rattle.ktm_kernel.specs.Done.{fallen};
 ghost use Rattle.ktm_log.specs.OnDisk.{on};
 ghost use Rattle.ktm_route.specs.Route.{IsBuiltAsked, decided};
@@ -15,11 +15,13 @@ ghost use Rattle.ktm_kernel.specs.Stands.{KernelAt, DoesLine, IsReady};
 ghost use Rattle.ktm_route.specs.Takes.{asked_takes_memory, takes_memory};
 
 use ktm_base::{Disk, NoMemory, Pid, Refusal};
-use ktm_built::{law_of_events, law_of_standing};
+use ktm_built::law_of_standing;
 use ktm_event::Events;
 use ktm_journal::AppendFault;
 use ktm_memory::{Decision, Memory};
 use ktm_route::{Asked, decide};
+use ktm_slots::law_of_slots;
+use ktm_trace::{law_of_contents, law_of_kept};
 use ktm_types::{Command, Reply};
 use std::alloc::Global;
 use std::marker::Model;
@@ -77,7 +79,6 @@ impl Kernel {
         ensures leaves { CallLeaves process command (on self.old (D.told disk.old) (D.status disk.old)) (on self.new (D.told disk.new) (D.status disk.new)) result }
         ensures enough { takes_memory self.old.now process command ≡ false → IsOk result }
     {
-        law_of_events();
         law_of_standing();
         if !self.is_up() {
             return Ok(Reply::Refused(Refusal::MachineDown));
@@ -85,17 +86,13 @@ impl Kernel {
         self.answer(disk, Asked::Call(process, command))
     }
 
-    /// So many milliseconds pass, and the transactions roll back whose timeouts are reached then, in order of creation. While
-    /// the machine is down no time passes. It makes no device call, and takes no memory.
+    /// So many milliseconds pass, and the transactions roll back whose timeouts are reached then, in order of creation; what that
+    /// records is one group. After ERROR_LOG_FULL the machine is down. While the machine is down no time passes. It takes no
+    /// memory.
     pub fn tick<D: Disk>(&mut self, disk: &mut D, ms: u32) -> Reply
         requires ready { IsReady self.old (D.told disk.old) (D.status disk.old) }
-        ensures does { (w : World) → KernelAt self.old (D.told disk.old) w
-            → DoesLine w (Some (Tick ms)) result self.new (D.told disk.new) }
-        ensures cause { result ≡ Refused MachineDown → self.old.now.machine.is_up ≡ false }
-        ensures ready { IsReady self.new (D.told disk.new) (D.status disk.new) }
-        ensures untouched { (D.told disk.new ≡ D.told disk.old) × (D.status disk.new ≡ D.status disk.old) }
+        ensures { IsLineAnswered (Tick ms) (decide_tick self.old.now ms) (on self.old (D.told disk.old) (D.status disk.old)) (on self.new (D.told disk.new) (D.status disk.new)) result }
     {
-        law_of_events();
         law_of_standing();
         if !self.is_up() {
             return Reply::Refused(Refusal::MachineDown);
@@ -114,6 +111,10 @@ impl Kernel {
         ensures leaves { AnswerLeaves (decided self.old.now asked) (on self.old (D.told disk.old) (D.status disk.old)) (on self.new (D.told disk.new) (D.status disk.new)) result }
         ensures enough { asked_takes_memory self.old.now asked ≡ false → IsOk result }
     {
+        law_of_standing();
+        law_of_slots();
+        law_of_contents();
+        law_of_kept();
         self.events.clear();
         let decided = decide(&mut self.memory, self.alloc, asked, &mut self.events)?;
         let Some(Decision { reply, settlement }) = decided else {
@@ -122,7 +123,7 @@ impl Kernel {
         };
         match self.memory.record(disk, &self.events) {
             Ok(()) => {
-                self.memory.settle(settlement);
+                self.memory.settle(self.alloc, settlement);
                 Ok(reply)
             }
             Err(AppendFault::Down) => {

@@ -1,29 +1,39 @@
 // Starting the machine from its disk.
-ghost use Rattle.std.specs.Prelude.{◌≡◌, ◌+◌, ◌-◌, ◌*◌, ◌^◌, ◌<◌, ◌≤◌, ℕ, IfOk, OnErr, Some, None, false, [], vec_capacity, IfSome, IsSomeAnd};
+ghost use Rattle.std.specs.Prelude.{◌≡◌, ◌+◌, ◌-◌, ◌*◌, ◌^◌, ◌<◌, ◌≤◌, ℕ, IfErr, IfOk, OnErr, Some, None, true, false, [], length, vec_capacity, IfSome, IsSomeAnd};
 ghost use Rattle.ktm_base.specs.declared.limits.TheConstants.{MOST_UNITS};
 ghost use Rattle.ktm_event.specs.Kept.{Holds};
 ghost use Rattle.ktm_base.specs.Disk.{DeviceCalls};
 ghost use Rattle.ktm_built.specs.Standing.{fresh};
 ghost use Rattle.ktm_forms.specs.Built.{IsBuiltState};
+ghost use Rattle.ktm_journal.specs.Append.{has_no_room};
 ghost use Rattle.ktm_journal.specs.Image.{IsFormatted, IsHeaded};
 ghost use Rattle.ktm_types.specs.Sizes.{area_len, frame_size};
+ghost use Rattle.ktm_slots.specs.Owed.{owed_slots};
 ghost use Rattle.ktm_states.specs.GoodState.{IsGoodState};
-ghost use Rattle.ktm_world.specs.World.{World};
-ghost use Rattle.ktm_memory.specs.Memory.{IsRoomy};
-ghost use Rattle.ktm_kernel.specs.Restarts.{RestartLeaves, StartLeaves, answer_of, restart_went_down, unrecorded};
+ghost use Rattle.ktm_world.specs.Logs.{Group};
+ghost use Rattle.ktm_world.specs.World.{World, own_group};
+ghost use Rattle.ktm_memory.specs.Memory.{IsRoomy, Shows};
+ghost use Rattle.ktm_restart.specs.Loads.{IsJournalOf, MayStart};
+ghost use Rattle.ktm_kernel.specs.Starting.{Begun, IsNotRecorded, IsRecorded, NothingBegins};
+ghost use Rattle.ktm_memory.specs.Recorded.{RecordingLeaves};
+ghost use Rattle.ktm_kernel.specs.Restarts.{ListsStart, RestartLeaves, answer_of, restart_went_down, unrecorded};
 ghost use Rattle.ktm_kernel.specs.Answers.{StartAgainLeaves};
 ghost use Rattle.ktm_log.specs.OnDisk.{on};
-ghost use Rattle.ktm_kernel.specs.Stands.{FoundAt};
+ghost use Rattle.ktm_kernel.specs.Stands.{FoundAt, machine_of};
 
 use crate::kernel::Kernel;
+use ktm_back::{law_of_coming_back, start};
 use ktm_base::{Disk, NoMemory, Refusal};
 use ktm_built::{law_of_fresh, law_of_standing};
 use ktm_event::Events;
 use ktm_journal::{AppendFault, Journal, LoadFault};
 use ktm_memory::Memory;
-use ktm_restart::{Durable, Loaded, load};
-use ktm_states::{law_of_good_states, law_of_grammar};
-use ktm_types::{Event, Reply};
+use ktm_records::law_of_spelling;
+use ktm_restart::{Durable, DurableParts, Loaded, load};
+use ktm_slots::law_of_slots;
+use ktm_states::{law_of_good_states, law_of_grammar, law_of_own_groups};
+use ktm_trace::{Trace, law_of_contents};
+use ktm_types::Reply;
 use std::alloc::Global;
 use std::mem::replace;
 use thiserror::Error;
@@ -43,69 +53,60 @@ fn events_in(buffer: Vec<u8>, journal: &Journal) -> Events
 #[derive(Drop)]
 pub struct Restarted {
     pub kernel: Kernel,
-    /// How many events were found, before the one that this start recorded.
+    /// How many events were found, before those that this start recorded.
     pub events: u64,
     /// How many transactions are in doubt. None is, since none has a superior so far.
     pub in_doubt: u32,
 }
 
-// Records that a machine starts from this state. Its list of events takes the buffer, which is given back where that was not
-// recorded.
-fn record_start<D: Disk>(
+// What a start from this state records, in the buffer of the journal; none where the log has no room for it.
+fn list_start(
     alloc: Global,
-    disk: &mut D,
-    journal: &mut Journal,
+    journal: &Journal,
     state: &Durable,
     buffer: &mut Vec<u8>,
-) -> Result<Events, AppendFault>
-    requires built { IsBuiltState state.now }
+) -> Option<Events>
+    requires good { IsGoodState state.now }
     requires boots { state.now.boots + 1 < 2 ^ 32 }
-    requires most { journal.old.units ≤ MOST_UNITS }
-    requires reserved { area_len journal.old.units ≤ vec_capacity buffer.old }
-    requires pending { (D.status disk.old).pending ≡ 0 }
-    requires formatted { IfSome (D.told disk.old) (λ s. IsFormatted journal.old.units journal.old.image s.seen) }
-    ensures leaves { StartLeaves state.now (on journal.old (D.told disk.old) (D.status disk.old)) (on journal.new (D.told disk.new) (D.status disk.new)) result }
-    ensures buffer { OnErr result (vec_capacity buffer.old ≤ vec_capacity buffer.new) }
+    requires most { journal.now.units ≤ MOST_UNITS }
+    requires reserved { area_len journal.now.units ≤ vec_capacity buffer.old }
+    ensures some { IfSome result (λ events. ListsStart state.now journal.now.units events × (has_no_room journal.now (own_group state.now) ≡ false)) }
+    ensures capacity { IfSome result (λ events. vec_capacity buffer.old ≤ events.capacity) }
+    ensures none { result ≡ None → has_no_room journal.now (own_group state.now) ≡ true }
+    ensures kept { result ≡ None → vec_capacity buffer.old ≤ vec_capacity buffer.new }
 {
-    let mut events = events_in(replace(buffer, Vec::new(alloc)), journal);
-    events.push(&Event::Boot {
-        boot: state.boots() + 1,
-    });
-    match journal.append(disk, &events) {
-        Ok(()) => Ok(events),
-        Err(fault) => {
-            *buffer = events.into_buffer();
-            Err(fault)
-        }
+    law_of_spelling();
+    if !journal.has_room(state.own_size()) {
+        return None;
     }
+    let mut events = events_in(replace(buffer, Vec::new(alloc)), journal);
+    state.own_group(&mut events);
+    Some(events)
 }
 
-// The machine that started from this state, once that is recorded.
-fn started(alloc: Global, journal: Journal, state: Durable, events: Events) -> Restarted
+// What a machine holds that starts from this state, before that is recorded.
+fn begin(alloc: Global, journal: Journal, state: Durable) -> Result<Memory, NoMemory>
     requires built { IsBuiltState state }
     requires good { IsGoodState state }
     requires boots { state.boots + 1 < 2 ^ 32 }
-    requires roomy { IsRoomy journal events }
-    requires units { journal.units ≡ state.units }
-    requires image { journal.image ≡ state.image }
-    requires counted { journal.events ≡ state.events + 1 }
-    ensures journal { result.kernel.journal ≡ journal }
-    ensures now { result.kernel.now ≡ fresh state (journal.log.area.len - journal.log.end) }
-    ensures events { result.events ≡ state.events }
-    ensures in_doubt { result.in_doubt ≡ 0 }
+    requires events { state.events + length (own_group state) < 2 ^ 63 }
+    ensures journal { IfOk result (λ memory. memory.journal ≡ journal) }
+    ensures shows { IfOk result (λ memory. (left : ℕ) → Shows memory (fresh state left)) }
+    ensures slots { IfOk result (λ memory. (left : ℕ) → owed_slots (fresh state left) ≤ memory.tm.slots) }
 {
-    let found = state.events();
-    let boot = state.boots() + 1;
-    let (files, keys) = state.into_files_and_keys();
-    Restarted {
-        kernel: Kernel {
-            alloc,
-            memory: Memory::start(alloc, journal, boot, files, keys),
-            events,
-        },
-        events: found,
-        in_doubt: 0,
-    }
+    law_of_coming_back();
+    law_of_slots();
+    let mut state = state;
+    let tm = start(
+        alloc,
+        state.boots() + 1,
+        state.managers(),
+        state.transactions(),
+    )?;
+    state.begin();
+    let trace = Trace::of(alloc, state.transactions())?;
+    let DurableParts { files, keys, .. } = state.into_parts();
+    Ok(Memory::start(alloc, journal, tm, trace, files, keys))
 }
 
 /// Why a machine did not start.
@@ -148,10 +149,80 @@ fn answer_of(fault: RestartFault) -> Result<Reply, NoMemory>
     }
 }
 
+// A machine that is to start: what it holds, and the list of what it records.
+#[derive(Drop)]
+struct Starting {
+    memory: Memory,
+    events: Events,
+}
+
+// What starts from what was loaded, whose log was read into the buffer. The buffer is kept where nothing can start.
+fn prepare(alloc: Global, loaded: Loaded, buffer: &mut Vec<u8>) -> Result<Starting, RestartFault>
+    requires may { MayStart loaded.state }
+    requires journal { IsJournalOf loaded.state loaded.journal }
+    requires reserved { area_len loaded.journal.units ≤ vec_capacity buffer.old }
+    ensures begun { IfOk result (λ starting. Begun loaded starting.events starting.memory) }
+    ensures capacity { IfOk result (λ starting. vec_capacity buffer.old ≤ starting.events.capacity) }
+    ensures err { OnErr result (vec_capacity buffer.old ≤ vec_capacity buffer.new) }
+    ensures fault { IfErr result (NothingBegins loaded) }
+{
+    let Loaded { journal, state } = loaded;
+    let Some(events) = list_start(alloc, &journal, &state, buffer) else {
+        return Err(RestartFault::Full);
+    };
+    match begin(alloc, journal, state) {
+        Ok(memory) => Ok(Starting { memory, events }),
+        Err(NoMemory) => {
+            *buffer = events.into_buffer();
+            Err(RestartFault::NoMemory)
+        }
+    }
+}
+
+// The machine that holds this, with the list for what it records.
+fn machine(alloc: Global, memory: Memory, events: Events) -> Kernel
+    requires { IsRoomy memory.journal events }
+    ensures { result ≡ machine_of memory }
+{
+    Kernel {
+        alloc,
+        memory,
+        events,
+    }
+}
+
+// Records that it starts; or why that was not recorded, and then the buffer is given back. What each part of memory gives back
+// then is proved in `drop`, and not here.
+fn record_start<D: Disk>(
+    alloc: Global,
+    disk: &mut D,
+    starting: Starting,
+    buffer: &mut Vec<u8>,
+) -> Result<Kernel, RestartFault>
+    requires up { (D.status disk.old).is_down ≡ false }
+    requires pending { (D.status disk.old).pending ≡ 0 }
+    requires formatted { IfSome (D.told disk.old) (λ s. IsFormatted starting.memory.journal.units starting.memory.journal.image s.seen) }
+    requires roomy { IsRoomy starting.memory.journal starting.events }
+    requires listed { (group : Group) × Holds starting.events group }
+    ensures ok { IfOk result (λ kernel. IsRecorded starting.events (on starting.memory (D.told disk.old) (D.status disk.old)) (D.told disk.new) (D.status disk.new) kernel) }
+    ensures err { IfErr result (λ fault. IsNotRecorded starting.events (on starting.memory (D.told disk.old) (D.status disk.old)) (D.told disk.new) (D.status disk.new) fault) }
+    ensures kept { OnErr result (starting.events.capacity ≤ vec_capacity buffer.new) }
+{
+    let Starting { mut memory, events } = starting;
+    match memory.record(disk, &events) {
+        Ok(()) => Ok(machine(alloc, memory, events)),
+        Err(fault) => {
+            drop(memory);
+            *buffer = events.into_buffer();
+            Err(unrecorded(fault))
+        }
+    }
+}
+
 impl Kernel {
-    /// Starts the machine from the image of its disk: it reads the groups that are there, and records that it started. The
-    /// log is read into the buffer, which the machine keeps, and gives back where it does not start; an empty one grows to
-    /// the length of the log's area.
+    /// Starts the machine from the image of its disk: it reads the groups that are there, brings back what they come to, and
+    /// records that it started. The log is read into the buffer, which the machine keeps, and gives back where it does not
+    /// start; an empty one grows to the length of the log's area.
     pub fn restart<D: Disk>(
         alloc: Global,
         disk: &mut D,
@@ -165,16 +236,27 @@ impl Kernel {
         law_of_fresh();
         law_of_standing();
         law_of_good_states();
+        law_of_own_groups();
         law_of_grammar();
-        let Loaded { mut journal, state } = match load(alloc, disk, buffer) {
+        law_of_contents();
+        let loaded = match load(alloc, disk, buffer) {
             Ok(loaded) => loaded,
             Err(LoadFault::Down) => return Err(RestartFault::Down),
             Err(LoadFault::Bad(offset)) => return Err(RestartFault::Bad(offset)),
             Err(LoadFault::NoMemory) => return Err(RestartFault::NoMemory),
         };
-        match record_start(alloc, disk, &mut journal, &state, buffer) {
-            Ok(events) => Ok(started(alloc, journal, state, events)),
-            Err(fault) => Err(unrecorded(fault)),
+        let found = loaded.state.events();
+        let starting = match prepare(alloc, loaded, buffer) {
+            Ok(starting) => starting,
+            Err(fault) => return Err(fault),
+        };
+        match record_start(alloc, disk, starting, buffer) {
+            Ok(kernel) => Ok(Restarted {
+                kernel,
+                events: found,
+                in_doubt: 0,
+            }),
+            Err(fault) => Err(fault),
         }
     }
 }

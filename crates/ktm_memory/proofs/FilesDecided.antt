@@ -17,23 +17,27 @@ use Rattle.ktm_types.specs.declared.options.ShareMode.{ShareMode}
 use Rattle.ktm_types.specs.declared.reply.Reply.TheVariants.{Done, Refused}
 use Rattle.ktm_world.specs.Decide.{events_of}
 use Rattle.ktm_world.specs.FileOutcome.{FileOutcome, FileRoom, files_after}
-use Rattle.ktm_world.specs.Files.{FilesNow, OpenFile, tree_seen}
+use Rattle.ktm_world.specs.Files.{FilesNow, OpenFile, changes_with, own_changes, tree_seen}
 use Rattle.ktm_world.specs.FileCalls.{Whereabouts, no_path, no_way, free, at_root, at_node, create_at, create_directory, create_file, delete_file, drop_at, find_files, find_path, get_size, make_at, move_at, move_file, read_file, remove_directory, set_end, write_file}
 use Rattle.ktm_world.specs.Outcome.{apply, first_refusal, is_full, only_reply}
 use Rattle.ktm_world.specs.Keys.{changes_pending as keys_unset}
 use Rattle.ktm_world.specs.Present.{Present}
 use Rattle.ktm_world.specs.Uses.{file_room}
 use Rattle.ktm_built.specs.Files.{MayMake, MayMakePlain}
-use Rattle.ktm_built.specs.Standing.{IsBuiltNow}
 use Rattle.ktm_built.proofs.offered.Applied.{apply-reply}
 use Rattle.ktm_memory.specs.declared.settlement.Settlement.TheVariants.{Change as PlainChange}
 use Rattle.ktm_memory.specs.Decided.{CanAnswer, Decides, bind_opened}
 use Rattle.ktm_memory.specs.Memory.{CanMakePlain, Held, MayBind, MaySettle, MemoryState, held, now_of, present_of}
-use Rattle.ktm_memory.specs.Routed.{IsFreeLabel, IsReadyCall}
+use Rattle.ktm_memory.specs.Routed.{IsActiveCaller, IsFreeLabel, IsReadyCall}
+use Rattle.ktm_memory.proofs.Unlogged.{unlogged}
+use Rattle.ktm_world.specs.Durable.{Recorded}
+use Rattle.ktm_world.specs.Transactions.{same_id}
+use Rattle.ktm_built.specs.Standing.{IsStandingNow}
+use Rattle.txf_laws.proofs.offered.OwnChange.{with-other}
 use Rattle.ktm_memory.specs.Opening.{files_outcome}
 use Rattle.ktm_memory.specs.Takes.{is_quiet}
 use Rattle.ktm_memory.proofs.offered.Decided.{decided}
-use Rattle.ktm_memory.proofs.Left.{bound_leaves, left_by, no_group}
+use Rattle.ktm_memory.proofs.Bound.{bound_leaves, left_by, no_group}
 use Rattle.ktm_memory.proofs.offered.Opening.{events_in, reply_of}
 use Rattle.ktm_memory.specs.Settled.{handles_then, left_to_do}
 use Rattle.ktm_types.specs.declared.object.Object.TheVariants.{File as FileObject}
@@ -66,6 +70,15 @@ may_bind_plain m process None opened room unbound = tt
 may_bind_plain m process (Some l) None room unbound = tt
 may_bind_plain m process (Some l) (Some file) room unbound = (room refl, unbound)
 
+-- nothing is sent
+sends_none : (x : Present) (process : Pid) (who : Option Id) (label : Option Label) (o : FileOutcome) → (files_outcome x process who label o).sent ≡ []
+sends_none x process who None o = refl
+sends_none x process who (Some l) o = go o.opened
+  where
+    go : (opened : Option OpenFile) → (files_outcome x process who (Some l) (record o { opened = opened })).sent ≡ []
+    go None = refl
+    go (Some file) = refl
+
 -- ---- a plain call
 
 -- the call can be made, whatever it answers
@@ -77,15 +90,16 @@ may_settle h n process label o opened copy same may ready is room unbound = (
   subst (λ (file : Option OpenFile). MayBind n process label file) is (may_bind_plain n process label opened room (subst (λ (g : Held). IsFreeLabel (now_of g) process label) (sym same) unbound)),
 )
 
-pub plain_decided : (h : Held) (n : MemoryState) (process : Pid) (label : Option Label) (o : FileOutcome) (reply : Reply) (plan : FileOutcome) (copy : Option (List ℕ)) (events : EventsState) → IsBuiltNow (now_of h)
+pub plain_decided : (h : Held) (n : MemoryState) (process : Pid) (label : Option Label) (o : FileOutcome) (reply : Reply) (plan : FileOutcome) (copy : Option (List ℕ)) (events : EventsState)
     → reply ≡ o.reply → plan ≡ record o { reply = Done } → held n ≡ h → MaySettle n (PlainChange process label (record o { reply = Done }) copy) → Holds events (events_of None o.change)
     → is_full (now_of h).machine.left (events_of None o.change) ≡ false → CanAnswer None o → Decides h (files_outcome (now_of h) process None label o) reply (PlainChange process label plan copy) events n
-plain_decided h n process label o reply plan copy events built says is same may holds room answers =
+plain_decided h n process label o reply plan copy events says is same may holds room answers =
     let x = now_of h in
     let are = events_in x process None label o in
-    decided h n (files_outcome x process None label o) reply (PlainChange process label plan copy) events built (says ∙ sym (reply_of x process None label o)) (subst (Holds events) (sym are) holds) (ap (is_full x.machine.left) are ∙ room) same
+    decided h n (files_outcome x process None label o) reply (PlainChange process label plan copy) events (says ∙ sym (reply_of x process None label o)) (subst (Holds events) (sym are) holds) (ap (is_full x.machine.left) are ∙ room) same
     (ap (λ (p : FileOutcome). (files_outcome x process None label p).events) is ∙ events_in x process None label (record o { reply = Done }) ∙ sym are)
-    (ap (λ (p : FileOutcome). apply x (files_outcome x process None label p)) is ∙ left_by x process None label (record o { reply = Done }) built ∙ sym (left_by x process None label o built))
+    (sends_none x process None label plan ∙ sym (sends_none x process None label o))
+    (ap (λ (p : FileOutcome). apply x (files_outcome x process None label p)) is ∙ left_by x process None label (record o { reply = Done }) ∙ sym (left_by x process None label o))
     (subst (λ (p : FileOutcome). MaySettle n (PlainChange process label p copy)) (sym is) may)
     (λ some refusal e. answers (λ none. some (are ∙ none)) refusal (sym says ∙ e))
 
@@ -97,34 +111,56 @@ bound_quiet x process None opened = refl
 bound_quiet x process (Some l) None = refl
 bound_quiet x process (Some l) (Some file) = refl
 
-bound : (x : Present) (process : Pid) (label : Option Label) (opened : Option Kept) → IsBuiltNow x
-    → apply x (left_to_do x (bind_opened process label opened)) ≡ record x { handles = handles_then x.handles process label (option_map open_of opened) }
-bound x process None opened built = apply-reply x Done built.managers
-bound x process (Some l) None built = apply-reply x Done built.managers
-bound x process (Some l) (Some file) built = bound_leaves x process l (FileObject file.number) built.managers
+bound_sends : (x : Present) (process : Pid) (label : Option Label) (opened : Option Kept) → (left_to_do x (bind_opened process label opened)).sent ≡ []
+bound_sends x process None opened = refl
+bound_sends x process (Some l) None = refl
+bound_sends x process (Some l) (Some file) = refl
 
-pub own_decided : (h : Held) (n : MemoryState) (process : Pid) (id : Id) (label : Option Label) (o : FileOutcome) (opened : Option Kept) (events : EventsState) → IsBuiltNow (now_of h)
+bound : (x : Present) (process : Pid) (label : Option Label) (opened : Option Kept)
+    → apply x (left_to_do x (bind_opened process label opened)) ≡ record x { handles = handles_then x.handles process label (option_map open_of opened) }
+bound x process None opened = apply-reply x Done
+bound x process (Some l) None = apply-reply x Done
+bound x process (Some l) (Some file) = bound_leaves x process l (FileObject file.number)
+
+-- what other transactions changed stays
+own_other : (files : FilesNow) (id : Id) (o : FileOutcome) (other : Id) → same_id id other ≡ false → own_changes (files_after files (Some id) o).table.own other ≡ own_changes files.table.own other
+own_other files id o other differ = go o.change o.opened
+  where
+    go : (change : Option Change) (opened : Option OpenFile) → (let made : FileOutcome = record o { change = change; opened = opened } in own_changes (files_after files (Some id) made).table.own other ≡ own_changes files.table.own other)
+    go None None = refl
+    go None (Some file) = refl
+    go (Some change) None = with-other files.table.own id (changes_with files id change) other differ
+    go (Some change) (Some file) = with-other files.table.own id (changes_with files id change) other differ
+
+-- what was recorded stays
+own_unlogged : (h : Held) (id : Id) (o : FileOutcome) → IsStandingNow (now_of h) → IsActiveCaller (now_of h) (Some id)
+    → now_of (record h { files = files_after h.files (Some id) o }) ≡ record (now_of h) { files = files_after h.files (Some id) o }
+own_unlogged h id o standing active =
+    let y = record (now_of h) { files = files_after h.files (Some id) o } in
+    ap (λ (ts : List Recorded). record y { recorded = record y.recorded { transactions = ts } })
+    (unlogged h id (files_after h.files (Some id) o).table.own h.keys.own standing active (own_other h.files id o) (λ other differ. refl))
+
+pub own_decided : (h : Held) (n : MemoryState) (process : Pid) (id : Id) (label : Option Label) (o : FileOutcome) (opened : Option Kept) (events : EventsState) → IsStandingNow (now_of h) → IsActiveCaller (now_of h) (Some id)
     → held n ≡ record h { files = files_after h.files (Some id) o } → option_map open_of opened ≡ o.opened → MaySettle n (bind_opened process label opened) → Holds events []
     → Decides h (files_outcome (now_of h) process (Some id) label o) o.reply (bind_opened process label opened) events n
-own_decided h n process id label o opened events built same opens may holds =
+own_decided h n process id label o opened events standing active same opens may holds =
     let x = now_of h in
     let are = events_in x process (Some id) label o in
     let y = record x { files = files_after h.files (Some id) o } in
-    let built_then : IsBuiltNow (present_of n) = subst (λ (k : Held). IsBuiltNow (now_of k)) (sym same)
-    (record { managers = refl; enlistments = built.enlistments; last_manager = built.last_manager; last_enlistment = built.last_enlistment; unrecorded = built.unrecorded; recorded = refl }) in
     record {
       says = sym (reply_of x process (Some id) label o);
       records = subst (λ (es : List Event). Holds events es) (sym are) holds;
       room = ap (is_full (now_of h).machine.left) are;
       journal = ap (λ (g : Held). g.journal) same;
       group = bound_quiet (present_of n) process label opened ∙ sym are;
+      tells = bound_sends (present_of n) process label opened ∙ sym (sends_none x process (Some id) label o);
       comes_to =
-          bound (present_of n) process label opened built_then
+          bound (present_of n) process label opened
           ∙ ap (λ (k : Held). record (now_of k) { handles = handles_then (now_of k).handles process label (option_map open_of opened) }) same
+          ∙ ap (λ (z : Present). record z { handles = handles_then x.handles process label (option_map open_of opened) }) (own_unlogged h id o standing active)
           ∙ ap (λ (file : Option OpenFile). record y { handles = handles_then x.handles process label file }) opens
           ∙ sym (ap (λ (z : Present). record z { handles = handles_then x.handles process label o.opened }) (no_group y))
-          ∙ sym (left_by x process (Some id) label o built);
-      built = built_then;
+          ∙ sym (left_by x process (Some id) label o);
       may = may;
       waits = λ some. absurd (some are);
       answers = λ some. absurd (some are);

@@ -1,11 +1,22 @@
 mod Rooms
+mod Behind
+mod HandlesLeft
+mod Telling
+mod Bound
+mod Unlogged
+mod KeysDecided
+mod ObjectsDecided
+mod Granted
 mod Decides
 mod FilesDecided
-mod CommitGroups
 mod Records
 mod Closings
 mod Ticks
 mod UndoneLive
-mod Settles
-mod Left
+mod CourseRecords
+mod CourseIdle
+mod CourseDecided
+mod Showing
+mod Carried
+mod Making
 pub mod offered

@@ -1,17 +1,32 @@
 -- What the passing of time records, over the live transactions alone.
-use Rattle.std.proofs.Common.{◌≡◌, ℕ, ◌+◌, ◌≤◌, ◌++◌, zero, suc, List, [], ◌∷◌, count_by, drop, filter, Some, None, refl, sym, ◌∙◌, ap, inl, inr, arith}
+use Rattle.std.proofs.Common.{◌≡◌, ℕ, ◌+◌, ◌≤◌, ◌++◌, ◌&&◌, ◌||◌, zero, suc, true, false, List, [], ◌∷◌, All, count_by, drop, filter, nat_le, nat_lt, Some, None, refl, sym, ◌∙◌, ap, inl, inr, arith}
 use Rattle.std.proofs.lemmas.List.{drop_all}
 use Rattle.std.proofs.lemmas.List.Sums.{length-filter}
-use Rattle.std.specs.List.{flat_map, slice_get}
-use Rattle.std.proofs.lemmas.Bool.{cases_Bool}
+use Rattle.std.specs.List.{AllByRecursion, flat_map, list_all, slice_get}
+use Rattle.std.proofs.lemmas.Bool.{and_parts, both_ways, cases_Bool, false_from_ne_true, leb-true}
+use Rattle.std.proofs.lemmas.List.Elements.{All-from_recursion}
+use Rattle.ktm_base.specs.declared.limits.TheConstants.{MOST_NUMBER}
+use Rattle.ktm_base.specs.declared.id.Id.{Id}
+use Rattle.ktm_event.specs.Spelling.{IsSpellableEvent, IsSpellableId}
+use Rattle.ktm_types.specs.declared.object.Phase.{Phase}
+use Rattle.ktm_types.specs.declared.object.Phase.TheVariants.{Ended}
 use Rattle.ktm_types.specs.declared.object.Transaction.{Transaction}
 use Rattle.ktm_world.specs.Transactions.{is_live}
 use Rattle.ktm_world.specs.Present.{Present}
-use Rattle.ktm_world.specs.TransactionCalls.{later, tick}
-use Rattle.ktm_courses.specs.SoundCourse.{IsSoundCourse}
+use Rattle.ktm_world.specs.TransactionCalls.{is_due, later, may_roll_back, tick}
+use Rattle.ktm_courses.specs.SoundCourse.{IsSoundCourse, is_counted}
 use Rattle.ktm_built.specs.Effects.{undo_of}
 use Rattle.ktm_built.proofs.offered.Undone.{tick_records}
-use Rattle.ktm_memory.proofs.Ticks.{ended_not_due, none_left}
+
+may_live : (t : Transaction) → may_roll_back t ≡ true → is_live t ≡ true
+may_live t = go t.phase
+  where
+    go : (phase : Phase) → may_roll_back (record t { phase = phase }) ≡ true → is_live (record t { phase = phase }) ≡ true
+    go Ended may = absurd (cc)
+    go _ may = refl
+
+ended_not_due : (clock : ℕ) (t : Transaction) → is_live t ≡ false → is_due clock t ≡ false
+ended_not_due clock t ended = false_from_ne_true (is_due clock t) (λ due. both_ways (is_live t) ended (may_live t (and_parts _ (may_roll_back t) due).1))
 
 -- nothing is recorded of those that have ended
 pub undone_live : (clock : ℕ) (ts : List Transaction) → flat_map (undo_of clock) (filter is_live ts) ≡ flat_map (undo_of clock) ts
@@ -28,6 +43,13 @@ drop_here : (ts : List Transaction) (i : ℕ) (t : Transaction) → slice_get ts
 drop_here [] i t at = absurd (cc)
 drop_here (u ∷ us) zero t at = let is : u ≡ t = cc in ap (λ (v : Transaction). v ∷ us) is
 drop_here (u ∷ us) (suc i) t at = drop_here us i t at
+
+-- there is none at a place behind them all
+none_left : (ts : List Transaction) (i : ℕ) → slice_get ts i ≡ None → drop i ts ≡ []
+none_left [] zero at = refl
+none_left [] (suc i) at = refl
+none_left (t ∷ ts) zero at = absurd (cc)
+none_left (t ∷ ts) (suc i) at = none_left ts i at
 
 -- none is left behind them all
 none_behind : (ts : List Transaction) (i : ℕ) → slice_get ts i ≡ None → drop (suc i) ts ≡ []
@@ -53,3 +75,23 @@ undone_all clock ts i behind = ap (flat_map (undo_of clock)) (drop_all i (filter
 -- it is what the passing of time records
 pub tick_undoes : (x : Present) (ms : ℕ) → IsSoundCourse x → flat_map (undo_of (later x.transactions.clock ms)) (filter is_live x.transactions.items) ≡ (tick x ms).events
 tick_undoes x ms course = undone_live (later x.transactions.clock ms) x.transactions.items ∙ sym (tick_records x ms course)
+
+-- ---- it can be written
+
+counted_id : (boot last : ℕ) (id : Id) → is_counted boot last id ≡ true → IsSpellableId id
+counted_id boot last id counted =
+    let most = and_parts _ (nat_lt id.boot boot || nat_le id.number last) counted in
+    let number = and_parts _ (nat_le id.number MOST_NUMBER) most.0 in
+    let from = and_parts (nat_le 1 id.boot && nat_le id.boot boot) (nat_le 1 id.number) number.0 in
+    record { boot_from = leb-true 1 id.boot (and_parts (nat_le 1 id.boot) (nat_le id.boot boot) from.0).0; number_from = leb-true 1 id.number from.1 }
+
+-- what is recorded of numbered transactions
+undone-spelled : (clock boot last : ℕ) (ts : List Transaction) → list_all (λ (t : Transaction). is_counted boot last t.id) ts ≡ true → AllByRecursion IsSpellableEvent (flat_map (undo_of clock) ts)
+undone-spelled clock boot last [] counted = tt
+undone-spelled clock boot last (t ∷ ts) counted =
+    let parts = and_parts (is_counted boot last t.id) (list_all (λ (u : Transaction). is_counted boot last u.id) ts) counted in
+    let rest = undone-spelled clock boot last ts parts.1 in
+    elim (cases_Bool (is_due clock t && t.is_recorded)) [ inl is ↦ rw is (counted_id boot last t.id parts.0, rest) | inr none ↦ rw none rest ]
+
+pub undone_spelled : (x : Present) (clock : ℕ) → IsSoundCourse x → All IsSpellableEvent (flat_map (undo_of clock) x.transactions.items)
+undone_spelled x clock course = All-from_recursion IsSpellableEvent (flat_map (undo_of clock) x.transactions.items) (undone-spelled clock x.recorded.boots x.transactions.last_transaction x.transactions.items course.transactions.counted)

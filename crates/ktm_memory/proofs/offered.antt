@@ -5,3 +5,4 @@ pub mod Settling
 pub mod Standing
 pub mod Takes
 pub mod Tests
+pub mod Shown

@@ -1,22 +1,24 @@
 -- A command that was decided: its reply, its events, and what is left to do in memory once they are recorded.
-use Rattle.std.specs.Prelude.{◌≡◌, ◌≢◌, true, false, [], Option, Some, None}
+use Rattle.std.specs.Prelude.{◌≡◌, ◌≢◌, true, false, List, [], ◌∷◌, cond, Option, Some, None}
 use Rattle.ktm_base.specs.declared.id.Id.{Id}
 use Rattle.ktm_base.specs.declared.id.Label.{Label}
 use Rattle.ktm_base.specs.declared.id.Pid.{Pid}
 use Rattle.ktm_base.specs.declared.refusal.Refusal.{Refusal}
 use Rattle.ktm_event.specs.Kept.{EventsState, Holds}
+use Rattle.ktm_types.specs.declared.event.Event.{Event}
+use Rattle.ktm_types.specs.declared.options.Durability.{Durability}
 use Rattle.ktm_types.specs.declared.object.Object.TheVariants.{File as FileObject}
 use Rattle.ktm_types.specs.declared.reply.Reply.{Reply}
 use Rattle.ktm_types.specs.declared.reply.Reply.TheVariants.{Done, Refused}
 use Rattle.ktm_world.specs.Decide.{events_of}
 use Rattle.ktm_world.specs.FileOutcome.{FileOutcome}
 use Rattle.ktm_world.specs.Outcome.{Outcome, apply, is_full}
+use Rattle.ktm_world.specs.TransactionCalls.{is_durable}
 use Rattle.ktm_memory.specs.declared.settlement.Decision.{Decision}
 use Rattle.ktm_memory.specs.declared.settlement.Settlement.{Settlement}
 use Rattle.ktm_memory.specs.declared.settlement.Settlement.TheVariants.{Nothing, Handles}
 use Rattle.ktm_memory.specs.declared.settlement.Labels.TheVariants.{Bind}
 use Rattle.txf_opens.specs.declared.file.OpenFile.{OpenFile}
-use Rattle.ktm_built.specs.Standing.{IsBuiltNow}
 use Rattle.ktm_memory.specs.Memory.{Held, MemoryState, MaySettle, held, now_of, present_of}
 use Rattle.ktm_memory.specs.Settled.{left_to_do}
 
@@ -27,10 +29,10 @@ pub record Decides (old : Held) (o : Outcome) (reply : Reply) (then : Settlement
   pub records : Holds events o.events
   pub room : is_full (now_of old).machine.left o.events ≡ false
   pub journal : new.journal ≡ old.journal
-  -- what is left to do has these events, and comes to what the outcome comes to
+  -- what is left to do has these events, tells this, and comes to what the outcome comes to
   pub group : (left_to_do (present_of new) then).events ≡ o.events
+  pub tells : (left_to_do (present_of new) then).sent ≡ o.sent
   pub comes_to : apply (present_of new) (left_to_do (present_of new) then) ≡ apply (now_of old) o
-  pub built : IsBuiltNow (present_of new)
   pub may : MaySettle new then
   pub waits : o.events ≢ [] → held new ≡ old
   -- what records something is not refused
@@ -54,3 +56,7 @@ CanAnswer who o = events_of who o.change ≢ [] → (refusal : Refusal) → o.re
 abbrev pub bind_opened : Pid → Option Label → Option OpenFile → Settlement
 bind_opened process (Some label) (Some file) = Handles process (Bind label (FileObject file.number))
 bind_opened process label opened = Nothing
+
+-- what is recorded where a resource manager is made: that it is, where it outlives a restart
+abbrev pub manager_events : Id → Durability → List Event
+manager_events id durability = cond (is_durable durability) (Event.MadeRm id ∷ []) []

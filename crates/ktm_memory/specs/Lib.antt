@@ -5,3 +5,4 @@ pub mod Recorded
 pub mod Takes
 pub mod Routed
 pub mod Decided
+pub mod Looked

@@ -1,5 +1,5 @@
 -- What the machine holds in memory, what that is of what is so now, and how a settlement changes that.
-use Rattle.std.specs.Prelude.{◌≡◌, ℕ, ◌+◌, ◌-◌, ◌≤◌, Bool, true, false, List, [], length, Option, Some, None, is_some, count_by}
+use Rattle.std.specs.Prelude.{◌≡◌, ℕ, ◌+◌, ◌-◌, ◌≤◌, ◌||◌, not, if◌then◌else◌, Bool, true, false, List, [], filter, length, map, Option, Some, None, is_some, count_by}
 use Rattle.ktm_base.specs.declared.limits.TheConstants.{MOST_UNITS, MOST_LIVE}
 use Rattle.ktm_base.specs.declared.id.Label.{Label}
 use Rattle.ktm_base.specs.declared.id.Pid.{Pid}
@@ -13,29 +13,37 @@ use Rattle.ktm_journal.specs.Image.{JournalState}
 use Rattle.ktm_types.specs.Sizes.{area_len, frame_size, log_size}
 use Rattle.txf_laws.specs.Elements.{each_pair}
 use Rattle.ktm_object.specs.Table.{HandleTable}
+use Rattle.ktm_states.specs.GoodState.{IsGoodState}
+use Rattle.ktm_tm.specs.Courses.{caller_of}
 use Rattle.ktm_tm.specs.TmState.{TmState}
+use Rattle.ktm_trace.specs.Contents.{expanded}
+use Rattle.ktm_trace.specs.Recordings.{steps_room}
+use Rattle.ktm_trace.specs.Traces.{TraceState, Traced, traces_of}
 use Rattle.ktm_types.specs.declared.event.Event.{Event}
 use Rattle.ktm_types.specs.declared.object.Handle.{Handle}
 use Rattle.ktm_types.specs.declared.object.Transaction.{Transaction}
-use Rattle.ktm_forms.specs.Built.{built_state}
-use Rattle.ktm_world.specs.Durable.{is_before}
+use Rattle.ktm_world.specs.Durable.{Durable, is_before}
+use Rattle.ktm_world.specs.Enlistments.{Manager, manager_at}
+use Rattle.ktm_world.specs.Outcome.{Outcome, apply}
+use Rattle.ktm_world.specs.Phases.{Course as Going}
+use Rattle.ktm_world.specs.Steps.{run}
 use Rattle.txf_laws.specs.Reservations.{files_committed}
 use Rattle.ktm_world.specs.Changes.{changes_apply}
 use Rattle.ktm_world.specs.FileOutcome.{FileOutcome, files_after}
 use Rattle.ktm_world.specs.Files.{FilesNow, OpenFile, own_changes}
 use Rattle.ktm_world.specs.Handles.{object_at}
-use Rattle.ktm_world.specs.Keys.{KeysNow, own_settings}
+use Rattle.ktm_world.specs.Keys.{KeysNow, own_settings, stored_all, without_own}
 use Rattle.ktm_world.specs.Logs.{as_groups}
 use Rattle.ktm_world.specs.Present.{Present, Transactions}
-use Rattle.ktm_world.specs.TransactionCalls.{no_transaction_left}
-use Rattle.ktm_world.specs.Transactions.{is_live, transaction_at}
+use Rattle.ktm_world.specs.TransactionCalls.{course_of, no_enlistment_left, no_manager_left, no_transaction_left}
+use Rattle.ktm_world.specs.Transactions.{is_live, is_undecided, transaction_at}
 use Rattle.kv_rm.specs.KvState.{KvState}
-use Rattle.txf_laws.specs.FileEffects.{AreUnopened, AreVersionsFew, LeavesOthers, IsPlain, LeavesOwn, CanBeCounted}
+use Rattle.txf_laws.specs.FileEffects.{forgotten, AreUnopened, AreVersionsFew, LeavesOthers, IsPlain, LeavesOwn, CanBeCounted}
 use Rattle.txf_volume.specs.Commit.{MayCommit}
 use Rattle.txf_volume.specs.Held.{FilesHeld, files_of}
 use Rattle.txf_volume.specs.Plain.{IsReady}
 use Rattle.ktm_memory.specs.declared.settlement.Settlement.{Settlement}
-use Rattle.ktm_memory.specs.declared.settlement.Settlement.TheVariants.{Nothing, Begin, Change, Course, Handles, Pass}
+use Rattle.ktm_memory.specs.declared.settlement.Settlement.TheVariants.{Nothing, Begin, Change, Course, Handles, Pass, MakeManager, Recover, Take, Enlist, Inform}
 use Rattle.ktm_memory.specs.declared.settlement.Labels.{Labels}
 use Rattle.ktm_memory.specs.declared.settlement.Labels.TheVariants.{Bind, Duplicate, Unbind, UnbindAll}
 
@@ -45,6 +53,8 @@ pub record MemoryState : Type 0 where
   pub journal : JournalState
   pub handles : HandleTable
   pub tm : TmState
+  -- of the transactions that the log has, what is to be seen nowhere else
+  pub trace : TraceState
   pub files : FilesHeld
   -- the number of the next node, by what was recorded
   pub next_node : ℕ
@@ -57,21 +67,53 @@ pub record Held : Type 0 where
   pub handles : List Handle
   pub boot : ℕ
   pub transactions : Transactions
+  pub managers : List Manager
+  pub traces : List Traced
   pub files : FilesNow
   pub next_node : ℕ
   pub keys : KeysNow
 
 -- what the layers hold
 abbrev pub held : MemoryState → Held
-held m = record { is_up = m.is_up; journal = m.journal; handles = m.handles.handles; boot = m.tm.boot; transactions = m.tm.now; files = files_of m.files; next_node = m.next_node; keys = m.keys.keys }
+held m = record {
+  is_up = m.is_up;
+  journal = m.journal;
+  handles = m.handles.handles;
+  boot = m.tm.boot;
+  transactions = m.tm.now;
+  managers = m.tm.managers;
+  traces = m.trace.transactions;
+  files = files_of m.files;
+  next_node = m.next_node;
+  keys = m.keys.keys;
+}
 
--- what is so now, by what the layers hold of it; no resource managers and enlistments are built yet
+-- the Ids of the durable resource managers
+abbrev pub durable_ids : List Manager → List Id
+durable_ids managers = map (λ m. m.id) (filter (λ m. m.is_durable) managers)
+
+-- what was recorded, by what the layers hold: files, keys and resource managers are as they stand now, and so is what transactions that the
+-- log has change and set
+abbrev pub recorded_of : Held → Durable
+recorded_of h = record {
+  units = h.journal.units;
+  image = h.journal.image;
+  events = h.journal.events;
+  boots = h.boot;
+  next_node = h.next_node;
+  tree = h.files.tree;
+  keys = h.keys.store;
+  managers = durable_ids h.managers;
+  transactions = map (expanded h.transactions.enlistments h.files.table.own h.keys.own) h.traces;
+}
+
+-- what is so now, by what the layers hold of it
 abbrev pub now_of : Held → Present
 now_of h = record {
   machine = record { is_up = h.is_up; left = h.journal.log.area.len - h.journal.log.end };
-  recorded = built_state h.journal.units h.journal.image h.journal.events h.boot h.next_node h.files.tree h.keys.store;
+  recorded = recorded_of h;
   transactions = h.transactions;
-  managers = [];
+  managers = h.managers;
   files = h.files;
   keys = h.keys;
   handles = h.handles;
@@ -80,6 +122,36 @@ now_of h = record {
 -- what is so now, by what memory holds
 abbrev pub present_of : MemoryState → Present
 present_of m = now_of (held m)
+
+-- memory shows what is so, but for how much of the log is left and how many events it has; what was recorded of files, keys, resource
+-- managers and the work of transactions is not looked at, since it is as it stands now
+pub record Shows (m : MemoryState) (x : Present) : Type 0 where
+  pub is_up : m.is_up ≡ x.machine.is_up
+  pub boot : m.tm.boot ≡ x.recorded.boots
+  pub transactions : m.tm.now ≡ x.transactions
+  pub managers : m.tm.managers ≡ x.managers
+  pub traces : m.trace.transactions ≡ traces_of x.recorded
+  pub files : files_of m.files ≡ x.files
+  pub next_node : m.next_node ≡ x.recorded.next_node
+  pub keys : m.keys.keys ≡ x.keys
+  pub handles : m.handles.handles ≡ x.handles
+
+-- memory has the room for what an outcome tells, on whatever it shows
+abbrev pub TellsWithin : MemoryState → (Present → Outcome) → Type 0
+TellsWithin m outcome = (x : Present) → Shows m x → length (outcome x).sent ≤ m.tm.slots
+
+-- memory shows what the outcome makes of whatever it showed for which this is so, with no less room for notifications but for those that are sent
+pub record SettlesWhere (old : MemoryState) (may : Present → Type 0) (outcome : Present → Outcome) (new : MemoryState) : Type 0 where
+  pub shows : (x : Present) → Shows old x → may x → Shows new (apply x (outcome x))
+  pub slots : (x : Present) → Shows old x → old.tm.slots ≤ new.tm.slots + length (outcome x).sent
+
+-- the same, whatever it showed
+abbrev pub Settles : MemoryState → (Present → Outcome) → MemoryState → Type 0
+Settles old outcome new = SettlesWhere old (λ x. Unit {0}) outcome new
+
+-- the same, where what was recorded is good
+abbrev pub SettlesGood : MemoryState → (Present → Outcome) → MemoryState → Type 0
+SettlesGood old outcome new = SettlesWhere old (λ x. IsGoodState x.recorded) outcome new
 
 -- the journal with a group more, where there are events
 abbrev pub appended : JournalState → List Event → JournalState
@@ -105,10 +177,37 @@ pub record CanCommit (m : MemoryState) (id : Id) : Type 0 where
   pub counted : CanBeCounted (files_committed (files_of m.files) id)
   pub few : AreVersionsFew (files_of m.files).versions
 
--- the transaction is there, the log has what memory comes to by the steps, whatever it had before, and what they commit can be committed
-pub record CanGoOn (m : MemoryState) (t : Transaction) (steps : List Step) : Type 0 where
+-- all but the files and the keys is as it was
+pub record KeepsRest (old new : MemoryState) : Type 0 where
+  pub is_up : new.is_up ≡ old.is_up
+  pub journal : new.journal ≡ old.journal
+  pub handles : new.handles ≡ old.handles
+  pub tm : new.tm ≡ old.tm
+  pub trace : new.trace ≡ old.trace
+  pub next_node : new.next_node ≡ old.next_node
+
+-- is it known how the transaction ends, if there is one with this Id
+abbrev pub is_known : Transactions → Id → Bool
+is_known now id = elim (transaction_at now.items id) [ None ↦ true | Some t ↦ not (is_undecided t) ]
+
+-- what a transaction changed and set is committed, or it is known how it ends and this is forgotten, or it is kept
+pub record IsReleased (id : Id) (commits is_known : Bool) (old new : MemoryState) : Type 0 where
+  pub files : files_of new.files ≡ (if commits then files_committed (files_of old.files) id else (if is_known then forgotten (files_of old.files) id else files_of old.files))
+  pub store : new.keys.keys.store ≡ (if commits then stored_all old.keys.keys.store (own_settings old.keys.keys.own id) else old.keys.keys.store)
+  pub own : new.keys.keys.own ≡ (if commits || is_known then without_own old.keys.keys.own id else old.keys.keys.own)
+  pub rest : KeepsRest old new
+
+-- where a transaction has come to by steps, where this enlistment calls, if one does
+abbrev pub course_then : Present → Transaction → Option Id → List Step → Going
+course_then x t caller steps = run steps (course_of x t (caller_of x.transactions.enlistments caller))
+
+-- the transaction is there, its steps lead it on, there is room for what they add to what the log has of it, and what they commit can be
+-- committed
+pub record CanGoOn (m : MemoryState) (t : Transaction) (caller : Option Id) (steps : List Step) : Type 0 where
   pub there : transaction_at m.tm.now.items t.id ≡ Some t
-  pub leads : (j : JournalState) → LeadsOn (now_of (record (held m) { journal = j })) t steps
+  pub leads : (x : Present) → Shows m x → LeadsOn x t (caller_of x.transactions.enlistments caller) steps
+  pub places : steps_room steps ≤ m.trace.places
+  pub spare : steps_room steps ≤ m.trace.spare
   pub commits : list_any is_commit steps ≡ true → CanCommit m t.id
 
 -- a label that is to be bound to a file that is opened is free, and there is room for it
@@ -124,15 +223,23 @@ MayHandle m process (Duplicate label from source) =
 MayHandle m process (Unbind label) = Unit {0}
 MayHandle m process UnbindAll = Unit {0}
 
--- memory has the room that the settlement takes, and it can be made
+-- memory has the room that the settlement takes, but for what it tells, and it can be made
 abbrev pub MaySettle : MemoryState → Settlement → Type 0
 MaySettle m Nothing = Unit {0}
 MaySettle m (Begin process label timeout) =
     (1 ≤ m.tm.room) × (1 ≤ m.handles.spare) × (no_transaction_left m.tm.now ≡ false) × (object_at m.handles.handles process label ≡ None)
 MaySettle m (Change process label plan ready) = CanMakePlain (files_of m.files) plan × IsReady m.files plan ready × MayBind m process label plan.opened
-MaySettle m (Course t steps) = CanGoOn m t steps.items
+MaySettle m (Course t caller steps) = CanGoOn m t caller steps.items
 MaySettle m (Handles process labels) = MayHandle m process labels
 MaySettle m (Pass ms) = (each_pair (λ (t u : Transaction). is_before t.id u.id) m.tm.now.items ≡ true) × (count_by is_live m.tm.now.items ≤ MOST_LIVE)
+MaySettle m (MakeManager process label durability) =
+    (1 ≤ m.tm.manager_room) × (1 ≤ m.handles.spare) × (no_manager_left m.tm.managers m.tm.now ≡ false) × (object_at m.handles.handles process label ≡ None)
+MaySettle m (Recover manager) = is_some (manager_at m.tm.managers manager) ≡ true
+MaySettle m (Take manager) = is_some (manager_at m.tm.managers manager) ≡ true
+MaySettle m (Enlist process label manager transaction kind) =
+    (1 ≤ m.tm.enlistment_room) × (1 ≤ m.handles.spare) × (no_enlistment_left m.tm.now ≡ false) × (object_at m.handles.handles process label ≡ None)
+    × (is_some (manager_at m.tm.managers manager) ≡ true) × (is_some (transaction_at m.tm.now.items transaction) ≡ true)
+MaySettle m (Inform enlistment information) = Unit {0}
 
 -- the list has room for each group that the log has room for, in an image of a size that there is
 pub record IsRoomy (j : JournalState) (events : EventsState) : Type 0 where

@@ -1,10 +1,9 @@
 -- What is left to do, in the model's own words, and what each part of it makes of what is so now.
-use Rattle.std.specs.Prelude.{◌≡◌, Bool, List, [], ◌∷◌, Option, Some, None}
+use Rattle.std.specs.Prelude.{Bool, List, [], ◌∷◌, Option, Some, None}
 use Rattle.ktm_base.specs.declared.refusal.Refusal.{Refusal}
 use Rattle.ktm_base.specs.declared.id.Label.{Label}
 use Rattle.ktm_base.specs.declared.id.Pid.{Pid}
 use Rattle.ktm_built.specs.Effects.{handles_with, with_files_made}
-use Rattle.ktm_journal.specs.Image.{JournalState}
 use Rattle.ktm_types.specs.declared.object.Handle.{Handle}
 use Rattle.ktm_types.specs.declared.reply.Reply.TheVariants.{Done}
 use Rattle.ktm_world.specs.FileOutcome.{FileOutcome}
@@ -12,14 +11,15 @@ use Rattle.ktm_world.specs.Files.{OpenFile}
 use Rattle.ktm_world.specs.HandleCalls.{close_handle, duplicate_handle, exit}
 use Rattle.ktm_world.specs.Outcome.{Outcome, only_reply}
 use Rattle.ktm_world.specs.Present.{Present}
-use Rattle.ktm_world.specs.Steps.{run}
-use Rattle.ktm_world.specs.TransactionCalls.{arrived, course_of, create_transaction, handle_test, opened_object, tick}
-use Rattle.ktm_memory.specs.Memory.{MemoryState, appended, held, now_of}
+use Rattle.ktm_world.specs.Enlistments.{enlistment_at, manager_at}
+use Rattle.ktm_world.specs.TransactionCalls.{arrived, create_enlistment, create_resource_manager, create_transaction, get_notification, handle_test, opened_object, recover_resource_manager, set_information, tick}
+use Rattle.ktm_world.specs.Transactions.{transaction_at}
+use Rattle.ktm_memory.specs.Memory.{course_then}
 use Rattle.ktm_memory.specs.Opening.{files_outcome}
 use Rattle.ktm_memory.specs.declared.settlement.Labels.{Labels}
 use Rattle.ktm_memory.specs.declared.settlement.Labels.TheVariants.{Bind, Duplicate, Unbind, UnbindAll}
 use Rattle.ktm_memory.specs.declared.settlement.Settlement.{Settlement}
-use Rattle.ktm_memory.specs.declared.settlement.Settlement.TheVariants.{Nothing, Begin, Change, Course, Handles, Pass}
+use Rattle.ktm_memory.specs.declared.settlement.Settlement.TheVariants.{Nothing, Begin, Change, Course, Handles, Pass, MakeManager, Recover, Take, Enlist, Inform}
 
 -- the tests of what becomes of labels, once they are known: one that is bound wants a handle more
 abbrev pub labels_tests : Present → Labels → List (Bool × Refusal)
@@ -40,17 +40,14 @@ abbrev pub left_to_do : Present → Settlement → Outcome
 left_to_do x Nothing = only_reply x Done
 left_to_do x (Begin process label timeout) = create_transaction x process label timeout
 left_to_do x (Change process label plan ready) = files_outcome x process None label plan
-left_to_do x (Course t steps) = arrived x (run steps.items (course_of x t None)) Done
+left_to_do x (Course t caller steps) = arrived x (course_then x t caller steps.items) Done
 left_to_do x (Handles process labels) = labels_outcome x process labels
 left_to_do x (Pass ms) = tick x ms
-
--- what was so when the journal was this one
-abbrev pub before : MemoryState → JournalState → Present
-before m j = now_of (record (held m) { journal = j })
-
--- its events, and nothing else, were recorded since
-abbrev pub IsLeftOf : MemoryState → JournalState → Settlement → Type 0
-IsLeftOf m j settlement = m.journal ≡ appended j (left_to_do (before m j) settlement).events
+left_to_do x (MakeManager process label durability) = create_resource_manager x process label durability
+left_to_do x (Recover manager) = recover_resource_manager x (manager_at x.managers manager)
+left_to_do x (Take manager) = get_notification x (manager_at x.managers manager)
+left_to_do x (Enlist process label manager transaction kind) = create_enlistment x process label (manager_at x.managers manager) (transaction_at x.transactions.items transaction) kind
+left_to_do x (Inform enlistment information) = set_information x (enlistment_at x.transactions.enlistments enlistment) information
 
 -- ---- the same within the machine, which no public clause cites
 

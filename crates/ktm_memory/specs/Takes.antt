@@ -1,7 +1,8 @@
 -- Which calls may take memory, once their labels are known: where it is wanting, they alone may give up.
-use Rattle.std.specs.Prelude.{◌&&◌, ◌||◌, not, Bool, false, [], ◌∷◌, Option, Some, None, is_none}
+use Rattle.std.specs.Prelude.{◌&&◌, ◌||◌, not, Bool, true, false, [], ◌∷◌, Option, Some, None, is_none}
 use Rattle.ktm_base.specs.declared.id.Id.{Id}
 use Rattle.ktm_built.specs.Effects.{changes_of, settings_of}
+use Rattle.ktm_types.specs.declared.input.PhaseInput.{PhaseInput}
 use Rattle.ktm_types.specs.declared.object.Transaction.{Transaction}
 use Rattle.ktm_world.specs.Changes.{has_changes}
 use Rattle.ktm_world.specs.Decide.{events_of}
@@ -9,13 +10,13 @@ use Rattle.ktm_world.specs.FileOutcome.{FileOutcome}
 use Rattle.ktm_world.specs.Outcome.{first_refusal, is_full}
 use Rattle.ktm_world.specs.Phases.{has_settings}
 use Rattle.ktm_world.specs.Present.{Present}
-use Rattle.ktm_world.specs.TransactionCalls.{handle_test, no_transaction_left, quota_test}
+use Rattle.ktm_world.specs.TransactionCalls.{handle_test, no_enlistment_left, no_manager_left, no_transaction_left, quota_test}
 use Rattle.ktm_world.specs.Uses.{file_room, key_room}
 use Rattle.kv_rm.specs.Calls.{is_refused, key_outcome}
 use Rattle.txf_calls.specs.Calls.{file_outcome, takes_memory as decision_takes_memory}
 use Rattle.txf_calls.specs.declared.call.FileCall.{FileCall}
 use Rattle.ktm_memory.specs.declared.routed.Routed.{Routed}
-use Rattle.ktm_memory.specs.declared.routed.Routed.TheVariants.{Create, Commit, Rollback, Information, Handles, Keys, Files}
+use Rattle.ktm_memory.specs.declared.routed.Routed.TheVariants.{Create, Course, Information, MakeManager, Recover, Take, Enlist, Inform, Tell, Handles, Keys, Files}
 use Rattle.ktm_memory.specs.declared.settlement.Labels.{Labels}
 use Rattle.ktm_memory.specs.declared.settlement.Labels.TheVariants.{Bind, Duplicate, Unbind, UnbindAll}
 
@@ -46,9 +47,16 @@ labels_take_memory x UnbindAll = false
 -- may a call take memory whose labels are known
 abbrev pub routed_takes_memory : Present → Routed → Bool
 routed_takes_memory x (Create label timeout) = is_none (first_refusal (quota_test x (no_transaction_left x.transactions) ∷ []))
-routed_takes_memory x (Commit t) = has_work x (Some t)
-routed_takes_memory x (Rollback t) = false
+routed_takes_memory x (Course t caller PhaseInput.CommitTransaction) = has_work x (Some t)
+routed_takes_memory x (Course t caller PhaseInput.Rollback) = false
+routed_takes_memory x (Course t caller input) = true
 routed_takes_memory x (Information t) = false
+routed_takes_memory x (MakeManager label durability) = is_none (first_refusal (quota_test x (no_manager_left x.managers x.transactions) ∷ []))
+routed_takes_memory x (Recover manager) = true
+routed_takes_memory x (Take manager) = false
+routed_takes_memory x (Enlist label manager transaction kind) = is_none (first_refusal (quota_test x (no_enlistment_left x.transactions) ∷ []))
+routed_takes_memory x (Inform enlistment information) = false
+routed_takes_memory x (Tell enlistment) = true
 routed_takes_memory x (Handles labels) = labels_take_memory x labels
 routed_takes_memory x (Keys who call) = not (is_refused (key_outcome x.keys (key_room x) who call).reply)
 routed_takes_memory x (Files who label call) = files_take_memory x who call

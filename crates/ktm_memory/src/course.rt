@@ -1,103 +1,140 @@
 // A transaction that goes on by steps.
-ghost use Rattle.std.specs.Prelude.{◌≡◌, [], false, true, None, Some};
+ghost use Rattle.std.specs.Prelude.{◌≡◌, true, false, None, Some, Option};
 ghost use Rattle.std.specs.List.{list_any};
-ghost use Rattle.ktm_built.specs.Courses.{IsKnown, with_committed, with_forgotten, with_moved};
-ghost use Rattle.ktm_built.specs.Effects.{rolled_back};
-ghost use Rattle.ktm_built.specs.Standing.{IsBuiltNow};
+ghost use Rattle.ktm_built.specs.Courses.{LogsNext};
 ghost use Rattle.ktm_course.specs.Moved.{is_commit};
-ghost use Rattle.ktm_memory.specs.Memory.{CanCommit, present_of};
-ghost use Rattle.ktm_world.specs.Enlistments.{is_ended};
-ghost use Rattle.ktm_world.specs.Steps.{run, seen};
-ghost use Rattle.ktm_world.specs.TransactionCalls.{course_of};
+ghost use Rattle.ktm_memory.specs.Memory.{CanCommit, CanGoOn, IsReleased, Settles, SettlesWhere, Shows, TellsWithin, course_then, is_known};
+ghost use Rattle.ktm_tm.specs.Courses.{caller_of};
+ghost use Rattle.ktm_trace.specs.Recordings.{durable_caller, recording_of};
+ghost use Rattle.ktm_types.specs.declared.reply.Reply.TheVariants.{Done};
+ghost use Rattle.ktm_world.specs.Enlistments.{Enlistment as Caller, id_of, superior_of};
+ghost use Rattle.ktm_world.specs.Present.{Present};
+ghost use Rattle.ktm_world.specs.Steps.{basis, seen};
+ghost use Rattle.ktm_world.specs.TransactionCalls.{aborted_by, arrived, course_of};
 ghost use Rattle.ktm_world.specs.Transactions.{transaction_at};
 
 use crate::memory::Memory;
 use ktm_base::Id;
-use ktm_course::{after, commits, is_undecided};
+use ktm_course::{commits, is_undecided, records_files};
 use ktm_phase::step;
+use ktm_trace::Recording;
 use ktm_types::{PhaseInput, Seen, Step, Transaction};
 
 impl Memory {
     /// What counts of a transaction when something comes to it.
     pub(crate) fn seen(&self, t: &Transaction) -> Seen
-        requires { self.now.tm.now.enlistments ≡ [] }
-        ensures { result ≡ seen (course_of (present_of self.now) t.now None) }
-    {
-        Seen {
-            phase: t.phase,
-            has_superior: false,
-            enlistments: 0,
-            asking: 0,
-            in_one_phase: 0,
-            owing: 0,
-            has_files: self.files.has_changes(t.id),
-            has_keys: self.keys.has_settings(t.id),
-        }
-    }
-
-    /// The transaction once its steps are carried out.
-    pub(crate) fn moved(&self, t: Transaction, steps: &[Step]) -> Transaction
-        requires { self.now.tm.now.enlistments ≡ [] }
-        ensures { result ≡ (run steps.now (course_of (present_of self.now) t None)).transaction }
+        ensures { (x : Present) (caller : Option Caller) → Shows self.now x → result ≡ seen (course_of x t.now caller) }
     {
         let has_files = self.files.has_changes(t.id);
         let has_keys = self.keys.has_settings(t.id);
-        after(t, has_files, has_keys, steps)
+        self.tm.seen(t, has_files, has_keys)
+    }
+
+    // The enlistment that calls, if one does, where its resource manager is durable.
+    fn durable_caller(&self, caller: Option<Id>) -> Option<Id>
+        ensures { result ≡ durable_caller self.now.tm.managers (caller_of self.now.tm.now.enlistments caller) }
+    {
+        let e = self.tm.enlistment(caller?)?;
+        if self.tm.is_durable(e.manager) {
+            Some(e.id)
+        } else {
+            None
+        }
+    }
+
+    // The enlistment of the superior of the transaction, if it has one.
+    fn superior_id(&self, transaction: Id) -> Option<Id>
+        ensures { result ≡ id_of (superior_of self.now.tm.now.enlistments transaction) }
+    {
+        match self.tm.superior(transaction) {
+            Some(e) => Some(e.id),
+            None => None,
+        }
+    }
+
+    // What is read of a transaction when its steps are recorded, where this enlistment calls, if one does.
+    fn recording(&self, t: &Transaction, caller: Option<Id>) -> Recording
+        ensures { (x : Present) → Shows self.now x → recording_of (basis (course_of x t.now (caller_of x.transactions.enlistments caller))) ≡ result }
+    {
+        Recording {
+            transaction: t.id,
+            is_recorded: t.is_recorded,
+            has_files: self.files.has_changes(t.id),
+            has_keys: self.keys.has_settings(t.id),
+            caller: self.durable_caller(caller),
+            superior: self.superior_id(t.id),
+        }
     }
 
     // What the transaction changed and set is committed.
     fn commit_work(&mut self, id: Id)
         requires { CanCommit self.old id }
-        ensures now { present_of self.new ≡ with_committed (present_of self.old) id }
-        ensures journal { self.new.journal ≡ self.old.journal }
-        ensures tm { self.new.tm ≡ self.old.tm }
+        ensures { IsReleased id true true self.old self.new }
     {
-        self.next_node = self.files.next_after(id, self.next_node);
         self.files.commit(id);
         self.keys.commit(id);
     }
 
     // What the transaction changed, opened and set is forgotten.
     fn forget_work(&mut self, id: Id)
-        ensures now { present_of self.new ≡ with_forgotten (present_of self.old) id }
-        ensures journal { self.new.journal ≡ self.old.journal }
-        ensures tm { self.new.tm ≡ self.old.tm }
-        ensures handles { self.new.handles ≡ self.old.handles }
+        ensures { IsReleased id false true self.old self.new }
     {
         self.files.forget(id);
         self.keys.forget(id);
     }
 
-    /// The transaction goes on by its steps: where they commit, what it changed and set is committed, and where its outcome is
-    /// known then, it holds nothing.
-    pub(crate) fn carry_out(&mut self, t: Transaction, steps: &[Step])
-        requires none { self.old.tm.now.enlistments ≡ [] }
-        requires known { IsKnown (list_any is_commit steps.now) (run steps.now (course_of (present_of self.old) t None)).transaction }
-        requires may { list_any is_commit steps.now ≡ true → CanCommit self.old t.id }
-        ensures now { present_of self.new ≡ with_moved (present_of self.old) t (run steps.now (course_of (present_of self.old) t None)).transaction (list_any is_commit steps.now) }
-        ensures journal { self.new.journal ≡ self.old.journal }
-        ensures none { self.new.tm.now.enlistments ≡ [] }
-        ensures handles { list_any is_commit steps.now ≡ false → self.new.handles ≡ self.old.handles }
+    // Is it known how the transaction ends, as it stands now.
+    fn is_known(&self, id: Id) -> bool
+        ensures { result ≡ is_known self.now.tm.now id }
     {
-        let then = self.moved(t, steps);
-        if commits(steps) {
-            self.commit_work(t.id);
-        } else if !is_undecided(&then) {
-            self.forget_work(t.id);
+        match self.tm.find(id) {
+            Some(t) => !is_undecided(&t),
+            None => true,
         }
-        self.tm.arrive(then);
     }
 
-    /// The transaction rolls back.
+    // Once its steps are carried out, what a transaction changed and set is committed, where they commit, and it holds nothing,
+    // where its outcome is known.
+    fn release(&mut self, id: Id, commits: bool)
+        requires { commits ≡ true → CanCommit self.old id }
+        ensures { IsReleased id commits (is_known self.old.tm.now id) self.old self.new }
+    {
+        if commits {
+            self.commit_work(id);
+        } else if self.is_known(id) {
+            self.forget_work(id);
+        }
+    }
+
+    /// The transaction goes on by its steps, where this enlistment calls, if one does: the log has what they record, those are
+    /// told who are to be, and where they commit, what it changed and set is committed; where its outcome is known then, it
+    /// holds nothing.
+    pub(crate) fn carry_out(&mut self, t: Transaction, caller: Option<Id>, steps: &[Step])
+        requires may { CanGoOn self.old t caller steps.now }
+        requires told { TellsWithin self.old (λ x. arrived x (course_then x t caller steps.now) Done) }
+        ensures settles { SettlesWhere self.old (λ x. LogsNext x t (caller_of x.transactions.enlistments caller) steps.now) (λ x. arrived x (course_then x t caller steps.now) Done) self.new }
+        ensures journal { self.new.journal ≡ self.old.journal }
+        ensures handles { self.new.handles ≡ self.old.handles }
+    {
+        let recording = self.recording(&t, caller);
+        if records_files(steps) {
+            self.next_node = self.files.next_after(t.id, self.next_node);
+        }
+        self.trace.record(recording, steps);
+        self.tm
+            .carry_out(t, caller, recording.has_files, recording.has_keys, steps);
+        self.release(t.id, commits(steps));
+    }
+
+    /// The transaction rolls back, and no enlistment asks for it.
     pub(crate) fn roll_back(&mut self, t: Transaction)
-        requires built { IsBuiltNow (present_of self.old) }
         requires there { transaction_at self.old.tm.now.items t.id ≡ Some t }
-        requires live { is_ended t.phase ≡ false }
-        ensures now { present_of self.new ≡ rolled_back (present_of self.old) t }
+        requires told { TellsWithin self.old (λ x. aborted_by x t None Done) }
+        ensures settles { Settles self.old (λ x. aborted_by x t None Done) self.new }
         ensures journal { self.new.journal ≡ self.old.journal }
         ensures handles { self.new.handles ≡ self.old.handles }
     {
         let steps = step(&self.seen(&t), PhaseInput::Rollback);
-        self.carry_out(t, steps.as_slice());
+        self.carry_out(t, None, steps.as_slice());
     }
 }

@@ -1,11 +1,12 @@
 // Deciding what a call comes to whose labels are known, and the passing of time.
-ghost use Rattle.std.specs.Prelude.{◌≡◌, ◌≤◌, ◌∷◌, true, false, None, Some, [], IfOk, IsOk, OnErr, is_none};
-ghost use Rattle.ktm_built.specs.Standing.{IsBuiltNow, IsStandingNow};
+ghost use Rattle.std.specs.Prelude.{◌≡◌, ◌+◌, ◌≤◌, ◌∷◌, true, false, None, Some, [], IfOk, IsOk, OnErr, OnOk, is_none, is_some};
+ghost use Rattle.ktm_built.specs.Standing.{IsStandingNow};
 ghost use Rattle.ktm_event.specs.Kept.{EventsState, Holds};
 ghost use Rattle.ktm_memory.specs.Decided.{Decides, DecidesIf, IsDone};
 ghost use Rattle.ktm_memory.specs.Settled.{labels_outcome};
 ghost use Rattle.ktm_memory.specs.Memory.{IsRoomy, MayHandle, MemoryState, held, present_of};
-ghost use Rattle.ktm_memory.specs.Routed.{outcome_of, AreReady, IsReadyFor};
+ghost use Rattle.ktm_memory.specs.Routed.{outcome_of, AreReady, IsActiveCaller, IsReadyFor};
+ghost use Rattle.ktm_slots.specs.Slots.{granted_in};
 ghost use Rattle.ktm_memory.specs.Takes.{labels_take_memory, routed_takes_memory};
 ghost use Rattle.ktm_memory.specs.declared.routed.Routed.TheVariants.{Create, Handles as OfLabels};
 ghost use Rattle.ktm_world.specs.Decide.{of_keys};
@@ -47,9 +48,9 @@ impl Memory {
         timeout: u32,
     ) -> Result<Decision, NoMemory>
         requires up { self.old.is_up ≡ true }
-        requires standing { IsStandingNow (present_of self.old) }
         requires free { object_at self.old.handles.handles process label ≡ None }
         ensures ok { IfOk result (λ d. (events : _) → Holds events [] → Decides (held self.old) (outcome_of (present_of self.old) process (Create label timeout)) d.reply d.settlement events self.new) }
+        ensures slots { self.old.tm.slots ≤ self.new.tm.slots }
         ensures no_memory { OnErr result (held self.new ≡ held self.old) }
         ensures spare { 1 ≤ self.old.tm.room → 1 ≤ self.old.handles.spare → IsOk result }
         ensures enough { routed_takes_memory (present_of self.old) (Create label timeout) ≡ false → IsOk result }
@@ -72,11 +73,11 @@ impl Memory {
 
     // A label is to be bound, if there is room for a handle more.
     fn decide_handle(&mut self, process: Pid, labels: Labels) -> Result<Decision, NoMemory>
-        requires built { IsBuiltNow (present_of self.old) }
         requires done { IsDone (labels_outcome (present_of self.old) process labels) }
         requires may { (m : MemoryState) → held m ≡ held self.old → 1 ≤ m.handles.spare → MayHandle m process labels }
         ensures ok { IfOk result (λ d. (events : EventsState) → Holds events []
             → Decides (held self.old) (refuse_or (present_of self.old) (first_refusal (handle_test (present_of self.old) ∷ [])) (labels_outcome (present_of self.old) process labels)) d.reply d.settlement events self.new) }
+        ensures slots { self.old.tm.slots ≤ self.new.tm.slots }
         ensures no_memory { OnErr result (held self.new ≡ held self.old) }
         ensures enough { is_none (first_refusal (handle_test (present_of self.old) ∷ [])) ≡ false → IsOk result }
         ensures spare { 1 ≤ self.old.handles.spare → IsOk result }
@@ -90,9 +91,10 @@ impl Memory {
 
     // Labels are to be bound or unbound.
     fn decide_labels(&mut self, process: Pid, labels: Labels) -> Result<Decision, NoMemory>
-        requires built { IsBuiltNow (present_of self.old) }
+        requires standing { IsStandingNow (present_of self.old) }
         requires ready { AreReady (present_of self.old) process labels }
         ensures ok { IfOk result (λ d. (events : EventsState) → Holds events [] → Decides (held self.old) (outcome_of (present_of self.old) process (OfLabels labels)) d.reply d.settlement events self.new) }
+        ensures slots { self.old.tm.slots ≤ self.new.tm.slots }
         ensures no_memory { OnErr result (held self.new ≡ held self.old) }
         ensures enough { labels_take_memory (present_of self.old) labels ≡ false → IsOk result }
     {
@@ -106,8 +108,10 @@ impl Memory {
 
     // A call on keys is decided.
     fn decide_keys(&mut self, who: Option<Id>, call: KvCall) -> Result<Decision, NoMemory>
-        requires built { IsBuiltNow (present_of self.old) }
+        requires standing { IsStandingNow (present_of self.old) }
+        requires active { IsActiveCaller (present_of self.old) who }
         ensures ok { IfOk result (λ d. (events : EventsState) → Holds events [] → Decides (held self.old) (of_keys (present_of self.old) (key_outcome self.old.keys.keys (key_room (present_of self.old)) who call)) d.reply d.settlement events self.new) }
+        ensures slots { self.old.tm.slots ≤ self.new.tm.slots }
         ensures no_memory { OnErr result (held self.new ≡ held self.old) }
         ensures enough { is_refused (key_outcome self.old.keys.keys (key_room (present_of self.old)) who call).reply ≡ true → IsOk result }
     {
@@ -115,7 +119,8 @@ impl Memory {
         Ok(Decision::only(self.keys.call(who, call, room)?))
     }
 
-    /// A call whose labels are known is decided by its layer.
+    /// A call whose labels are known is decided by its layer. Of what it sends later there is room then for as many notifications
+    /// more as the call grants.
     pub fn decide_routed(
         &mut self,
         alloc: Global,
@@ -129,6 +134,7 @@ impl Memory {
         requires empty { Holds events.old [] }
         requires roomy { IsRoomy self.old.journal events.old }
         ensures ok { IfOk result (λ d. DecidesIf (held self.old) (outcome_of (present_of self.old) process routed) d events.new self.new) }
+        ensures slots { IfOk result (λ d. is_some d ≡ true → self.old.tm.slots + granted_in (present_of self.old) (outcome_of (present_of self.old) process routed) ≤ self.new.tm.slots) }
         ensures room { events.new.room ≡ events.old.room }
         ensures no_memory { OnErr result (held self.new ≡ held self.old) }
         ensures enough { routed_takes_memory (present_of self.old) routed ≡ false → IsOk result }
@@ -137,9 +143,31 @@ impl Memory {
             Routed::Create { label, timeout } => Ok(Some(self.decide_create(
                 process, label, timeout,
             )?)),
-            Routed::Commit(t) => self.decide_commit(t, events),
-            Routed::Rollback(t) => Ok(self.decide_rollback(t, events)),
+            Routed::Course {
+                transaction,
+                caller,
+                input,
+            } => self.decide_course(alloc, transaction, caller, input, events),
             Routed::Information(t) => Ok(Some(Decision::only(self.information(&t)))),
+            Routed::MakeManager { label, durability } => {
+                self.decide_manager(process, label, durability, events)
+            }
+            Routed::Recover(manager) => Ok(Some(self.decide_recovery(manager)?)),
+            Routed::Take(manager) => Ok(Some(self.decide_note(manager))),
+            Routed::Enlist {
+                label,
+                manager,
+                transaction,
+                kind,
+            } => Ok(Some(self.decide_enlistment(process, label, manager, transaction, kind)?)),
+            Routed::Inform {
+                enlistment,
+                information,
+            } => Ok(Some(Decision::done(Settlement::Inform {
+                enlistment,
+                information,
+            }))),
+            Routed::Tell(enlistment) => Ok(Some(self.decide_told(alloc, enlistment)?)),
             Routed::Handles(labels) => Ok(Some(self.decide_labels(process, labels)?)),
             Routed::Keys { who, call } => Ok(Some(self.decide_keys(who, call)?)),
             Routed::Files { who, label, call } => {

@@ -1,11 +1,11 @@
 // Deciding the calls on files, and the room that files and keys have.
 ghost use Rattle.std.specs.Prelude.{◌≡◌, ◌-◌, ◌≤◌, true, false, None, Some, [], IfOk, IsOk, OnErr, OnOk, is_some};
 ghost use Rattle.ktm_built.specs.Files.{MayMake};
-ghost use Rattle.ktm_built.specs.Standing.{IsBuiltNow, IsStandingNow};
+ghost use Rattle.ktm_built.specs.Standing.{IsStandingNow};
 ghost use Rattle.ktm_event.specs.Kept.{EventsState, Holds};
 ghost use Rattle.ktm_memory.specs.Decided.{CanAnswer, Decides, DecidesIf, bind_opened};
 ghost use Rattle.ktm_memory.specs.Memory.{IsRoomy, held, present_of};
-ghost use Rattle.ktm_memory.specs.Routed.{IsFreeLabel, IsReadyCall, outcome_of};
+ghost use Rattle.ktm_memory.specs.Routed.{IsActiveCaller, IsFreeLabel, IsReadyCall, outcome_of};
 ghost use Rattle.ktm_memory.specs.Opening.{files_outcome};
 ghost use Rattle.ktm_memory.specs.declared.routed.Routed.TheVariants.{Files as OfFiles};
 ghost use Rattle.ktm_memory.specs.Takes.{files_take_memory, is_quiet};
@@ -77,6 +77,7 @@ impl Memory {
     fn reserve_for(&mut self, opened: Option<OpenFile>) -> Result<(), NoMemory>
         ensures same { held self.new ≡ held self.old }
         ensures files { self.new.files ≡ self.old.files }
+        ensures slots { self.new.tm.slots ≡ self.old.tm.slots }
         ensures room { OnOk result (is_some opened ≡ true → 1 ≤ self.new.handles.spare) }
         ensures enough { (is_some opened ≡ true → 1 ≤ self.old.handles.spare) → IsOk result }
     {
@@ -94,13 +95,13 @@ impl Memory {
         plan: Plan,
         events: &mut Events,
     ) -> Result<Option<Decision>, NoMemory>
-        requires built { IsBuiltNow (present_of self.old) }
         requires free { IsFreeLabel (present_of self.old) process label }
         requires may { MayMake (present_of self.old) None plan }
         requires answers { CanAnswer None plan }
         requires empty { Holds events.old [] }
         requires roomy { IsRoomy self.old.journal events.old }
         ensures ok { IfOk result (λ d. DecidesIf (held self.old) (files_outcome (present_of self.old) process None label plan) d events.new self.new) }
+        ensures slots { self.old.tm.slots ≤ self.new.tm.slots }
         ensures room { events.new.room ≡ events.old.room }
         ensures no_memory { OnErr result (held self.new ≡ held self.old) }
         ensures full { is_full (present_of self.old).machine.left (events_of None plan.change) ≡ true → IsOk result }
@@ -131,10 +132,12 @@ impl Memory {
         label: Option<Label>,
         plan: Plan,
     ) -> Result<Decision, NoMemory>
-        requires built { IsBuiltNow (present_of self.old) }
+        requires standing { IsStandingNow (present_of self.old) }
+        requires active { IsActiveCaller (present_of self.old) (Some id) }
         requires free { IsFreeLabel (present_of self.old) process label }
         requires may { MayMake (present_of self.old) (Some id) plan }
         ensures ok { IfOk result (λ d. (events : EventsState) → Holds events [] → Decides (held self.old) (files_outcome (present_of self.old) process (Some id) label plan) d.reply d.settlement events self.new) }
+        ensures slots { self.old.tm.slots ≤ self.new.tm.slots }
         ensures no_memory { OnErr result (held self.new ≡ held self.old) }
         ensures enough { HasRoom self.old.files → plan.change ≡ None → (is_some plan.opened ≡ true → 1 ≤ self.old.handles.spare) → IsOk result }
     {
@@ -164,6 +167,7 @@ impl Memory {
         requires empty { Holds events.old [] }
         requires roomy { IsRoomy self.old.journal events.old }
         ensures ok { IfOk result (λ d. DecidesIf (held self.old) (outcome_of (present_of self.old) process (OfFiles who label call)) d events.new self.new) }
+        ensures slots { self.old.tm.slots ≤ self.new.tm.slots }
         ensures room { events.new.room ≡ events.old.room }
         ensures no_memory { OnErr result (held self.new ≡ held self.old) }
         ensures enough { files_take_memory (present_of self.old) who call ≡ false → IsOk result }

@@ -5,7 +5,10 @@
 mod commit;
 mod course;
 mod decide;
+mod decide_course;
+mod enlistments;
 mod files;
+mod managers;
 mod memory;
 mod record;
 mod routed;

@@ -9,6 +9,7 @@ use ktm_journal::Journal;
 use ktm_keyed::KeyedList;
 use ktm_object::Handles;
 use ktm_tm::Tm;
+use ktm_trace::Trace;
 use kv_rm::KvRm;
 use std::alloc::Global;
 use std::marker::Model;
@@ -22,6 +23,8 @@ pub struct Memory {
     pub(crate) journal: Journal,
     pub(crate) handles: Handles,
     pub(crate) tm: Tm,
+    // Of the transactions that the log has, what is to be seen nowhere else.
+    pub(crate) trace: Trace,
     pub(crate) files: Files,
     // The number of the next node by what was recorded, which is not above that of the files: those of transactions count.
     pub(crate) next_node: u64,
@@ -33,15 +36,17 @@ impl Model for Memory {
 
     ghost Value = { MemoryState };
 
-    ghost view = { λ m. record { is_up = m.is_up; journal = m.journal; handles = m.handles; tm = m.tm; files = m.files; next_node = m.next_node; keys = m.keys } };
+    ghost view = { λ m. record { is_up = m.is_up; journal = m.journal; handles = m.handles; tm = m.tm; trace = m.trace; files = m.files; next_node = m.next_node; keys = m.keys } };
 }
 
 impl Memory {
-    /// What a machine that starts holds: its journal, its boot, and the committed files and keys.
+    /// What a machine that starts holds: its journal, what was brought back of transactions and resource managers, what the log
+    /// has of transactions, and the committed files and keys.
     pub fn start(
         alloc: Global,
         journal: Journal,
-        boot: u32,
+        tm: Tm,
+        trace: Trace,
         committed: FilesRead,
         store: KeyedList<Bytes>,
     ) -> Self
@@ -50,8 +55,8 @@ impl Memory {
         requires units { committed.units ≡ tree_units (tree_of committed.tree) }
         ensures up { result.is_up ≡ true }
         ensures journal { result.journal ≡ journal }
-        ensures boot { result.tm.boot ≡ boot }
-        ensures transactions { result.tm.now ≡ record { clock = 0; last_transaction = 0; last_manager = 0; last_enlistment = 0; items = []; enlistments = [] } }
+        ensures tm { result.tm ≡ tm }
+        ensures trace { result.trace ≡ trace }
         ensures files { files_of result.files ≡ files_begun (tree_of committed.tree) committed.next_node }
         ensures next_node { result.next_node ≡ committed.next_node }
         ensures keys { result.keys.keys ≡ record { store = store.items; own = [] } }
@@ -61,7 +66,8 @@ impl Memory {
             is_up: true,
             journal,
             handles: Handles::new(alloc),
-            tm: Tm::new(alloc, boot),
+            tm,
+            trace,
             files: Files::with_tree(alloc, committed.tree, committed.units, committed.next_node),
             next_node: committed.next_node,
             keys: KvRm::with_store(alloc, store),

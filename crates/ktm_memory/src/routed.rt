@@ -1,7 +1,7 @@
 // A call whose labels are known.
 use crate::settlement::Labels;
-use ktm_base::{Id, Label};
-use ktm_types::Transaction;
+use ktm_base::{Bytes, Id, Label};
+use ktm_types::{Durability, EnlistmentKind, PhaseInput, Transaction};
 use kv_rm::KvCall;
 use txf_calls::FileCall;
 
@@ -12,9 +12,34 @@ pub enum Routed {
         label: Label,
         timeout: u32,
     },
-    Commit(Transaction),
-    Rollback(Transaction),
+    /// This comes to the transaction, from the enlistment, if one calls.
+    Course {
+        transaction: Transaction,
+        caller: Option<Id>,
+        input: PhaseInput,
+    },
     Information(Transaction),
+    MakeManager {
+        label: Label,
+        durability: Durability,
+    },
+    /// The resource manager recovers.
+    Recover(Id),
+    /// The resource manager takes its first notification.
+    Take(Id),
+    Enlist {
+        label: Label,
+        manager: Id,
+        transaction: Id,
+        kind: EnlistmentKind,
+    },
+    /// The recovery information of the enlistment is set.
+    Inform {
+        enlistment: Id,
+        information: Bytes,
+    },
+    /// The recovery information of the enlistment is told.
+    Tell(Id),
     Handles(Labels),
     Keys {
         who: Option<Id>,

@@ -1,24 +1,25 @@
 // Doing what is left to do once the events of a command are recorded. It takes no memory.
-ghost use Rattle.std.specs.Prelude.{◌≡◌, ◌<◌, ◌^◌, not, true, Some};
-ghost use Rattle.ktm_built.specs.Standing.{IsBuiltNow};
-ghost use Rattle.ktm_journal.specs.Image.{JournalState};
-ghost use Rattle.ktm_memory.specs.declared.settlement.Settlement.TheVariants.{Begin, Change as PlainChange, Handles as OfHandles, Pass};
-ghost use Rattle.ktm_memory.specs.Memory.{MaySettle, present_of};
-ghost use Rattle.ktm_memory.specs.Settled.{IsLeftOf, before, labels_outcome, left_to_do, with_change_made};
+ghost use Rattle.std.specs.Prelude.{◌≡◌, ◌+◌, ◌<◌, ◌≤◌, ◌^◌, not, true, Some, length};
+ghost use Rattle.std.specs.Option.{option_map};
+ghost use Rattle.ktm_memory.specs.declared.settlement.Settlement.TheVariants.{Begin, Change as PlainChange, Enlist, Handles as OfHandles, Inform, MakeManager, Pass, Recover, Take};
+ghost use Rattle.ktm_memory.specs.Memory.{MayBind, MaySettle, Settles, SettlesGood, TellsWithin};
+ghost use Rattle.ktm_memory.specs.Settled.{handles_then, labels_outcome, left_to_do};
 ghost use Rattle.ktm_types.specs.declared.change.Change.{Change as Made};
 ghost use Rattle.ktm_world.specs.Changes.{is_make, node_of};
 ghost use Rattle.ktm_world.specs.FileOutcome.{next_node_after};
 ghost use Rattle.ktm_world.specs.HandleCalls.{abort_active, close_handle, exit, handle_gone, has_handle};
-ghost use Rattle.ktm_world.specs.Outcome.{apply};
-ghost use Rattle.ktm_world.specs.TransactionCalls.{create_transaction, tick};
+ghost use Rattle.ktm_world.specs.TransactionCalls.{is_durable, tick};
 ghost use Rattle.ktm_world.specs.Transactions.{transaction_at};
+ghost use Rattle.txf_opens.specs.Acts.{open_of};
 
 use crate::memory::Memory;
 use crate::settlement::{Labels, Settlement};
 use ktm_base::{Id, Label, Pid};
 use ktm_object::Closed;
-use ktm_types::{Change, Object, Phase};
-use txf_calls::Plan;
+use ktm_trace::law_of_kept;
+use ktm_types::{Change, Durability, EnlistmentKind, Object, Phase};
+use std::alloc::Global;
+use txf_calls::{OpenFile, Plan};
 use txf_volume::Ready;
 
 // The number of the next node, once a plain call has made its change.
@@ -35,11 +36,21 @@ fn next_after(next: u64, change: &Option<Change>) -> u64
     }
 }
 
+// Does a resource manager of this durability outlive a restart.
+pub(crate) fn is_durable(durability: Durability) -> bool
+    ensures { result ≡ is_durable durability }
+{
+    match durability {
+        Durability::Volatile => false,
+        Durability::Durable => true,
+    }
+}
+
 impl Memory {
     // The transaction rolls back, if it is active.
     fn roll_back_if_active(&mut self, id: Id)
-        requires built { IsBuiltNow (present_of self.old) }
-        ensures now { present_of self.new ≡ apply (present_of self.old) (abort_active (present_of self.old) (transaction_at self.old.tm.now.items id)) }
+        requires told { TellsWithin self.old (λ x. abort_active x (transaction_at x.transactions.items id)) }
+        ensures settles { Settles self.old (λ x. abort_active x (transaction_at x.transactions.items id)) self.new }
         ensures journal { self.new.journal ≡ self.old.journal }
         ensures handles { self.new.handles ≡ self.old.handles }
     {
@@ -55,9 +66,9 @@ impl Memory {
     // What depended on a handle that is closed ends, where it was the last one: an active transaction rolls back, and a
     // file is closed.
     fn let_go(&mut self, closed: Closed)
-        requires built { IsBuiltNow (present_of self.old) }
         requires last { closed.is_last ≡ not (has_handle self.old.handles.handles closed.object) }
-        ensures now { present_of self.new ≡ apply (present_of self.old) (handle_gone (Some closed.object) (present_of self.old)) }
+        requires told { TellsWithin self.old (λ x. handle_gone (Some closed.object) x) }
+        ensures settles { Settles self.old (λ x. handle_gone (Some closed.object) x) self.new }
         ensures journal { self.new.journal ≡ self.old.journal }
         ensures handles { self.new.handles ≡ self.old.handles }
     {
@@ -73,10 +84,11 @@ impl Memory {
 
     // The label is unbound.
     fn close(&mut self, process: Pid, label: Label)
-        requires built { IsBuiltNow (present_of self.old) }
-        ensures now { present_of self.new ≡ apply (present_of self.old) (close_handle (present_of self.old) process label) }
+        requires told { TellsWithin self.old (λ x. close_handle x process label) }
+        ensures settles { Settles self.old (λ x. close_handle x process label) self.new }
         ensures journal { self.new.journal ≡ self.old.journal }
     {
+        law_of_kept();
         if let Some(closed) = self.handles.close(process, label) {
             self.let_go(closed);
         }
@@ -84,10 +96,11 @@ impl Memory {
 
     // All labels of the process are unbound.
     fn exit(&mut self, process: Pid)
-        requires built { IsBuiltNow (present_of self.old) }
-        ensures now { present_of self.new ≡ apply (present_of self.old) (exit (present_of self.old) process) }
+        requires told { TellsWithin self.old (λ x. exit x process) }
+        ensures settles { Settles self.old (λ x. exit x process) self.new }
         ensures journal { self.new.journal ≡ self.old.journal }
     {
+        law_of_kept();
         while let Some(closed) = self.handles.exit_next(process) {
             self.let_go(closed);
         }
@@ -95,11 +108,12 @@ impl Memory {
 
     // So many milliseconds pass. Each live transaction that is due then rolls back, in order of creation.
     fn tick(&mut self, ms: u32)
-        requires built { IsBuiltNow (present_of self.old) }
         requires may { MaySettle self.old (Pass ms) }
-        ensures now { present_of self.new ≡ apply (present_of self.old) (tick (present_of self.old) ms) }
+        requires told { TellsWithin self.old (λ x. tick x ms) }
+        ensures settles { Settles self.old (λ x. tick x ms) self.new }
         ensures journal { self.new.journal ≡ self.old.journal }
     {
+        law_of_kept();
         self.tm.advance(ms as u64);
         let mut place = 0;
         while let Some(t) = self.tm.live_at(place) {
@@ -111,37 +125,73 @@ impl Memory {
         }
     }
 
-    // A plain call has changed the files, and its label is bound to the file that it opened.
-    fn change(&mut self, process: Pid, label: Option<Label>, plan: Plan, ready: Ready)
-        requires { MaySettle self.old (PlainChange process label plan ready) }
-        ensures now { present_of self.new ≡ with_change_made (present_of self.old) process label plan }
-        ensures journal { self.new.journal ≡ self.old.journal }
+    // The label, if there is one, is bound to the file that was opened, if one was.
+    fn bind_opened(&mut self, process: Pid, label: Option<Label>, opened: Option<OpenFile>)
+        requires { MayBind self.old process label (option_map open_of opened) }
+        ensures handles { self.new.handles.handles ≡ handles_then self.old.handles.handles process label (option_map open_of opened) }
+        ensures rest { self.new ≡ record self.old { handles = self.new.handles } }
     {
-        let opened = plan.opened;
-        self.next_node = next_after(self.next_node, &plan.change);
-        self.files.settle(plan, ready);
         if let (Some(label), Some(file)) = (label, opened) {
             self.handles
                 .insert(process, label, Object::File(file.number));
         }
     }
 
+    // A plain call has changed the files, and its label is bound to the file that it opened.
+    fn change(&mut self, process: Pid, label: Option<Label>, plan: Plan, ready: Ready)
+        requires { MaySettle self.old (PlainChange process label plan ready) }
+        ensures settles { Settles self.old (λ x. left_to_do x (PlainChange process label plan ready)) self.new }
+        ensures journal { self.new.journal ≡ self.old.journal }
+    {
+        let opened = plan.opened;
+        self.next_node = next_after(self.next_node, &plan.change);
+        self.files.settle(plan, ready);
+        self.bind_opened(process, label, opened);
+    }
+
     // A transaction with the next number begins, and the label is bound to it.
     fn begin(&mut self, process: Pid, label: Label, timeout: u32)
-        requires built { IsBuiltNow (present_of self.old) }
         requires may { MaySettle self.old (Begin process label timeout) }
-        ensures now { present_of self.new ≡ apply (present_of self.old) (create_transaction (present_of self.old) process label timeout) }
+        ensures settles { Settles self.old (λ x. left_to_do x (Begin process label timeout)) self.new }
         ensures journal { self.new.journal ≡ self.old.journal }
     {
         let id = self.tm.create(timeout);
         self.handles.insert(process, label, Object::Transaction(id));
     }
 
+    // A resource manager with the next number is made, and the label is bound to it.
+    fn make_manager(&mut self, process: Pid, label: Label, durability: Durability)
+        requires may { MaySettle self.old (MakeManager process label durability) }
+        ensures settles { Settles self.old (λ x. left_to_do x (MakeManager process label durability)) self.new }
+        ensures journal { self.new.journal ≡ self.old.journal }
+    {
+        let id = self.tm.create_manager(is_durable(durability));
+        self.handles.insert(process, label, Object::Manager(id));
+    }
+
+    // An enlistment with the next number is made, and the label is bound to it.
+    fn enlist(
+        &mut self,
+        alloc: Global,
+        process: Pid,
+        label: Label,
+        manager: Id,
+        transaction: Id,
+        kind: EnlistmentKind,
+    )
+        requires may { MaySettle self.old (Enlist process label manager transaction kind) }
+        ensures settles { Settles self.old (λ x. left_to_do x (Enlist process label manager transaction kind)) self.new }
+        ensures journal { self.new.journal ≡ self.old.journal }
+    {
+        let id = self.tm.create_enlistment(alloc, manager, transaction, kind);
+        self.handles.insert(process, label, Object::Enlistment(id));
+    }
+
     // Labels of the process are bound or unbound.
     fn handle(&mut self, process: Pid, labels: Labels)
-        requires built { IsBuiltNow (present_of self.old) }
         requires may { MaySettle self.old (OfHandles process labels) }
-        ensures now { present_of self.new ≡ apply (present_of self.old) (labels_outcome (present_of self.old) process labels) }
+        requires told { TellsWithin self.old (λ x. labels_outcome x process labels) }
+        ensures settles { Settles self.old (λ x. labels_outcome x process labels) self.new }
         ensures journal { self.new.journal ≡ self.old.journal }
     {
         match labels {
@@ -157,12 +207,13 @@ impl Memory {
     }
 
     /// Does what was left to do, once its events are in the journal.
-    pub fn settle(&mut self, settlement: Settlement)
-        requires built { IsBuiltNow (present_of self.old) }
+    pub fn settle(&mut self, alloc: Global, settlement: Settlement)
         requires may { MaySettle self.old settlement }
-        ensures now { (j : JournalState) → IsLeftOf self.old j settlement → present_of self.new ≡ apply (before self.old j) (left_to_do (before self.old j) settlement) }
+        requires told { TellsWithin self.old (λ x. left_to_do x settlement) }
+        ensures settles { SettlesGood self.old (λ x. left_to_do x settlement) self.new }
         ensures journal { self.new.journal ≡ self.old.journal }
     {
+        law_of_kept();
         match settlement {
             Settlement::Nothing => {}
             Settlement::Begin {
@@ -176,11 +227,33 @@ impl Memory {
                 plan,
                 ready,
             } => self.change(process, label, plan, ready),
-            Settlement::Course { transaction, steps } => {
-                self.carry_out(transaction, steps.as_slice())
-            }
+            Settlement::Course {
+                transaction,
+                caller,
+                steps,
+            } => self.carry_out(transaction, caller, steps.as_slice()),
             Settlement::Handles { process, labels } => self.handle(process, labels),
             Settlement::Pass(ms) => self.tick(ms),
+            Settlement::MakeManager {
+                process,
+                label,
+                durability,
+            } => self.make_manager(process, label, durability),
+            Settlement::Recover(manager) => self.tm.recover(manager),
+            Settlement::Take(manager) => {
+                let _ = self.tm.take_note(manager);
+            }
+            Settlement::Enlist {
+                process,
+                label,
+                manager,
+                transaction,
+                kind,
+            } => self.enlist(alloc, process, label, manager, transaction, kind),
+            Settlement::Inform {
+                enlistment,
+                information,
+            } => self.tm.inform(enlistment, information),
         }
     }
 }

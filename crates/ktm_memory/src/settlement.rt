@@ -3,9 +3,9 @@ ghost use Rattle.std.specs.Prelude.{◌≡◌};
 ghost use Rattle.ktm_memory.specs.declared.settlement.Settlement.TheVariants.{Nothing};
 ghost use Rattle.ktm_types.specs.declared.reply.Reply.TheVariants.{Done};
 
-use ktm_base::{Label, Pid};
+use ktm_base::{Bytes, Id, Label, Pid};
 use ktm_phase::Steps;
-use ktm_types::{Object, Reply, Transaction};
+use ktm_types::{Durability, EnlistmentKind, Object, Reply, Transaction};
 use txf_calls::Plan;
 use txf_volume::Ready;
 
@@ -46,9 +46,10 @@ pub enum Settlement {
         plan: Plan,
         ready: Ready,
     },
-    /// The transaction goes on by these steps.
+    /// The transaction goes on by these steps, where this enlistment calls, if one does.
     Course {
         transaction: Transaction,
+        caller: Option<Id>,
         steps: Steps,
     },
     /// Labels of the process are bound or unbound.
@@ -58,6 +59,29 @@ pub enum Settlement {
     },
     /// So many milliseconds pass, and the transactions that are due then roll back.
     Pass(u32),
+    /// A resource manager with the next number is made, and the label is bound to it.
+    MakeManager {
+        process: Pid,
+        label: Label,
+        durability: Durability,
+    },
+    /// The resource manager is told of each of its enlistments that is to be recovered, and that these were all.
+    Recover(Id),
+    /// The resource manager takes the first notification that waits for it.
+    Take(Id),
+    /// An enlistment of the resource manager in the transaction is made, and the label is bound to it.
+    Enlist {
+        process: Pid,
+        label: Label,
+        manager: Id,
+        transaction: Id,
+        kind: EnlistmentKind,
+    },
+    /// The enlistment has this recovery information from now on.
+    Inform {
+        enlistment: Id,
+        information: Bytes,
+    },
 }
 
 /// A command that was decided.

@@ -9,9 +9,6 @@ use ktm_links::{Key, List};
 use std::alloc::Global;
 use std::marker::Model;
 
-/// How many notifications may wait for an enlistment.
-const SLOTS: usize = 5;
-
 /// A notification that waits, and the one behind it in its queue.
 #[derive(Clone, Copy)]
 pub(crate) struct Slot {
@@ -32,6 +29,8 @@ pub(crate) struct Ends {
 pub struct Queues {
     slots: List<Slot>,
     ends: Vec<Ends>,
+    // How many notifications are promised room, of what the slots have.
+    promised: usize,
 }
 
 impl Ends {
@@ -57,13 +56,13 @@ impl Ends {
 impl Model for Queues {
     ghost use Rattle.ktm_notify.specs.Queues.{QueuesState};
     ghost use Rattle.ktm_notify.specs.Linked.{queues_in, AreQueues};
-    ghost use Rattle.std.specs.Prelude.{◌-◌, length, vec_len, vec_capacity};
+    ghost use Rattle.std.specs.Prelude.{◌-◌, ◌≤◌, length, vec_len, vec_capacity};
 
     ghost Value = { QueuesState };
 
-    ghost view = { λ q. record { queues = queues_in q.slots.items 0 q.ends.items; waiting = length q.slots.items; spare = q.slots.spare; sent = q.slots.next; room = vec_capacity q.ends - vec_len q.ends } };
+    ghost view = { λ q. record { queues = queues_in q.slots.items 0 q.ends.items; waiting = length q.slots.items; spare = q.promised; sent = q.slots.next; room = vec_capacity q.ends - vec_len q.ends } };
 
-    ghost invariant = { λ q. AreQueues q.slots.items q.ends.items };
+    ghost invariant = { λ q. AreQueues q.slots.items q.ends.items × (q.promised ≤ q.slots.spare) };
 }
 
 // Links the last notification of a queue, if it has one, to the one behind it.
@@ -93,6 +92,7 @@ impl Queues {
         Queues {
             slots: List::new(alloc),
             ends: Vec::new(alloc),
+            promised: 0,
         }
     }
 
@@ -128,29 +128,14 @@ impl Queues {
         });
     }
 
-    /// Makes room for five notifications of each of so many enlistments, those that wait counted: to them nothing is sent for
-    /// which there is no room.
-    pub fn admit(&mut self, enlistments: usize) -> Result<(), NoMemory>
-        ensures room { OnOk result (min (5 * enlistments) (2 ^ 64 - 1) ≤ self.new.waiting + self.new.spare) }
-        ensures enough { min (5 * enlistments) (2 ^ 64 - 1) ≤ self.old.waiting + self.old.spare → IsOk result }
-        ensures queues { self.new.queues ≡ self.old.queues }
-        ensures waiting { self.new.waiting ≡ self.old.waiting }
-        ensures sent { self.new.sent ≡ self.old.sent }
-        ensures spare { self.old.spare ≤ self.new.spare }
-        ensures room_for_queues { self.new.room ≡ self.old.room }
-    {
-        let slots = enlistments.saturating_mul(SLOTS);
-        self.slots.reserve(slots.saturating_sub(self.slots.len()))
-    }
-
     /// How many notifications can be sent without memory.
     pub fn spare(&self) -> usize
         ensures { result ≡ self.now.spare }
     {
-        self.slots.spare()
+        self.promised
     }
 
-    /// Makes room for so many notifications more.
+    /// Makes room for so many notifications more, of which that for those before counts.
     pub fn reserve_notes(&mut self, n: usize) -> Result<(), NoMemory>
         ensures room { OnOk result (n ≤ self.new.spare) }
         ensures enough { n ≤ self.old.spare → IsOk result }
@@ -160,7 +145,11 @@ impl Queues {
         ensures spare { self.old.spare ≤ self.new.spare }
         ensures room_for_queues { self.new.room ≡ self.old.room }
     {
-        self.slots.reserve(n)
+        if n > self.promised {
+            self.slots.reserve(n)?;
+            self.promised = n;
+        }
+        Ok(())
     }
 
     /// Puts a notification at the end of a queue. It takes no memory, and cannot fail.
@@ -184,6 +173,7 @@ impl Queues {
             first: Some(ends.first.unwrap_or(key)),
             last: Some(key),
         };
+        self.promised -= 1;
     }
 
     /// The first notification of a queue, if one waits.
@@ -217,6 +207,7 @@ impl Queues {
             unreachable!();
         };
         self.ends[manager] = ends.without_first(slot.next);
+        self.promised = self.slots.spare().min(self.promised.saturating_add(1));
         Some(slot.note)
     }
 }

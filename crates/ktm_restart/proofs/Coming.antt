@@ -1,25 +1,23 @@
 -- The events of a group that is built may come one after another, and leave nothing that waits.
-use Rattle.std.proofs.Common.{◌≡◌, ◌&&◌, ◌||◌, not, Bool, true, false, List, [], ◌∷◌, Option, Some, None, filter, refl, sym, ◌∙◌, ap, subst, inl, inr}
+use Rattle.std.proofs.Common.{◌≡◌, ℕ, ◌&&◌, ◌||◌, not, Bool, true, false, List, [], ◌∷◌, Option, Some, None, filter, refl, sym, ◌∙◌, ap, subst, inl, inr}
 use Rattle.std.specs.List.{list_any}
 use Rattle.std.proofs.lemmas.Bool.{and_parts, cases_Bool, not-true, true≢false, false≢true}
 use Rattle.ktm_base.specs.declared.id.Id.{Id}
-use Rattle.ktm_types.specs.declared.change.Change.{Change}
 use Rattle.ktm_types.specs.declared.event.DonePart.{DonePart}
 use Rattle.ktm_types.specs.declared.event.Event.{Event}
-use Rattle.ktm_types.specs.declared.event.Event.TheVariants.{Boot, Plain, Ready, Single, Decide, Done}
+use Rattle.ktm_types.specs.declared.event.Event.TheVariants.{Boot, MadeRm, Plain, Ready, Single, Held, Decide, Undo, Done}
 use Rattle.ktm_types.specs.declared.event.Part.{Part}
-use Rattle.ktm_types.specs.declared.event.Part.TheVariants.{Changes, Settings}
+use Rattle.ktm_types.specs.declared.event.Part.TheVariants.{Enlistment, Changes, Settings}
 use Rattle.ktm_types.specs.declared.recorded.RecordedPart.{RecordedPart}
-use Rattle.ktm_forms.specs.Built.{is_built_group}
-use Rattle.ktm_forms.specs.Commits.{both_events}
-use Rattle.ktm_forms.proofs.BuiltStates.{one_id}
-use Rattle.ktm_world.specs.Durable.{Durable, Recorded, after_event, decide_recorded, event_applies, fact_applies, finish_recorded, has_part, is_held, is_ready, parts_done, recorded_at, recorded_or_new, while_not_done, with_recorded, without_recorded}
-use Rattle.ktm_world.specs.Keys.{OwnSettings}
+use Rattle.ktm_forms.specs.Built.{is_built_group, is_decided_next, waits_for_nothing}
+use Rattle.ktm_forms.proofs.BuiltStates.{is_next}
+use Rattle.ktm_states.proofs.offered.Parts.{gathered-push_none}
+use Rattle.ktm_world.specs.Durable.{Durable, Recorded, after_event, changes_in, decide_recorded, event_applies, fact_applies, finish_recorded, has_part, is_held, is_ready, parts_done, recorded_at, recorded_or_new, settings_in, while_not_done, with_recorded, without_recorded}
 use Rattle.ktm_world.specs.Logs.{Group}
 use Rattle.ktm_world.specs.Transactions.{is_of, same_id}
 use Rattle.txf_laws.specs.Elements.{IsIn}
 use Rattle.txf_laws.proofs.offered.Elements.{IsIn-filter, each_pair-filter, list_all-from}
-use Rattle.txf_laws.proofs.offered.Tables.{IsIn-with_recorded, Rises, Rises-with_recorded, is_earlier, recorded_at-found, same_id-from}
+use Rattle.txf_laws.proofs.offered.Tables.{IsIn-with_recorded, KnownOrNew, Rises, Rises-with_recorded, is_earlier, recorded_at-found, recorded_or_new-cases, same_id-equal, same_id-from}
 use Rattle.ktm_restart.specs.Table.{with_one_part}
 use Rattle.ktm_restart.specs.Waiting.{has_work, may_come, none_waits_but}
 use Rattle.ktm_restart.proofs.Keeping.{decided, decided-idle, done-changes, done-settings, none-other-waits, none-waits, work-same}
@@ -46,7 +44,7 @@ none-but : (ts : List Recorded) (who : Option Id) → none_waits_but None ts ≡
 none-but ts who none = from-each who ts (λ t there. idle who t (none-waits ts none t there))
 
 -- those that pass a test do not wait either
-none-filter : (keep : Recorded → Bool) (ts : List Recorded) → none_waits_but None ts ≡ true → none_waits_but None (filter keep ts) ≡ true
+pub none-filter : (keep : Recorded → Bool) (ts : List Recorded) → none_waits_but None ts ≡ true → none_waits_but None (filter keep ts) ≡ true
 none-filter keep ts none = from-each None (filter keep ts) (λ t there. idle None t (none-waits ts none t (IsIn-filter keep ts t there).0))
 
 -- with the one with this Id changed, no other one waits
@@ -76,6 +74,30 @@ none-while ts t id rises same none none-left = elim (cases_Bool (list_any (λ (p
 ready-leaves : (s : Durable) (id : Id) (part : Part) → Rises s.transactions → none_waits_but (Some id) s.transactions ≡ true → none_waits_but (Some id) (after_event s (Ready id part)).transactions ≡ true
 ready-leaves s id part rises none = but-with s.transactions (with_one_part (recorded_or_new s.transactions id) part) id rises (or-new-id s.transactions id) none
 
+-- an enlistment has nothing that waits
+enlistment-leaves : (s : Durable) (id enlistment manager : Id) (information : List ℕ) → Rises s.transactions → none_waits_but None s.transactions ≡ true
+    → none_waits_but None (after_event s (Ready id (Enlistment enlistment manager information))).transactions ≡ true
+enlistment-leaves s id enlistment manager information rises none = from-each None (with_recorded ts more) (λ u there. elim (IsIn-with_recorded ts more u rises there) [
+  | inl e ↦ idle None u (ap has_work e ∙ same ∙ old (recorded_or_new-cases ts id))
+  | inr (here, other) ↦ idle None u (none-waits ts none u here)
+])
+  where
+    ts : List Recorded
+    ts = s.transactions
+
+    part : RecordedPart
+    part = record { is_done = false; part = Enlistment enlistment manager information }
+
+    more : Recorded
+    more = with_one_part (recorded_or_new ts id) (Enlistment enlistment manager information)
+
+    same : has_work more ≡ has_work (recorded_or_new ts id)
+    same = work-same (recorded_or_new ts id) more (gathered-push_none changes_in (recorded_or_new ts id).parts part refl) (gathered-push_none settings_in (recorded_or_new ts id).parts part refl)
+
+    old : KnownOrNew ts id (recorded_or_new ts id) → has_work (recorded_or_new ts id) ≡ false
+    old (inl known) = none-waits ts none (recorded_or_new ts id) known.0
+    old (inr new) = ap has_work new
+
 decide-leaves : (s : Durable) (id : Id) → Rises s.transactions → none_waits_but (Some id) s.transactions ≡ true → event_applies s (Decide id) ≡ true → none_waits_but None (after_event s (Decide id)).transactions ≡ true
 decide-leaves s id rises none applies =
     go (recorded_at s.transactions id) (λ t found. recorded_at-found s.transactions id t found)
@@ -86,7 +108,7 @@ decide-leaves s id rises none applies =
     go None found passed = absurd (true≢false (sym passed))
     go (Some t) found passed = none-while s.transactions (decided t) id rises (found t refl).1 none (decided-idle t)
 
-done-leaves : (s : Durable) (id : Id) (done : DonePart) → Rises s.transactions → none_waits_but None s.transactions ≡ true → none_waits_but None (after_event s (Done id done)).transactions ≡ true
+pub done-leaves : (s : Durable) (id : Id) (done : DonePart) → Rises s.transactions → none_waits_but None s.transactions ≡ true → none_waits_but None (after_event s (Done id done)).transactions ≡ true
 done-leaves s id done rises none = go (recorded_at s.transactions id) (λ t found. recorded_at-found s.transactions id t found)
   where
     go : (o : Option Recorded) → ((t : Recorded) → o ≡ Some t → IsIn t s.transactions × (t.id ≡ id)) → none_waits_but None (finish_recorded s done o).transactions ≡ true
@@ -97,13 +119,16 @@ done-leaves s id done rises none = go (recorded_at s.transactions id) (λ t foun
         (work-same t u (done-changes done t.parts) (done-settings done t.parts) ∙ none-waits s.transactions none t (found t refl).0)
 
 -- transactions stay by rising Id
+filter-rises : (keep : Recorded → Bool) (ts : List Recorded) → Rises ts → Rises (filter keep ts)
+filter-rises keep ts rises = each_pair-filter is_earlier keep ts rises
+
 ready-rises : (s : Durable) (id : Id) (part : Part) → Rises s.transactions → Rises (after_event s (Ready id part)).transactions
 ready-rises s id part rises = Rises-with_recorded s.transactions (with_one_part (recorded_or_new s.transactions id) part) rises
 
 while-rises : (ts : List Recorded) (t : Recorded) → Rises ts → Rises (while_not_done ts t)
 while-rises ts t rises = elim (cases_Bool (list_any (λ (p : RecordedPart). not p.is_done) t.parts)) [
   | inl stays ↦ rw stays (Rises-with_recorded ts t rises)
-  | inr over ↦ rw over (each_pair-filter is_earlier (λ (w : Recorded). not (same_id w.id t.id)) ts rises)
+  | inr over ↦ rw over (filter-rises (λ (w : Recorded). not (same_id w.id t.id)) ts rises)
 ]
 
 decide-rises : (s : Durable) (id : Id) → Rises s.transactions → Rises (after_event s (Decide id)).transactions
@@ -122,35 +147,46 @@ done-rises s id done rises = go (recorded_at s.transactions id)
 
 -- ---- groups
 
-both-come : (s : Durable) (id : Id) (cs : List Change) (ss : OwnSettings) → Rises s.transactions → none_waits_but None s.transactions ≡ true → MayAllCome s (both_events id cs ss)
-both-come s id cs ss rises none =
-    let s1 = after_event s (Ready id (Changes cs)) in
-    let s2 = after_event s1 (Ready id (Settings ss)) in
-    let s3 = after_event s2 (Decide id) in
-    let s4 = after_event s3 (Done id DonePart.Files) in
-    let but = none-but s.transactions (Some id) none in
-    let but1 = ready-leaves s id (Changes cs) rises but in
-    let rises1 = ready-rises s id (Changes cs) rises in
-    let but2 = ready-leaves s1 id (Settings ss) rises1 but1 in
-    let rises2 = ready-rises s1 id (Settings ss) rises1 in
-    let rises3 = decide-rises s2 id rises2 in (
-      but,
-      λ applies1. (
-        but1,
-        λ applies2. (
-          refl,
-          λ applies3.
-              let none3 = decide-leaves s2 id rises2 but2 applies3 in
-              let none4 = done-leaves s3 id DonePart.Files rises3 none3 in
-              (refl, λ applies4. (refl, λ applies5. done-leaves s4 id DonePart.Keys (done-rises s3 id DonePart.Files rises3) none4)),
-        ),
-      ),
+-- events that wait for nothing may come one after another, where the one that waits is decided next
+come : (events : Group) (who : Option Id) (s : Durable) → waits_for_nothing events ≡ true → is_next who events ≡ true → Rises s.transactions → none_waits_but who s.transactions ≡ true → MayAllCome s events
+come [] None s nothing next rises none = none
+come [] (Some id) s nothing next rises none = absurd (false≢true next)
+come (Decide other ∷ events) None s nothing next rises none =
+    (refl, λ applies. come events None (after_event s (Decide other)) nothing refl (decide-rises s other rises) (decide-leaves s other rises (none-but s.transactions (Some other) none) applies))
+come (Decide other ∷ events) (Some id) s nothing next rises none =
+    let this = subst (λ (i : Id). none_waits_but (Some i) s.transactions ≡ true) (sym (same_id-equal other id next)) none in
+    (refl, λ applies. come events None (after_event s (Decide other)) nothing refl (decide-rises s other rises) (decide-leaves s other rises this applies))
+come (Ready other (Settings settings) ∷ events) None s nothing next rises none =
+    let parts = and_parts (is_decided_next other events) (waits_for_nothing events) nothing in
+    let this = none-but s.transactions (Some other) none in
+    (this, λ applies. come events (Some other) (after_event s (Ready other (Settings settings))) parts.1 parts.0 (ready-rises s other (Settings settings) rises) (ready-leaves s other (Settings settings) rises this))
+come (Ready other (Settings settings) ∷ Decide another ∷ events) (Some id) s nothing next rises none =
+    let parts = and_parts (is_decided_next other (Decide another ∷ events)) (waits_for_nothing events) nothing in
+    let same = and_parts (same_id other id) (same_id another id) next in
+    let this = subst (λ (i : Id). none_waits_but (Some i) s.transactions ≡ true) (sym (same_id-equal other id same.0)) none in (
+      this,
+      λ applies.
+          come (Decide another ∷ events) (Some other) (after_event s (Ready other (Settings settings))) parts.1 parts.0 (ready-rises s other (Settings settings) rises) (ready-leaves s other (Settings settings) rises this),
     )
+come (Ready other (Changes changes) ∷ events) None s nothing next rises none =
+    let parts = and_parts (is_decided_next other events) (waits_for_nothing events) nothing in
+    let this = none-but s.transactions (Some other) none in
+    (this, λ applies. come events (Some other) (after_event s (Ready other (Changes changes))) parts.1 parts.0 (ready-rises s other (Changes changes) rises) (ready-leaves s other (Changes changes) rises this))
+come (Ready other (Enlistment enlistment manager information) ∷ events) None s nothing next rises none =
+    let part = Enlistment enlistment manager information in
+    (refl, λ applies. come events None (after_event s (Ready other part)) nothing refl (ready-rises s other part rises) (enlistment-leaves s other enlistment manager information rises none))
+come (Boot boot ∷ events) None s nothing next rises none =
+    (refl, λ applies. come events None (after_event s (Boot boot)) nothing refl (filter-rises _ s.transactions rises) (none-filter _ s.transactions none))
+come (MadeRm manager ∷ events) None s nothing next rises none = (refl, λ applies. come events None (after_event s (MadeRm manager)) nothing refl rises none)
+come (Plain change ∷ events) None s nothing next rises none = (none, λ applies. come events None (after_event s (Plain change)) nothing refl rises none)
+come (Single transaction part ∷ events) None s nothing next rises none = (none, λ applies. come events None (after_event s (Single transaction part)) nothing refl rises none)
+come (Undo transaction ∷ events) None s nothing next rises none =
+    (refl, λ applies. come events None (after_event s (Undo transaction)) nothing refl (filter-rises _ s.transactions rises) (none-filter _ s.transactions none))
+come (Done transaction done ∷ events) None s nothing next rises none =
+    (refl, λ applies. come events None (after_event s (Done transaction done)) nothing refl (done-rises s transaction done rises) (done-leaves s transaction done rises none))
+come (Held transaction enlistment manager information ∷ events) None s nothing next rises none = absurd (false≢true nothing)
+come _ (Some id) s nothing next rises none = absurd (false≢true next)
 
 pub built-come : (s : Durable) (group : Group) → Rises s.transactions → none_waits_but None s.transactions ≡ true → is_built_group group ≡ true → MayAllCome s group
-built-come s (Boot boot ∷ []) rises none made = (refl, λ applies. none-filter (λ (t : Recorded). not (is_ready t.stage)) s.transactions none)
-built-come s (Plain change ∷ []) rises none made = (none, λ applies. none)
-built-come s (Single transaction part ∷ []) rises none made = (none, λ applies. none)
-built-come s (Ready a (Changes cs) ∷ Ready b (Settings ss) ∷ Decide c ∷ Done d DonePart.Files ∷ Done e DonePart.Keys ∷ []) rises none made =
-    subst (MayAllCome s) (sym (one_id a b c d e cs ss made)) (both-come s a cs ss rises none)
-built-come s _ rises none made = absurd (false≢true made)
+built-come s [] rises none made = absurd (false≢true made)
+built-come s (event ∷ events) rises none made = come (event ∷ events) None s made refl rises none

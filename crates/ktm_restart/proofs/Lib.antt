@@ -1,5 +1,6 @@
 mod Past
 mod OneOfKind
+mod OwnDones
 mod Placing
 mod Coming
 mod Fitting

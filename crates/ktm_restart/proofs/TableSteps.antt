@@ -81,7 +81,7 @@ with-first (a ∷ ts) t first =
     let before = first a (inl refl) in
     rw (false_from_ne_true (same_id a.id t.id) (λ same. before_other t.id a.id before (sym (same_id-equal a.id t.id same))), before) refl
 
-none-other : (ts : List Recorded) (id : Id) → ((u : Recorded) → IsIn u ts → is_before id u.id ≡ true) → without_recorded ts id ≡ ts
+pub none-other : (ts : List Recorded) (id : Id) → ((u : Recorded) → IsIn u ts → is_before id u.id ≡ true) → without_recorded ts id ≡ ts
 none-other [] id first = refl
 none-other (a ∷ ts) id first =
     rw (false_from_ne_true (same_id a.id id) (λ same. before_other id a.id (first a (inl refl)) (sym (same_id-equal a.id id same)))) (ap (λ l. a ∷ l) (none-other ts id (λ u there. first u (inr there))))

@@ -1,18 +1,39 @@
 // The durable state in memory, as its users see it.
-ghost use Rattle.std.specs.Prelude.{◌≡◌, ◌&&◌, ℕ, [], ◌∷◌, Ok, false, true, IfOk, IsOk, sum_by};
+ghost use Rattle.std.specs.Prelude.{◌≡◌, ◌&&◌, ℕ, ◌+◌, ◌-◌, ◌^◌, ◌<◌, ◌≤◌, List, [], ◌∷◌, ◌++◌, Ok, false, true, All, IfOk, IsOk, length, min, sum_by};
+ghost use Rattle.ktm_event.specs.Kept.{Holds};
+ghost use Rattle.ktm_event.specs.Spelling.{IsSpellableEvent};
+ghost use Rattle.ktm_types.specs.declared.event.Event.{Event as Recording};
 ghost use Rattle.ktm_types.specs.declared.event.Event.TheVariants.{Boot};
+ghost use Rattle.ktm_types.specs.Sizes.{event_size};
 ghost use Rattle.ktm_forms.specs.Built.{is_built_group};
 ghost use Rattle.ktm_world.specs.Durable.{after_events, empty_state, events_apply};
 ghost use Rattle.ktm_world.specs.Tree.{bytes_or_none, units_of};
+ghost use Rattle.ktm_world.specs.World.{own_group};
 ghost use Rattle.txf_tree.specs.TreeState.{tree_of, versions_of};
 
+use crate::own::{own_sizes, push_all_own, push_boot};
 use crate::replayed::Replayed;
-use ktm_base::{Bytes, NoMemory};
+use ktm_base::{Bytes, Id, NoMemory};
+use ktm_event::Events;
 use ktm_keyed::KeyedList;
 use ktm_types::Event;
+use ktm_world::Recorded;
 use std::alloc::Global;
 use std::marker::Model;
 use txf_durable::FilesRead;
+
+/// What a machine starts from.
+#[derive(Drop)]
+pub struct DurableParts {
+    /// The committed files, of which none was changed since.
+    pub files: FilesRead,
+    /// The committed keys, by rising key.
+    pub keys: KeyedList<Bytes>,
+    /// The durable resource managers, by rising Id.
+    pub managers: Vec<Id>,
+    /// The transactions that are not over, by rising Id.
+    pub transactions: Vec<Recorded>,
+}
 
 /// What the groups of an image's log stand for. They are applied in place: neither a change nor a key or a value is copied.
 /// Between groups no changes and no settings wait.
@@ -72,16 +93,63 @@ impl Durable {
         self.replayed.boots()
     }
 
-    /// What a machine starts from: the committed files, of which none was changed since, and the committed keys, by rising key.
-    pub fn into_files_and_keys(self) -> (FilesRead, KeyedList<Bytes>)
-        ensures tree { tree_of result.0.tree ≡ self.tree }
-        ensures versions { versions_of result.0.tree ≡ [] }
-        ensures units { result.0.units ≡ sum_by (λ node. units_of (bytes_or_none node.content)) self.tree }
-        ensures next_node { result.0.next_node ≡ self.next_node }
-        ensures keys { result.1.items ≡ self.keys }
+    /// The durable resource managers, by rising Id.
+    pub fn managers(&self) -> &[Id]
+        ensures { result.now ≡ self.now.managers }
+    {
+        self.replayed.managers()
+    }
+
+    /// The transactions that are not over, by rising Id.
+    pub fn transactions(&self) -> &[Recorded]
+        ensures { result.now ≡ self.now.transactions }
+    {
+        self.replayed.transactions()
+    }
+
+    /// What a machine starts from.
+    pub fn into_parts(self) -> DurableParts
+        ensures tree { tree_of result.files.tree ≡ self.tree }
+        ensures versions { versions_of result.files.tree ≡ [] }
+        ensures units { result.files.units ≡ sum_by (λ node. units_of (bytes_or_none node.content)) self.tree }
+        ensures next_node { result.files.next_node ≡ self.next_node }
+        ensures keys { result.keys.items ≡ self.keys }
+        ensures managers { result.managers.items ≡ self.managers }
+        ensures transactions { result.transactions.items ≡ self.transactions }
     {
         let Durable { replayed } = self;
-        replayed.into_files_and_keys()
+        replayed.into_parts()
+    }
+
+    /// How many bytes the events take that a restart records by itself, or 2^64 - 1, where they take more.
+    pub fn own_size(&self) -> usize
+        ensures { result ≡ min (sum_by event_size (own_group self.now)) (2 ^ 64 - 1) }
+    {
+        own_sizes(self.transactions()).saturating_add(5)
+    }
+
+    /// Puts the events into the list that a restart records by itself: a boot, and that the files and the keys of each decided
+    /// transaction are done.
+    pub fn own_group(&self, events: &mut Events)
+        requires boots { self.now.boots + 1 < 2 ^ 32 }
+        requires spelled { All IsSpellableEvent (own_group self.now) }
+        requires fits { sum_by event_size (own_group self.now) ≤ events.old.spare }
+        ensures adds { (group : List Recording) → Holds events.old group → Holds events.new (group ++ own_group self.now) }
+        ensures spare { events.new.spare + sum_by event_size (own_group self.now) ≡ events.old.spare }
+        ensures room { events.new.room ≡ events.old.room }
+        ensures capacity { events.old.capacity ≤ events.new.capacity }
+    {
+        push_boot(self.boots() + 1, events);
+        push_all_own(self.transactions(), events);
+    }
+
+    /// Makes of the state what the group of a restart makes of it, which takes no memory.
+    pub fn begin(&mut self)
+        requires boots { self.old.boots + 1 < 2 ^ 32 }
+        requires events { self.old.events + length (own_group self.old) < 2 ^ 63 }
+        ensures { self.new ≡ after_events self.old (own_group self.old) }
+    {
+        self.replayed.begin();
     }
 
     /// Applies a group of events. It answers false where the group is not built or does not apply; the state is then of no use,

@@ -6,11 +6,12 @@ mod amounts;
 mod durable;
 mod laws;
 mod managers;
+mod own;
 mod parts;
 mod replay;
 mod replayed;
 mod table;
 
-pub use durable::Durable;
+pub use durable::{Durable, DurableParts};
 pub use laws::{law_of_bad_images, law_of_bad_places, law_of_one_log, law_of_states};
 pub use replay::{Loaded, load};

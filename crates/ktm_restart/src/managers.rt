@@ -57,6 +57,18 @@ impl Managers {
         }
     }
 
+    pub(crate) fn as_slice(&self) -> &[Id]
+        ensures { result.now ≡ self.now.managers }
+    {
+        &self.items
+    }
+
+    pub(crate) fn into_vec(self) -> Vec<Id>
+        ensures { result.items ≡ self.managers }
+    {
+        self.items
+    }
+
     pub(crate) fn len(&self) -> usize
         ensures { result ≡ length self.now.managers }
     {

@@ -1,31 +1,34 @@
 // The durable state in memory while a log is read, and what each event makes of it.
 ghost use Rattle.std.specs.Prelude.{◌≡◌, ◌&&◌, ◌+◌, ◌^◌, ◌<◌, ◌≤◌, [], ◌∷◌, Ok, None, Some, not, false, true, IfOk, IsOk, OnOk, is_none, length, nat_eq, nat_le, nat_lt, sum_by};
-ghost use Rattle.std.specs.List.{list_all};
+ghost use Rattle.std.specs.List.{flat_map, list_all};
 ghost use Rattle.ktm_types.specs.declared.event.Event.{Event as Recording};
 ghost use Rattle.ktm_types.specs.declared.event.Event.TheVariants.{Boot, MadeRm, Plain, Ready, Single, Held, Decide, Undo, Done};
 ghost use Rattle.ktm_base.specs.declared.limits.TheConstants.{MOST_LIVE};
 ghost use Rattle.ktm_forms.specs.Built.{is_built_group};
 ghost use Rattle.ktm_world.specs.Changes.{changes_apply, changed_all, has_changes};
-ghost use Rattle.ktm_world.specs.Durable.{after_event, after_events, are_recorded_changes, empty_state, event_applies, events_apply, has_changes_part, has_settings_part, is_new_enlistment, is_new_in, is_within_limits, may_get_ready, next_after_all, part_applies, recorded_at, recorded_or_new, with_committed, with_part};
+ghost use Rattle.ktm_world.specs.Durable.{after_event, after_events, are_recorded_changes, empty_state, event_applies, events_apply, fact_of, has_changes_part, has_settings_part, is_new_enlistment, is_new_in, is_within_limits, may_get_ready, next_after_all, part_applies, recorded_at, recorded_or_new, with_committed, with_part};
 ghost use Rattle.ktm_world.specs.Keys.{are_good_settings, stored_all};
 ghost use Rattle.ktm_world.specs.Tree.{bytes_or_none, units_of};
+ghost use Rattle.ktm_world.specs.World.{own_events, own_group};
 ghost use Rattle.ktm_restart.specs.Replayed.{CanChange, CanCommit, CanTake, CanTakePart, Takes};
 ghost use Rattle.ktm_restart.specs.Waiting.{committed, may_come, none_waits_but, passes_units};
 ghost use Rattle.txf_durable.specs.State.{CanMake, CanMakeAll};
 ghost use Rattle.txf_tree.specs.TreeState.{tree_of, versions_of};
 
 use crate::amounts::{Amounts, have_room, limits, without};
+use crate::durable::DurableParts;
 use crate::managers::Managers;
+use crate::own::first_own;
 use crate::parts::changes_in;
 use crate::table::Table;
 use ktm_base::{Bytes, Id, MOST_INFORMATION_BYTES, MOST_LIVE, NoMemory, UNIT_BYTES};
 use ktm_forms::is_built_group;
 use ktm_keyed::KeyedList;
 use ktm_types::{Change, DonePart, Event, Part, Setting, Superior};
-use ktm_world::{are_good_settings, make_all};
+use ktm_world::{Recorded, are_good_settings, make_all};
 use std::alloc::Global;
 use std::marker::Model;
-use txf_durable::{DurableFiles, FileNumbers, FilesRead, are_recorded_changes};
+use txf_durable::{DurableFiles, FileNumbers, are_recorded_changes};
 use txf_tree::bytes_in;
 
 /// The most events that an image may ever record.
@@ -137,15 +140,40 @@ impl Replayed {
         self.boots
     }
 
-    pub(crate) fn into_files_and_keys(self) -> (FilesRead, KeyedList<Bytes>)
-        ensures tree { tree_of result.0.tree ≡ self.state.tree }
-        ensures versions { versions_of result.0.tree ≡ [] }
-        ensures units { result.0.units ≡ sum_by (λ node. units_of (bytes_or_none node.content)) self.state.tree }
-        ensures next_node { result.0.next_node ≡ self.state.next_node }
-        ensures keys { result.1.items ≡ self.state.keys }
+    pub(crate) fn managers(&self) -> &[Id]
+        ensures { result.now ≡ self.now.state.managers }
     {
-        let Replayed { files, keys, .. } = self;
-        (files.into_parts(), keys)
+        self.managers.as_slice()
+    }
+
+    pub(crate) fn transactions(&self) -> &[Recorded]
+        ensures { result.now ≡ self.now.state.transactions }
+    {
+        self.transactions.as_slice()
+    }
+
+    pub(crate) fn into_parts(self) -> DurableParts
+        ensures tree { tree_of result.files.tree ≡ self.state.tree }
+        ensures versions { versions_of result.files.tree ≡ [] }
+        ensures units { result.files.units ≡ sum_by (λ node. units_of (bytes_or_none node.content)) self.state.tree }
+        ensures next_node { result.files.next_node ≡ self.state.next_node }
+        ensures keys { result.keys.items ≡ self.state.keys }
+        ensures managers { result.managers.items ≡ self.state.managers }
+        ensures transactions { result.transactions.items ≡ self.state.transactions }
+    {
+        let Replayed {
+            files,
+            keys,
+            managers,
+            transactions,
+            ..
+        } = self;
+        DurableParts {
+            files: files.into_parts(),
+            keys,
+            managers: managers.into_vec(),
+            transactions: transactions.into_vec(),
+        }
     }
 
     // What the files and the keys take.
@@ -185,15 +213,22 @@ impl Replayed {
         self.events < MOST_EVENTS
     }
 
-    // A restart of the machine counts a boot, and forgets the transactions that are ready and neither held nor decided.
+    // A boot forgets the transactions that are ready and neither held nor decided.
+    fn start(&mut self, boot: u32)
+        ensures { self.new.state ≡ fact_of self.old.state (Boot boot) }
+    {
+        self.boots = boot;
+        self.transactions.forget_ready();
+    }
+
+    // A restart of the machine counts a boot.
     fn boot(&mut self, boot: u32) -> bool
         ensures { Takes self.old.state (Boot boot) result self.new.state }
     {
         if boot == u32::MAX || u64::from(boot) != u64::from(self.boots) + 1 {
             return false;
         }
-        self.boots = boot;
-        self.transactions.forget_ready();
+        self.start(boot);
         true
     }
 
@@ -436,6 +471,13 @@ impl Replayed {
         true
     }
 
+    // A participant of a transaction is done.
+    fn finish_part(&mut self, transaction: Id, done: DonePart)
+        ensures { self.new.state ≡ fact_of self.old.state (Done transaction done) }
+    {
+        self.transactions.finish(transaction, done);
+    }
+
     // A participant of a decided transaction is done.
     fn finish(&mut self, transaction: Id, done: DonePart) -> bool
         ensures { Takes self.old.state (Done transaction done) result self.new.state }
@@ -443,7 +485,7 @@ impl Replayed {
         if !self.transactions.may_finish(transaction, done) {
             return false;
         }
-        self.transactions.finish(transaction, done);
+        self.finish_part(transaction, done);
         true
     }
 
@@ -521,6 +563,35 @@ impl Replayed {
             }
         }
         Ok(true)
+    }
+
+    // Makes of the state what the first event makes of it that a restart has yet to record, if there is one.
+    fn finish_first(&mut self) -> bool
+        requires events { self.old.state.events + length (flat_map own_events self.old.state.transactions) < 2 ^ 63 }
+        ensures more { result ≡ true → length (flat_map own_events self.new.state.transactions) + 1 ≡ length (flat_map own_events self.old.state.transactions) }
+        ensures none { result ≡ false → flat_map own_events self.new.state.transactions ≡ [] }
+        ensures after { after_events self.new.state (flat_map own_events self.new.state.transactions) ≡ after_events self.old.state (flat_map own_events self.old.state.transactions) }
+        ensures events { self.new.state.events + length (flat_map own_events self.new.state.transactions) ≡ self.old.state.events + length (flat_map own_events self.old.state.transactions) }
+        ensures rest { none_waits_but None self.old.state.transactions ≡ true → none_waits_but None self.new.state.transactions ≡ true }
+    {
+        let Some((transaction, done)) = first_own(self.transactions.as_slice()) else {
+            return false;
+        };
+        self.finish_part(transaction, done);
+        self.count();
+        true
+    }
+
+    /// Makes of the state what the group of a restart makes of it.
+    pub(crate) fn begin(&mut self)
+        requires boots { self.old.state.boots + 1 < 2 ^ 32 }
+        requires events { self.old.state.events + length (own_group self.old.state) < 2 ^ 63 }
+        ensures after { self.new.state ≡ after_events self.old.state (own_group self.old.state) }
+        ensures rest { none_waits_but None self.old.state.transactions ≡ true → none_waits_but None self.new.state.transactions ≡ true }
+    {
+        self.start(self.boots + 1);
+        self.count();
+        while self.finish_first() {}
     }
 
     /// Forgets all transactions that are not over.

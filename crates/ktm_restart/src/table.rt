@@ -127,7 +127,7 @@ fn may_undo(transaction: &Recorded) -> bool
     !is_decided(transaction.stage)
 }
 
-fn has_undone(transaction: &Recorded, done: DonePart) -> bool
+pub(crate) fn has_undone(transaction: &Recorded, done: DonePart) -> bool
     ensures { result ≡ has_undone done transaction.now }
 {
     is_decided(transaction.stage) && has_undone_part_of(&transaction.parts, done)
@@ -234,6 +234,12 @@ impl Table {
         ensures { result.now ≡ self.now.transactions }
     {
         &self.items
+    }
+
+    pub(crate) fn into_vec(self) -> Vec<Recorded>
+        ensures { result.items ≡ self.transactions }
+    {
+        self.items
     }
 
     /// The transaction with this Id.

@@ -1,5 +1,5 @@
 -- Calls on files: the open file that a label names, and from the tests of a command to those of its call.
-use Rattle.std.proofs.Common.{◌≡◌, ◌&&◌, ℕ, not, cond, Bool, true, false, List, [], ◌∷◌, ◌++◌, Option, Some, None, Result, Ok, Err, IfOk, IfErr, IsErrAnd, is_some, option_and_then, refl, sym, ◌∙◌, ap, subst}
+use Rattle.std.proofs.Common.{inl, inr, ◌≡◌, ◌&&◌, ℕ, not, cond, Bool, true, false, List, [], ◌∷◌, ◌++◌, Option, Some, None, Result, Ok, Err, IfOk, IfErr, IsErrAnd, is_some, option_and_then, refl, sym, ◌∙◌, ap, subst}
 use Rattle.ktm_base.specs.declared.id.Id.{Id}
 use Rattle.ktm_base.specs.declared.id.Label.{Label}
 use Rattle.ktm_base.specs.declared.id.Pid.{Pid}
@@ -33,14 +33,16 @@ use Rattle.txf_opens.specs.Acts.{open_of}
 use Rattle.txf_calls.specs.declared.call.FileCall.{FileCall}
 use Rattle.txf_calls.specs.declared.call.FileCall.TheVariants.{Create, Read, Write, SetEnd, Size, Flush, Delete, MakeDirectory, RemoveDirectory as Remove, Move, Find}
 use Rattle.txf_opens.specs.declared.file.OpenFile.{OpenFile as Kept}
-use Rattle.ktm_memory.specs.Routed.{IsFreeLabel}
+use Rattle.ktm_owned.proofs.offered.KeysKept.{not_refused}
+use Rattle.ktm_world.specs.Transactions.{is_active, transaction_at}
+use Rattle.ktm_memory.specs.Routed.{IsActiveCaller, IsFreeLabel}
 use Rattle.ktm_route.specs.Route.{IsRouted, Routes}
 use Rattle.ktm_memory.specs.Opening.{files_outcome}
 use Rattle.ktm_memory.specs.Takes.{files_take_memory, is_quiet}
 use Rattle.ktm_route.specs.Takes.{early_tests, effect_takes_memory, has_log_room, takes_memory}
 use Rattle.ktm_memory.specs.declared.routed.Routed.{Routed}
 use Rattle.ktm_memory.specs.declared.routed.Routed.TheVariants.{Files}
-use Rattle.ktm_route.proofs.Routes.{first_of-passed, refused_first, up_or}
+use Rattle.ktm_route.proofs.Routes.{active_named, first_of-passed, refused_first, up_or}
 use Rattle.ktm_route.proofs.Takes.{change_takes, flush_takes, passed_takes, set_end_takes, size_takes, write_takes}
 
 -- ---- the open file that a label names
@@ -94,12 +96,13 @@ module _ (x : Present) (process : Pid) (up : x.machine.is_up ≡ true) (law : Fi
         ∙ ap (λ o. refuse_or x (first_refusal own) o) effect
         ∙ files_refused x process who label (first_refusal own) (file_effect x.files who call)
 
-    pub routed : takes_memory x process command ≡ files_take_memory x who call → IsRouted x process command (Files who label call)
-    routed takes = (
+    pub routed : IsActiveCaller x who → takes_memory x process command ≡ files_take_memory x who call → IsRouted x process command (Files who label call)
+    routed active takes = (
       comes_to,
       record {
         usable = usable;
         free = free;
+        active = active;
         may = λ none. law.calls x process command who (file_effect x.files who call) standing is
             (ap (λ u. cond (not u) (Some MachineDown) (first_refusal (command_tests x process command))) up ∙ tested ∙ none) made;
       },
@@ -107,9 +110,9 @@ module _ (x : Present) (process : Pid) (up : x.machine.is_up ≡ true) (law : Fi
     )
 
     -- a change of an open file
-    pub routed_change : early_tests x process command ≡ command_tests x process command → decision_takes_memory call ≡ false
+    pub routed_change : IsActiveCaller x who → early_tests x process command ≡ command_tests x process command → decision_takes_memory call ≡ false
         → effect_takes_memory x process command ≡ (not (is_quiet (file_effect x.files who call)) && has_log_room x process command) → IsRouted x process command (Files who label call)
-    routed_change early quick takes = routed (change_takes x process up command who label call tests (early ∙ are) passed comes_to quick takes)
+    routed_change active early quick takes = routed active (change_takes x process up command who label call tests (early ∙ are) passed comes_to quick takes)
 
 -- ---- plain calls on paths
 
@@ -125,7 +128,7 @@ module _ (x : Present) (process : Pid) (up : x.machine.is_up ≡ true) (law : Fi
   module _ (label : Label) (path : List ℕ) (access : Access) (share : ShareMode) (d : Disposition) where
     pub create_routed : IsCommand (CreateFile label path access share d) → object_at x.handles process label ≡ None → IsRouted x process (CreateFile label path access share d) (Files None (Some label) (Create path access share d))
     create_routed is free =
-        routed x process up law standing (CreateFile label path access share d) is None (Some label) (Create path access share d) (bound_test x process label ∷ []) refl (unbound label free) refl refl tt free
+        routed x process up law standing (CreateFile label path access share d) is None (Some label) (Create path access share d) (bound_test x process label ∷ []) refl (unbound label free) refl refl tt free tt
         (passed_takes x process up (CreateFile label path access share d) (bound_test x process label ∷ []) refl (unbound label free))
 
     pub create_refused : (refusal : Refusal) → (refusal ≡ InvalidParameter) × (is_bound x process label ≡ true) → with_room x process (CreateFile label path access share d) ≡ only_reply x (Refused refusal)
@@ -133,19 +136,19 @@ module _ (x : Present) (process : Pid) (up : x.machine.is_up ≡ true) (law : Fi
         refused_first x process (CreateFile label path access share d) (bound_test x process label ∷ []) (create_file_tests x.files (file_room x) None path access share d) refusal up refl (bound_first label refusal bound)
 
   pub delete_routed : (path : List ℕ) → IsCommand (DeleteFile path) → IsRouted x process (DeleteFile path) (Files None None (Delete path))
-  delete_routed path is = routed x process up law standing (DeleteFile path) is None None (Delete path) [] refl refl refl refl tt tt (passed_takes x process up (DeleteFile path) [] refl refl)
+  delete_routed path is = routed x process up law standing (DeleteFile path) is None None (Delete path) [] refl refl refl refl tt tt tt (passed_takes x process up (DeleteFile path) [] refl refl)
 
   pub make_routed : (path : List ℕ) → IsCommand (CreateDirectory path) → IsRouted x process (CreateDirectory path) (Files None None (MakeDirectory path))
-  make_routed path is = routed x process up law standing (CreateDirectory path) is None None (MakeDirectory path) [] refl refl refl refl tt tt (passed_takes x process up (CreateDirectory path) [] refl refl)
+  make_routed path is = routed x process up law standing (CreateDirectory path) is None None (MakeDirectory path) [] refl refl refl refl tt tt tt (passed_takes x process up (CreateDirectory path) [] refl refl)
 
   pub remove_routed : (path : List ℕ) → IsCommand (RemoveDirectory path) → IsRouted x process (RemoveDirectory path) (Files None None (Remove path))
-  remove_routed path is = routed x process up law standing (RemoveDirectory path) is None None (Remove path) [] refl refl refl refl tt tt (passed_takes x process up (RemoveDirectory path) [] refl refl)
+  remove_routed path is = routed x process up law standing (RemoveDirectory path) is None None (Remove path) [] refl refl refl refl tt tt tt (passed_takes x process up (RemoveDirectory path) [] refl refl)
 
   pub move_routed : (source target : List ℕ) → IsCommand (MoveFile source target) → IsRouted x process (MoveFile source target) (Files None None (Move source target))
-  move_routed source target is = routed x process up law standing (MoveFile source target) is None None (Move source target) [] refl refl refl refl tt tt (passed_takes x process up (MoveFile source target) [] refl refl)
+  move_routed source target is = routed x process up law standing (MoveFile source target) is None None (Move source target) [] refl refl refl refl tt tt tt (passed_takes x process up (MoveFile source target) [] refl refl)
 
   pub find_routed : (searched : List ℕ) → IsCommand (FindFiles searched) → IsRouted x process (FindFiles searched) (Files None None (Find searched))
-  find_routed searched is = routed x process up law standing (FindFiles searched) is None None (Find searched) [] refl refl refl refl tt tt (passed_takes x process up (FindFiles searched) [] refl refl)
+  find_routed searched is = routed x process up law standing (FindFiles searched) is None None (Find searched) [] refl refl refl refl tt tt tt (passed_takes x process up (FindFiles searched) [] refl refl)
 
   -- ---- calls in a transaction
 
@@ -153,6 +156,10 @@ module _ (x : Present) (process : Pid) (up : x.machine.is_up ≡ true) (law : Fi
     -- the tests, the effect and the call of a command by the transaction that is named
     by_named : {T : Type 0} (f : Option Transaction → T) → f (transaction_named x process label) ≡ f (Some t)
     by_named f = ap f named
+
+    -- it is active
+    is_active_caller : IsActiveCaller x (Some t.id)
+    is_active_caller = active_named x process label t named passed
 
     module _ (handle : Label) (path : List ℕ) (access : Access) (share : ShareMode) (d : Disposition) where
       abbrev tests : List (Bool × Refusal)
@@ -167,7 +174,7 @@ module _ (x : Present) (process : Pid) (up : x.machine.is_up ≡ true) (law : Fi
           routed x process up law standing (CreateFileTransacted handle path access share d label) is (Some t.id) (Some handle) (Create path access share d) tests are
           (first_of-passed (transaction_tests (Some t)) (bound_test x process handle ∷ []) passed ∙ unbound handle free)
           (by_named (λ n. opening x process handle (id_of_named n) (create_file x.files (id_of_named n) path access share d)))
-          (by_named (λ n. in_caller (id_of_named n) (λ who. create_file x.files who path access share d))) tt free
+          (by_named (λ n. in_caller (id_of_named n) (λ who. create_file x.files who path access share d))) tt free is_active_caller
           (passed_takes x process up (CreateFileTransacted handle path access share d label) tests (by_named (λ n. transaction_tests n ++ bound_test x process handle ∷ []))
           (first_of-passed (transaction_tests (Some t)) (bound_test x process handle ∷ []) passed ∙ unbound handle free))
 
@@ -181,31 +188,31 @@ module _ (x : Present) (process : Pid) (up : x.machine.is_up ≡ true) (law : Fi
     delete_transacted path is =
         routed x process up law standing (DeleteFileTransacted path label) is (Some t.id) None (Delete path) (transaction_tests (Some t))
         (by_named (λ n. transaction_tests n ++ delete_file_tests x.files (file_room x) (id_of_named n) path)) passed
-        (by_named (λ n. of_files x (id_of_named n) (delete_file x.files (id_of_named n) path))) (by_named (λ n. in_caller (id_of_named n) (λ who. delete_file x.files who path))) tt tt (passed_takes x process up (DeleteFileTransacted path label) (transaction_tests (Some t)) (by_named transaction_tests) passed)
+        (by_named (λ n. of_files x (id_of_named n) (delete_file x.files (id_of_named n) path))) (by_named (λ n. in_caller (id_of_named n) (λ who. delete_file x.files who path))) tt tt is_active_caller (passed_takes x process up (DeleteFileTransacted path label) (transaction_tests (Some t)) (by_named transaction_tests) passed)
 
     pub make_transacted : (path : List ℕ) → IsCommand (CreateDirectoryTransacted path label) → IsRouted x process (CreateDirectoryTransacted path label) (Files (Some t.id) None (MakeDirectory path))
     make_transacted path is =
         routed x process up law standing (CreateDirectoryTransacted path label) is (Some t.id) None (MakeDirectory path) (transaction_tests (Some t))
         (by_named (λ n. transaction_tests n ++ create_directory_tests x.files (file_room x) (id_of_named n) path)) passed
-        (by_named (λ n. of_files x (id_of_named n) (create_directory x.files (id_of_named n) path))) (by_named (λ n. in_caller (id_of_named n) (λ who. create_directory x.files who path))) tt tt (passed_takes x process up (CreateDirectoryTransacted path label) (transaction_tests (Some t)) (by_named transaction_tests) passed)
+        (by_named (λ n. of_files x (id_of_named n) (create_directory x.files (id_of_named n) path))) (by_named (λ n. in_caller (id_of_named n) (λ who. create_directory x.files who path))) tt tt is_active_caller (passed_takes x process up (CreateDirectoryTransacted path label) (transaction_tests (Some t)) (by_named transaction_tests) passed)
 
     pub remove_transacted : (path : List ℕ) → IsCommand (RemoveDirectoryTransacted path label) → IsRouted x process (RemoveDirectoryTransacted path label) (Files (Some t.id) None (Remove path))
     remove_transacted path is =
         routed x process up law standing (RemoveDirectoryTransacted path label) is (Some t.id) None (Remove path) (transaction_tests (Some t))
         (by_named (λ n. transaction_tests n ++ remove_directory_tests x.files (file_room x) (id_of_named n) path)) passed
-        (by_named (λ n. of_files x (id_of_named n) (remove_directory x.files (id_of_named n) path))) (by_named (λ n. in_caller (id_of_named n) (λ who. remove_directory x.files who path))) tt tt (passed_takes x process up (RemoveDirectoryTransacted path label) (transaction_tests (Some t)) (by_named transaction_tests) passed)
+        (by_named (λ n. of_files x (id_of_named n) (remove_directory x.files (id_of_named n) path))) (by_named (λ n. in_caller (id_of_named n) (λ who. remove_directory x.files who path))) tt tt is_active_caller (passed_takes x process up (RemoveDirectoryTransacted path label) (transaction_tests (Some t)) (by_named transaction_tests) passed)
 
     pub move_transacted : (source target : List ℕ) → IsCommand (MoveFileTransacted source target label) → IsRouted x process (MoveFileTransacted source target label) (Files (Some t.id) None (Move source target))
     move_transacted source target is =
         routed x process up law standing (MoveFileTransacted source target label) is (Some t.id) None (Move source target) (transaction_tests (Some t))
         (by_named (λ n. transaction_tests n ++ move_file_tests x.files (file_room x) (id_of_named n) source target)) passed
-        (by_named (λ n. of_files x (id_of_named n) (move_file x.files (id_of_named n) source target))) (by_named (λ n. in_caller (id_of_named n) (λ who. move_file x.files who source target))) tt tt (passed_takes x process up (MoveFileTransacted source target label) (transaction_tests (Some t)) (by_named transaction_tests) passed)
+        (by_named (λ n. of_files x (id_of_named n) (move_file x.files (id_of_named n) source target))) (by_named (λ n. in_caller (id_of_named n) (λ who. move_file x.files who source target))) tt tt is_active_caller (passed_takes x process up (MoveFileTransacted source target label) (transaction_tests (Some t)) (by_named transaction_tests) passed)
 
     pub find_transacted : (searched : List ℕ) → IsCommand (FindFilesTransacted searched label) → IsRouted x process (FindFilesTransacted searched label) (Files (Some t.id) None (Find searched))
     find_transacted searched is =
         routed x process up law standing (FindFilesTransacted searched label) is (Some t.id) None (Find searched) (transaction_tests (Some t))
         (by_named (λ n. transaction_tests n ++ find_files_tests x.files (id_of_named n) searched)) passed
-        (by_named (λ n. of_files x (id_of_named n) (find_files x.files (id_of_named n) searched))) (by_named (λ n. in_caller (id_of_named n) (λ who. find_files x.files who searched))) tt tt (passed_takes x process up (FindFilesTransacted searched label) (transaction_tests (Some t)) (by_named transaction_tests) passed)
+        (by_named (λ n. of_files x (id_of_named n) (find_files x.files (id_of_named n) searched))) (by_named (λ n. in_caller (id_of_named n) (λ who. find_files x.files who searched))) tt tt is_active_caller (passed_takes x process up (FindFilesTransacted searched label) (transaction_tests (Some t)) (by_named transaction_tests) passed)
 
   -- ---- calls on an open file
 
@@ -213,35 +220,43 @@ module _ (x : Present) (process : Pid) (up : x.machine.is_up ≡ true) (law : Fi
     by_file : {T : Type 0} (f : Option OpenFile → T) → f (file_named x process label) ≡ f (Some (open_of file))
     by_file f = ap f named
 
+    -- its transaction is active, if it has one
+    active_file : IsActiveCaller x file.transaction
+    active_file = by-caller file.transaction (ap (λ n. holds_of (is_suspended x) n) (sym named) ∙ not_refused (handle_tests x process label) passed (holds_of (is_suspended x) (file_named x process label), TransactionNotActive) (inr (inr (inl refl))))
+      where
+        by-caller : (who : Option Id) → holds_of (λ u. not (is_active u)) (option_and_then (transaction_at x.transactions.items) who) ≡ false → IsActiveCaller x who
+        by-caller None none = tt
+        by-caller (Some id) active = active
+
     pub read_routed : (offset many : ℕ) → IsCommand (ReadFile label offset many) → IsRouted x process (ReadFile label offset many) (Files file.transaction None (Read file offset many))
     read_routed offset many is =
         routed x process up law standing (ReadFile label offset many) is file.transaction None (Read file offset many) (handle_tests x process label)
         (by_file (λ n. handle_tests x process label ++ own_tests n (λ o. read_file_tests o many))) passed (by_file (λ n. on_file x n (λ o. read_file x.files o offset many)))
-        (by_file (λ n. on_open n (λ o. read_file x.files o offset many))) tt tt
+        (by_file (λ n. on_open n (λ o. read_file x.files o offset many))) tt tt active_file
         (passed_takes x process up (ReadFile label offset many) (handle_tests x process label) refl passed)
 
     pub write_routed : (offset : ℕ) (bytes : List ℕ) → IsCommand (WriteFile label offset bytes) → IsRouted x process (WriteFile label offset bytes) (Files file.transaction None (Write file offset bytes))
     write_routed offset bytes is =
         routed_change x process up law standing (WriteFile label offset bytes) is file.transaction None (Write file offset bytes) (handle_tests x process label)
         (by_file (λ n. handle_tests x process label ++ own_tests n (λ o. write_file_tests x.files (file_room x) o offset bytes))) passed (by_file (λ n. on_file x n (λ o. write_file o offset bytes)))
-        (by_file (λ n. on_open n (λ o. write_file o offset bytes))) (law.usable x process label (open_of file) standing named) tt refl refl (write_takes x process up label file offset bytes)
+        (by_file (λ n. on_open n (λ o. write_file o offset bytes))) (law.usable x process label (open_of file) standing named) tt active_file refl refl (write_takes x process up label file offset bytes)
 
     pub set_end_routed : (size : ℕ) → IsCommand (SetEndOfFile label size) → IsRouted x process (SetEndOfFile label size) (Files file.transaction None (SetEnd file size))
     set_end_routed size is =
         routed_change x process up law standing (SetEndOfFile label size) is file.transaction None (SetEnd file size) (handle_tests x process label)
         (by_file (λ n. handle_tests x process label ++ own_tests n (λ o. set_end_tests x.files (file_room x) o size))) passed (by_file (λ n. on_file x n (λ o. set_end o size)))
-        (by_file (λ n. on_open n (λ o. set_end o size))) (law.usable x process label (open_of file) standing named) tt refl refl (set_end_takes x process up label file size)
+        (by_file (λ n. on_open n (λ o. set_end o size))) (law.usable x process label (open_of file) standing named) tt active_file refl refl (set_end_takes x process up label file size)
 
     pub size_routed : IsCommand (GetFileSizeEx label) → IsRouted x process (GetFileSizeEx label) (Files file.transaction None (Size file))
     size_routed is =
         routed x process up law standing (GetFileSizeEx label) is file.transaction None (Size file) (handle_tests x process label) refl passed
-        (by_file (λ n. on_file x n (λ o. get_size x.files o))) (by_file (λ n. on_open n (λ o. get_size x.files o))) tt tt (size_takes x file.transaction file)
+        (by_file (λ n. on_file x n (λ o. get_size x.files o))) (by_file (λ n. on_open n (λ o. get_size x.files o))) tt tt active_file (size_takes x file.transaction file)
 
     pub flush_routed : IsCommand (FlushFileBuffers label) → IsRouted x process (FlushFileBuffers label) (Files file.transaction None (Flush file))
     flush_routed is =
         routed x process up law standing (FlushFileBuffers label) is file.transaction None (Flush file) (handle_tests x process label)
         (by_file (λ n. handle_tests x process label ++ own_tests n (λ o. write_access_test o ∷ []))) passed (by_file (λ n. on_file x n (λ o. flush_file)))
-        (by_file (λ n. on_open n (λ o. flush_file))) tt tt (flush_takes x file.transaction file)
+        (by_file (λ n. on_open n (λ o. flush_file))) tt tt active_file (flush_takes x file.transaction file)
 
 -- ---- by what came of the labels
 

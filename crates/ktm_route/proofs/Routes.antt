@@ -1,33 +1,34 @@
 -- From the tests of a command to those of its layer.
-use Rattle.std.proofs.Common.{◌≡◌, ℕ, not, cond, Bool, true, false, List, [], ◌∷◌, ◌++◌, Option, Some, None, is_some, is_none, refl, sym, ◌∙◌, ap, inl, inr}
+use Rattle.std.proofs.Common.{◌≡◌, ℕ, not, cond, Bool, true, false, List, [], ◌∷◌, ◌++◌, Option, Some, None, is_some, is_none, refl, sym, ◌∙◌, ap, subst, inl, inr}
 use Rattle.std.proofs.lemmas.Bool.{cases_Bool}
 use Rattle.ktm_base.specs.declared.id.Id.{Id}
 use Rattle.ktm_base.specs.declared.id.Label.{Label}
 use Rattle.ktm_base.specs.declared.id.Pid.{Pid}
 use Rattle.ktm_base.specs.declared.refusal.Refusal.{Refusal}
-use Rattle.ktm_base.specs.declared.refusal.Refusal.TheVariants.{MachineDown, InvalidHandle, InvalidParameter, TransactionNotFound, TransactionRequestNotValid}
+use Rattle.ktm_base.specs.declared.refusal.Refusal.TheVariants.{MachineDown, InvalidHandle, InvalidParameter, TransactionNotActive, TransactionNotFound}
 use Rattle.ktm_types.specs.declared.command.Command.{Command}
-use Rattle.ktm_types.specs.declared.command.Command.TheVariants.{CloseHandle, CommitTransaction, CreateTransaction, DuplicateHandle, Exit, GetTransactionInformation, OpenTransaction, RollbackTransaction, KvSet, KvUnset, KvGet, KvList}
+use Rattle.ktm_types.specs.declared.command.Command.TheVariants.{CommitTransaction, CreateTransaction, DuplicateHandle, GetTransactionInformation, OpenTransaction, RollbackTransaction, KvSet, KvUnset, KvGet, KvList}
 use Rattle.ktm_types.specs.declared.command.View.{View}
-use Rattle.ktm_types.specs.declared.command.View.TheVariants.{Transaction as Through}
+use Rattle.ktm_types.specs.declared.command.View.TheVariants.{Plain, Transaction as Through}
 use Rattle.ktm_types.specs.declared.object.Object.{Object}
 use Rattle.ktm_types.specs.declared.object.Object.TheVariants.{Transaction as TransactionObject}
 use Rattle.ktm_types.specs.declared.object.Transaction.{Transaction}
 use Rattle.ktm_types.specs.declared.reply.Reply.TheVariants.{Refused}
 use Rattle.ktm_world.specs.Decide.{caller, command_effect, command_tests, of_keys, transacted, with_room}
-use Rattle.ktm_world.specs.Enlistments.{is_ended}
 use Rattle.ktm_world.specs.Files.{FilesNow}
 use Rattle.ktm_world.specs.KeyCalls.{KeyOutcome, kv_set_tests, kv_set, kv_unset_tests, kv_unset, kv_get_tests, kv_get, kv_list}
-use Rattle.ktm_world.specs.Labels.{id_of_named, invalid_handle, is_bound, transaction_named, transaction_tests, view_tests, viewer}
+use Rattle.ktm_world.specs.Labels.{holds_of, id_of_named, invalid_handle, is_bound, transaction_named, transaction_tests, view_tests, viewer}
 use Rattle.ktm_world.specs.Outcome.{Outcome, first_refusal, only_reply, refuse_or}
 use Rattle.ktm_world.specs.Present.{Present}
-use Rattle.ktm_world.specs.TransactionCalls.{bound_test, commit_transaction, create_transaction, create_transaction_tests, get_transaction_information, handle_test, may_roll_back, no_transaction_left, open_to_transaction, open_transaction, open_transaction_tests, opened_object, quota_test, rollback_transaction, rollback_transaction_tests, transaction_with}
-use Rattle.ktm_world.specs.HandleCalls.{close_handle, close_handle_tests, duplicate_handle, duplicate_handle_tests, exit}
+use Rattle.ktm_world.specs.TransactionCalls.{bound_test, commit_transaction, create_transaction, create_transaction_tests, get_transaction_information, handle_test, no_transaction_left, open_to_transaction, open_transaction, open_transaction_tests, opened_object, quota_test, rollback_transaction, rollback_transaction_tests, transaction_with}
+use Rattle.ktm_world.specs.HandleCalls.{duplicate_handle, duplicate_handle_tests}
 use Rattle.ktm_world.specs.Handles.{object_at}
+use Rattle.ktm_world.specs.Transactions.{is_active}
 use Rattle.txf_laws.proofs.offered.Elements.{not-not}
+use Rattle.ktm_built.proofs.offered.Named.{named_law}
 use Rattle.ktm_owned.proofs.offered.KeysKept.{not_refused}
-use Rattle.ktm_built.proofs.offered.Quiet.{rolls_before_end}
 use Rattle.ktm_memory.proofs.offered.Tests.{test_passes, test_refuses}
+use Rattle.ktm_memory.specs.Routed.{IsActiveCaller}
 use Rattle.ktm_route.specs.Route.{source_tests}
 use Rattle.ktm_world.specs.Uses.{key_room}
 use Rattle.kv_rm.specs.declared.call.KvCall.TheVariants.{Set, Unset, Get, List as Listing}
@@ -81,6 +82,24 @@ view_passed x process view label t is (named, passed) = (
 pub view_refused : (x : Present) (process : Pid) (view : View) (label : Label) (refusal : Refusal) → view ≡ Through label → first_refusal (transaction_tests (transaction_named x process label)) ≡ Some refusal
     → first_refusal (view_tests x process view) ≡ Some refusal
 view_refused x process view label refusal is tested = ap (λ v. first_refusal (view_tests x process v)) is ∙ tested
+
+-- a transaction that passes the tests is active
+pub passed_active : (t : Transaction) → first_refusal (transaction_tests (Some t)) ≡ None → is_active t ≡ true
+passed_active t passed = not-not (is_active t) (not_refused (transaction_tests (Some t)) passed (not (is_active t), TransactionNotActive) (inr (inr (inr (inl refl)))))
+
+-- so the one that a label names is an active caller
+pub active_named : (x : Present) (process : Pid) (label : Label) (t : Transaction) → transaction_named x process label ≡ Some t → first_refusal (transaction_tests (Some t)) ≡ None → IsActiveCaller x (Some t.id)
+active_named x process label t named passed =
+    ap (holds_of (λ u. not (is_active u))) (named_law.transactions x process label t named) ∙ ap not (passed_active t passed)
+
+-- and so is that of a view, if it is through one
+pub active_viewer : (x : Present) (process : Pid) (view : View) (who : Option Id) → first_refusal (view_tests x process view) ≡ None → viewer x process view ≡ who → IsActiveCaller x who
+active_viewer x process Plain who passed is = subst (IsActiveCaller x) is tt
+active_viewer x process (Through label) who passed is = subst (IsActiveCaller x) is (go (transaction_named x process label) refl passed)
+  where
+    go : (named : Option Transaction) → transaction_named x process label ≡ named → first_refusal (transaction_tests named) ≡ None → IsActiveCaller x (id_of_named named)
+    go None named none = absurd (cc)
+    go (Some t) named none = active_named x process label t named none
 
 -- ---- calls on keys
 
@@ -217,15 +236,6 @@ module _ (x : Present) (process : Pid) (up : x.machine.is_up ≡ true) where
     pub information_routed : (t : Transaction) → transaction_named x process label ≡ Some t → with_room x process (GetTransactionInformation label) ≡ get_transaction_information x (Some t)
     information_routed t named = tells (Some t) named
 
-    pub close_unbound : is_none (object_at x.handles process label) ≡ true → with_room x process (CloseHandle label) ≡ only_reply x (Refused InvalidHandle)
-    close_unbound none = up_or x (close_handle_tests x process label) (close_handle x process label) up ∙ test_refuses x (is_none (object_at x.handles process label)) InvalidHandle [] (close_handle x process label) none
-
-    pub close_routed : is_none (object_at x.handles process label) ≡ false → with_room x process (CloseHandle label) ≡ close_handle x process label
-    close_routed some = up_or x (close_handle_tests x process label) (close_handle x process label) up ∙ test_passes x (is_none (object_at x.handles process label)) InvalidHandle [] (close_handle x process label) some
-
-  pub exit_routed : with_room x process Exit ≡ exit x process
-  exit_routed = up_or x [] (exit x process) up
-
   module _ (label : Label) (from : Pid) (source : Label) where
     -- the tests of the handle come first
     duplicates : with_room x process (DuplicateHandle label from source)
@@ -255,11 +265,6 @@ module _ (x : Present) (process : Pid) (up : x.machine.is_up ≡ true) where
 pub source_named : (files : FilesNow) (named : Option Object) → first_refusal (source_tests files named) ≡ None → is_some named ≡ true
 source_named files None passed = absurd (cc)
 source_named files (Some object) passed = refl
-
--- a transaction that may be rolled back has not ended
-pub rollback_not_ended : (t : Transaction) → first_refusal (rollback_transaction_tests (Some t)) ≡ None → is_ended t.phase ≡ false
-rollback_not_ended t passed =
-    rolls_before_end t (not-not (may_roll_back t) (not_refused (rollback_transaction_tests (Some t)) passed (not (may_roll_back t), TransactionRequestNotValid) (inr (inr (inr (inl refl))))))
 
 -- a label that is not bound names nothing
 pub unbound_names : (named : Option Object) → is_some named ≡ false → named ≡ None

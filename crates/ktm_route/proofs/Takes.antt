@@ -53,7 +53,7 @@ found false None none = absurd (cc)
 
 module _ (x : Present) (process : Pid) (up : x.machine.is_up ≡ true) where
   -- a machine that is up goes by the early tests
-  by_tests : (command : Command) → takes_memory x process command ≡ (effect_takes_memory x process command && is_none (first_refusal (early_tests x process command)))
+  pub by_tests : (command : Command) → takes_memory x process command ≡ (effect_takes_memory x process command && is_none (first_refusal (early_tests x process command)))
   by_tests command = ap (λ u. effect_takes_memory x process command && is_none (cond (not u) (Some MachineDown) (first_refusal (early_tests x process command)))) up
 
   -- and where they refuse nothing, by what the command does

@@ -1,18 +1,22 @@
 -- What is asked, the call to which it is routed, and what it comes to.
-use Rattle.std.specs.Prelude.{◌≡◌, not, Bool, true, false, List, [], ◌∷◌, Option, Result, Ok, Err}
+use Rattle.std.specs.Prelude.{◌≡◌, ◌&&◌, not, Bool, true, false, List, [], ◌∷◌, Option, Some, None, Result, Ok, Err, is_some, if◌then◌else◌}
+use Rattle.ktm_base.specs.declared.id.Id.{Id}
 use Rattle.ktm_base.specs.declared.id.Pid.{Pid}
 use Rattle.ktm_base.specs.declared.refusal.Refusal.{Refusal}
-use Rattle.ktm_base.specs.declared.refusal.Refusal.TheVariants.{HandleNoLongerValid, MachineDown}
+use Rattle.ktm_base.specs.declared.refusal.Refusal.TheVariants.{HandleNoLongerValid, InvalidParameter, MachineDown, TransactionSuperiorExists}
 use Rattle.ktm_types.specs.declared.command.Command.{Command}
-use Rattle.ktm_types.specs.declared.command.Command.TheVariants.{CreateFile, CreateFileTransacted, ReadFile, WriteFile, SetEndOfFile, GetFileSizeEx, FlushFileBuffers, DeleteFile, CreateDirectory, RemoveDirectory, MoveFile, DeleteFileTransacted, CreateDirectoryTransacted, RemoveDirectoryTransacted, MoveFileTransacted, FindFiles, FindFilesTransacted}
+use Rattle.ktm_types.specs.declared.command.Command.TheVariants.{PrePrepareComplete, PrepareComplete, ReadOnlyEnlistment, SinglePhaseReject, CommitComplete, RollbackComplete, RollbackEnlistment, CreateFile, CreateFileTransacted, ReadFile, WriteFile, SetEndOfFile, GetFileSizeEx, FlushFileBuffers, DeleteFile, CreateDirectory, RemoveDirectory, MoveFile, DeleteFileTransacted, CreateDirectoryTransacted, RemoveDirectoryTransacted, MoveFileTransacted, FindFiles, FindFilesTransacted}
 use Rattle.ktm_types.specs.declared.object.Object.{Object}
+use Rattle.ktm_types.specs.declared.options.EnlistmentKind.{EnlistmentKind}
+use Rattle.ktm_world.specs.Enlistments.{Enlistment, is_durable_at, is_live_enlistment, superior_of}
 use Rattle.ktm_types.specs.declared.reply.Reply.TheVariants.{Refused}
 use Rattle.ktm_forms.specs.Built.{is_built_command}
 use Rattle.ktm_world.specs.Decide.{with_room}
 use Rattle.ktm_world.specs.Labels.{file_number, holds_of, invalid_handle, is_dead}
 use Rattle.ktm_world.specs.Outcome.{Outcome, first_refusal, only_reply, refuse_or, within_log}
-use Rattle.ktm_world.specs.Present.{Present}
-use Rattle.ktm_world.specs.TransactionCalls.{tick}
+use Rattle.ktm_world.specs.Present.{Present, Transactions}
+use Rattle.ktm_world.specs.TransactionCalls.{is_superior_kind, tick}
+use Rattle.ktm_world.specs.Transactions.{same_id}
 use Rattle.ktm_types.specs.Values.{IsCommand}
 use Rattle.ktm_world.specs.Files.{FilesNow}
 use Rattle.ktm_route.specs.declared.asked.Asked.{Asked}
@@ -60,6 +64,29 @@ is_on_path (RemoveDirectory path) = true
 is_on_path (MoveFile source target) = true
 is_on_path (FindFiles searched) = true
 is_on_path _ = false
+
+-- does an enlistment reply by the command
+abbrev pub is_reply : Command → Bool
+is_reply (PrePrepareComplete label) = true
+is_reply (PrepareComplete label) = true
+is_reply (ReadOnlyEnlistment label) = true
+is_reply (SinglePhaseReject label) = true
+is_reply (CommitComplete label) = true
+is_reply (RollbackComplete label) = true
+is_reply (RollbackEnlistment label) = true
+is_reply _ = false
+
+-- the tests on the kind of an enlistment: a superior wants a durable resource manager, and a transaction without a superior
+abbrev pub kind_tests : Present → Id → Id → EnlistmentKind → List (Bool × Refusal)
+kind_tests x manager transaction kind =
+    (is_superior_kind kind && not (is_durable_at x.managers manager), InvalidParameter)
+    ∷ (is_superior_kind kind && is_some (superior_of x.transactions.enlistments transaction), TransactionSuperiorExists)
+    ∷ []
+
+-- the Id of an enlistment that is one of this resource manager and live, if there is one
+abbrev pub live_of : Transactions → Id → Option Enlistment → Option Id
+live_of ts manager None = None
+live_of ts manager (Some e) = if same_id e.manager manager && is_live_enlistment ts.items e then Some e.id else None
 
 -- the tests on the handle that is duplicated
 abbrev pub source_tests : FilesNow → Option Object → List (Bool × Refusal)

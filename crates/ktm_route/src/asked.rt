@@ -1,5 +1,5 @@
 // Deciding what is asked.
-ghost use Rattle.std.specs.Prelude.{◌≡◌, true, false, [], IfOk, IsOk, OnErr};
+ghost use Rattle.std.specs.Prelude.{◌≡◌, ◌+◌, ◌≤◌, true, false, [], IfOk, IsOk, OnErr, is_some};
 ghost use Rattle.ktm_built.specs.Standing.{IsStandingNow};
 ghost use Rattle.ktm_event.specs.Kept.{Holds};
 ghost use Rattle.ktm_forms.specs.Built.{is_built_command};
@@ -7,6 +7,7 @@ ghost use Rattle.ktm_memory.specs.Decided.{DecidesIf};
 ghost use Rattle.ktm_memory.specs.Memory.{IsRoomy, held, present_of};
 ghost use Rattle.ktm_route.specs.Route.{IsBuiltAsked, asked_outcome};
 ghost use Rattle.ktm_route.specs.Takes.{asked_takes_memory, takes_memory};
+ghost use Rattle.ktm_slots.specs.Slots.{granted_in};
 ghost use Rattle.ktm_types.specs.Values.{IsCommand};
 ghost use Rattle.ktm_world.specs.Decide.{with_room};
 
@@ -41,6 +42,7 @@ fn decide_call(
     requires empty { Holds events.old [] }
     requires roomy { IsRoomy memory.old.journal events.old }
     ensures ok { IfOk result (λ d. DecidesIf (held memory.old) (with_room (present_of memory.old) process command) d events.new memory.new) }
+    ensures slots { IfOk result (λ d. is_some d ≡ true → memory.old.tm.slots + granted_in (present_of memory.old) (with_room (present_of memory.old) process command) ≤ memory.new.tm.slots) }
     ensures room { events.new.room ≡ events.old.room }
     ensures no_memory { OnErr result (held memory.new ≡ held memory.old) }
     ensures enough { takes_memory (present_of memory.old) process command ≡ false → IsOk result }
@@ -65,6 +67,7 @@ pub fn decide(
     requires empty { Holds events.old [] }
     requires roomy { IsRoomy memory.old.journal events.old }
     ensures ok { IfOk result (λ d. DecidesIf (held memory.old) (asked_outcome (present_of memory.old) asked) d events.new memory.new) }
+    ensures slots { IfOk result (λ d. is_some d ≡ true → memory.old.tm.slots + granted_in (present_of memory.old) (asked_outcome (present_of memory.old) asked) ≤ memory.new.tm.slots) }
     ensures room { events.new.room ≡ events.old.room }
     ensures no_memory { OnErr result (held memory.new ≡ held memory.old) }
     ensures enough { asked_takes_memory (present_of memory.old) asked ≡ false → IsOk result }

@@ -1,18 +1,22 @@
 // What labels name, with the tests of their handles.
-ghost use Rattle.std.specs.Prelude.{◌≡◌, ◌∷◌, [], Some, None, IfOk, IfErr};
+ghost use Rattle.std.specs.Prelude.{◌≡◌, ◌∷◌, ◌&&◌, [], Some, None, IfOk, IfErr};
+ghost use Rattle.std.specs.Option.{option_and_then, option_copied, option_map};
 ghost use Rattle.ktm_base.specs.declared.refusal.Refusal.TheVariants.{HandleNoLongerValid};
 ghost use Rattle.ktm_built.specs.Standing.{IsStandingNow};
 ghost use Rattle.ktm_memory.specs.Memory.{present_of};
-ghost use Rattle.ktm_route.specs.Route.{source_tests};
+ghost use Rattle.ktm_route.specs.Route.{live_of, source_tests};
 ghost use Rattle.ktm_world.specs.Handles.{object_at, transaction_id};
-ghost use Rattle.ktm_world.specs.Labels.{file_named, file_number, file_tests, is_dead, is_suspended, transaction_named, transaction_tests, view_tests, viewer};
+ghost use Rattle.ktm_world.specs.Enlistments.{Manager as OfManagers, enlistment_at, is_live_enlistment, manager_at};
+ghost use Rattle.ktm_world.specs.Labels.{enlistment_id, enlistment_named, file_named, file_number, file_tests, is_dead, is_suspended, manager_id, manager_named, transaction_named, transaction_tests, view_tests, viewer};
 ghost use Rattle.ktm_world.specs.Outcome.{first_refusal};
-ghost use Rattle.ktm_world.specs.TransactionCalls.{transaction_with};
+ghost use Rattle.ktm_world.specs.TransactionCalls.{enlistment_with, manager_with, transaction_with};
+ghost use Rattle.ktm_world.specs.Transactions.{same_id};
 ghost use Rattle.txf_opens.specs.Acts.{open_of};
 ghost use Rattle.txf_volume.specs.Held.{files_of};
 
 use ktm_base::{Id, Label, ObjectKind, Pid, Refusal, id_of};
 use ktm_memory::Memory;
+use ktm_phase::Enlistment;
 use ktm_tm::{active_refusal, is_active};
 use ktm_types::{Object, Transaction, View};
 use txf_calls::OpenFile;
@@ -25,6 +29,28 @@ fn transaction_id(object: Option<Object>) -> Option<Id>
     match object {
         Some(Object::Transaction(id)) => Some(id),
         Some(Object::Manager(_)) | Some(Object::Enlistment(_)) | Some(Object::File(_)) => None,
+        None => None,
+    }
+}
+
+// The resource manager among the objects.
+fn manager_id(object: Option<Object>) -> Option<Id>
+    ensures { result ≡ manager_id object }
+{
+    match object {
+        Some(Object::Manager(id)) => Some(id),
+        Some(Object::Transaction(_)) | Some(Object::Enlistment(_)) | Some(Object::File(_)) => None,
+        None => None,
+    }
+}
+
+// The enlistment among the objects.
+fn enlistment_id(object: Option<Object>) -> Option<Id>
+    ensures { result ≡ enlistment_id object }
+{
+    match object {
+        Some(Object::Enlistment(id)) => Some(id),
+        Some(Object::Transaction(_)) | Some(Object::Manager(_)) | Some(Object::File(_)) => None,
         None => None,
     }
 }
@@ -55,6 +81,33 @@ pub(crate) fn named(memory: &Memory, process: Pid, label: Label) -> Option<Trans
 {
     let id = transaction_id(object_at(memory, process, label))?;
     memory.tm().find(id)
+}
+
+// The resource manager with an Id, if that is of one.
+fn manager_there(memory: &Memory, found: Option<Id>) -> Option<Id>
+    ensures { result ≡ option_map (λ m. m.id) (option_and_then (manager_at (present_of memory.now).managers) found) }
+{
+    let id = found?;
+    if memory.tm().has_manager(id) {
+        Some(id)
+    } else {
+        None
+    }
+}
+
+// The resource manager that a label of a process names.
+pub(crate) fn manager_named(memory: &Memory, process: Pid, label: Label) -> Option<Id>
+    ensures { result ≡ option_map (λ m. m.id) (manager_named (present_of memory.now) process label) }
+{
+    manager_there(memory, manager_id(object_at(memory, process, label)))
+}
+
+// The enlistment that a label of a process names.
+pub(crate) fn enlistment_named(memory: &Memory, process: Pid, label: Label) -> Option<&Enlistment>
+    ensures { option_copied result ≡ enlistment_named (present_of memory.now) process label }
+{
+    let id = enlistment_id(object_at(memory, process, label))?;
+    memory.tm().enlistment(id)
 }
 
 // The active transaction that a label names, or why there is none.
@@ -149,4 +202,52 @@ pub(crate) fn with_guid(memory: &Memory, guid: &Uuid) -> Option<Transaction>
         return None;
     };
     memory.tm().find_live(id)
+}
+
+// The resource manager with a GUID.
+pub(crate) fn manager_with_guid(memory: &Memory, guid: &Uuid) -> Option<Id>
+    requires { IsStandingNow (present_of memory.now) }
+    ensures { result ≡ option_map (λ m. m.id) (manager_with (present_of memory.now) guid.now) }
+{
+    manager_there(
+        memory,
+        id_of(ObjectKind::Manager, memory.journal().image(), guid),
+    )
+}
+
+// Is the enlistment one of the resource manager, and live.
+fn is_live_of(memory: &Memory, manager: Id, e: &Enlistment) -> bool
+    ensures { result ≡ (same_id e.now.manager manager && is_live_enlistment (present_of memory.now).transactions.items e.now) }
+{
+    if e.manager != manager {
+        return false;
+    }
+    match memory.tm().find_live(e.transaction) {
+        Some(t) => e.is_live(&t),
+        None => false,
+    }
+}
+
+// The enlistment with an Id, if that is of one of the resource manager, which is live.
+fn enlistment_there(memory: &Memory, manager: Id, found: Option<Id>) -> Option<Id>
+    ensures { result ≡ option_and_then (λ id. live_of (present_of memory.now).transactions manager (enlistment_at (present_of memory.now).transactions.enlistments id)) found }
+{
+    let e = memory.tm().enlistment(found?)?;
+    if is_live_of(memory, manager, e) {
+        Some(e.id)
+    } else {
+        None
+    }
+}
+
+// The live enlistment of the resource manager with a GUID.
+pub(crate) fn enlistment_with_guid(memory: &Memory, manager: Id, guid: &Uuid) -> Option<Id>
+    requires { IsStandingNow (present_of memory.now) }
+    ensures { (m : OfManagers) → m.id ≡ manager → result ≡ option_map (λ e. e.id) (enlistment_with (present_of memory.now) (Some m) guid.now) }
+{
+    enlistment_there(
+        memory,
+        manager,
+        id_of(ObjectKind::Enlistment, memory.journal().image(), guid),
+    )
 }

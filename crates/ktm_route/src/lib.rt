@@ -3,8 +3,10 @@
 #![tactic(auto)]
 
 mod asked;
+mod enlistment_routes;
 mod file_routes;
 mod labels;
+mod manager_routes;
 mod route;
 mod transaction_routes;
 

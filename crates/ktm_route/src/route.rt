@@ -7,8 +7,12 @@ ghost use Rattle.ktm_types.specs.Values.{IsCommand};
 ghost use Rattle.ktm_types.specs.declared.command.Command.TheVariants.{CloseHandle, CommitTransaction, CreateTransaction, DuplicateHandle, GetTransactionInformation, OpenTransaction, RollbackTransaction};
 ghost use Rattle.ktm_forms.specs.Built.{is_built_command};
 
+use crate::enlistment_routes::{
+    route_reply, to_be_told, to_enlist, to_inform, to_open_enlistment, to_recover,
+};
 use crate::file_routes::{route_open, route_path, route_transacted};
 use crate::labels::{active, viewer};
+use crate::manager_routes::{to_make_manager, to_open_manager, to_recover_manager, to_take};
 use crate::transaction_routes::{
     to_close, to_commit, to_create, to_duplicate, to_open, to_roll_back, to_tell,
 };
@@ -44,6 +48,42 @@ pub(crate) fn route(memory: &Memory, process: Pid, command: Command) -> Result<R
             source,
         } => to_duplicate(memory, process, label, from, source),
         Command::Exit => Ok(Routed::Handles(Labels::UnbindAll)),
+        Command::CreateResourceManager { label, durability } => {
+            to_make_manager(memory, process, label, durability)
+        }
+        Command::OpenResourceManager { label, guid } => {
+            to_open_manager(memory, process, label, &guid)
+        }
+        Command::RecoverResourceManager { manager } => {
+            to_recover_manager(memory, process, manager)
+        }
+        Command::GetNotificationResourceManager { manager } => to_take(memory, process, manager),
+        Command::CreateEnlistment {
+            label,
+            manager,
+            transaction,
+            kind,
+        } => to_enlist(memory, process, label, manager, transaction, kind),
+        Command::OpenEnlistment {
+            label,
+            manager,
+            guid,
+        } => to_open_enlistment(memory, process, label, manager, &guid),
+        Command::RecoverEnlistment { enlistment } => to_recover(memory, process, enlistment),
+        Command::SetEnlistmentRecoveryInformation {
+            enlistment,
+            information,
+        } => to_inform(memory, process, enlistment, information),
+        Command::GetEnlistmentRecoveryInformation { enlistment } => {
+            to_be_told(memory, process, enlistment)
+        }
+        Command::PrePrepareComplete { .. }
+        | Command::PrepareComplete { .. }
+        | Command::ReadOnlyEnlistment { .. }
+        | Command::CommitComplete { .. }
+        | Command::RollbackComplete { .. }
+        | Command::SinglePhaseReject { .. }
+        | Command::RollbackEnlistment { .. } => route_reply(memory, process, command),
         Command::KvSet {
             transaction,
             key,

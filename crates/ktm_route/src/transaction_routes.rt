@@ -4,14 +4,15 @@ ghost use Rattle.ktm_base.specs.declared.refusal.Refusal.TheVariants.{InvalidPar
 ghost use Rattle.ktm_built.specs.Standing.{IsStandingNow};
 ghost use Rattle.ktm_memory.specs.Memory.{present_of};
 ghost use Rattle.ktm_route.specs.Route.{Routes};
+ghost use Rattle.ktm_types.specs.Values.{IsCommand};
 ghost use Rattle.ktm_types.specs.declared.command.Command.TheVariants.{CloseHandle, CommitTransaction, CreateTransaction, DuplicateHandle, GetTransactionInformation, OpenTransaction, RollbackTransaction};
 
 use crate::labels::{active, named, object_at, source_refusal, with_guid};
 use ktm_base::{Label, Pid, Refusal};
-use ktm_built::law_of_files;
+use ktm_built::{law_of_files, law_of_spelled};
 use ktm_memory::{Labels, Memory, Routed};
 use ktm_tm::rollback_refusal;
-use ktm_types::Object;
+use ktm_types::{Object, PhaseInput};
 use uuid::Uuid;
 
 // CreateTransaction, whose label is not bound.
@@ -79,15 +80,23 @@ pub(crate) fn to_duplicate(
 
 // RollbackTransaction, of a transaction that may be rolled back.
 pub(crate) fn to_roll_back(memory: &Memory, process: Pid, label: Label) -> Result<Routed, Refusal>
-    requires { memory.now.is_up ≡ true }
+    requires up { memory.now.is_up ≡ true }
+    requires command { IsCommand (RollbackTransaction label) }
+    requires standing { IsStandingNow (present_of memory.now) }
     ensures { Routes (present_of memory.now) process (RollbackTransaction label) result }
 {
+    law_of_spelled();
+    law_of_files();
     let Some(t) = named(memory, process, label) else {
         return Err(Refusal::InvalidHandle);
     };
     match rollback_refusal(&t) {
         Some(refusal) => Err(refusal),
-        None => Ok(Routed::Rollback(t)),
+        None => Ok(Routed::Course {
+            transaction: t,
+            caller: None,
+            input: PhaseInput::Rollback,
+        }),
     }
 }
 
@@ -116,12 +125,18 @@ pub(crate) fn to_close(memory: &Memory, process: Pid, label: Label) -> Result<Ro
 // CommitTransaction, of an active transaction.
 pub(crate) fn to_commit(memory: &Memory, process: Pid, label: Label) -> Result<Routed, Refusal>
     requires up { memory.now.is_up ≡ true }
+    requires command { IsCommand (CommitTransaction label) }
     requires standing { IsStandingNow (present_of memory.now) }
     ensures { Routes (present_of memory.now) process (CommitTransaction label) result }
 {
+    law_of_spelled();
     law_of_files();
     match active(memory, process, label) {
-        Ok(t) => Ok(Routed::Commit(t)),
+        Ok(t) => Ok(Routed::Course {
+            transaction: t,
+            caller: None,
+            input: PhaseInput::CommitTransaction,
+        }),
         Err(refusal) => Err(refusal),
     }
 }

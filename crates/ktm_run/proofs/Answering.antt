@@ -16,7 +16,7 @@ use Rattle.ktm_kernel.specs.Stands.{KernelState, StandsBy, KernelAt, FoundAt, Do
 use Rattle.ktm_kernel.proofs.Left.{left_law}
 use Rattle.ktm_kernel.proofs.StartAgain.{found_law}
 use Rattle.ktm_run.proofs.Counting.{RoseBy-none}
-use Rattle.ktm_run.specs.Plan.{plan_of, falls_of, RoseBy}
+use Rattle.ktm_run.specs.Plan.{calls_of, plan_of, falls_of, RoseBy}
 use Rattle.ktm_log.specs.OnDisk.{OnDisk, on}
 use Rattle.ktm_run.specs.Progress.{Counts, Answers, Unanswered}
 use Rattle.ktm_run.specs.Script.{Means}
@@ -26,8 +26,10 @@ use Rattle.ktm_types.specs.declared.command.Line.TheVariants.{Crash, Restart, Pr
 use Rattle.ktm_types.specs.declared.reply.Reply.{Reply}
 use Rattle.ktm_types.specs.declared.reply.Reply.TheVariants.{Refused, Done}
 use Rattle.ktm_world.specs.Present.{Present}
-use Rattle.ktm_world.specs.Transcript.{Step, answered, interrupted, found, full, CrashDoes, StartDoes, RestartDoes, Does}
-use Rattle.ktm_world.specs.World.{World, present, interrupted_restart}
+use Rattle.ktm_world.specs.Transcript.{Step, answered, interrupted, found, full, CallDoes, CrashDoes, StartDoes, RestartDoes, Does}
+use Rattle.ktm_world.specs.Decide.{decide}
+use Rattle.ktm_world.specs.Outcome.{Outcome}
+use Rattle.ktm_world.specs.World.{World, decide_tick, present, interrupted_restart}
 use Rattle.ktm_world.specs.Logs.{is_up}
 
 -- what is so now of a machine that stands for a world
@@ -58,59 +60,46 @@ quiet k n before now a b same = counted k n before now a b 0 [] 0
     (ap (λ s. s.plan) same ∙ sym (append-nil a.plan))
     (let is = ap (λ s. s.calls) same in omega arith)
 
--- ---- a call of a process
+-- ---- a line that is decided: a call of a process, or the passing of time
 
--- the power went in a call only where the count of downs rose
-call_rose : (k : KernelState) (told : Option DiskState) (w new : World) (a b : DiskStatus) (process : Pid) (command : Command) (step : Step) (reply : Reply)
-    → KernelAt k told w → Does w (Some (Process process command)) step reply new → (reply ≡ Refused MachineDown → (k.now.machine.is_up ≡ false) ⊎ Rose a.downs b.downs) → a.downs ≤ b.downs
-    → RoseBy (falls_of (Some (Process process command)) step reply) a.downs b.downs
-call_rose k told w new a b process command answered reply at does cause later = RoseBy-none a.downs b.downs later
-call_rose k told w new a b process command interrupted reply at (on, says, is) cause later = elim (cause says) [
-  | inl off ↦ let wrong : true ≡ false = sym on ∙ off_of k told w off at in absurd (cc)
-  | inr rose ↦ rose
-]
-call_rose k told w new a b process command (found log) reply at none cause later = absurd none
-call_rose k told w new a b process command (full log) reply at none cause later = absurd none
+-- a line that comes to an outcome plans nothing, records with few device calls, and takes the disk down only where the power goes in it
+pub record IsDecided (line : Option Line) (o : World → Outcome) (reply : Reply) : Type 0 where
+  pub does : (w new : World) (step : Step) → Does w line step reply new → CallDoes w (o w) step reply new
+  pub plan : plan_of line reply ≡ []
+  pub few : (units : ℕ) → calls_of units line ≡ 4
+  pub stays : falls_of line answered reply ≡ 0
+  pub falls : falls_of line interrupted reply ≡ 1
 
-pub called : (k n : KernelState) (before now : Option DiskState) (a b : DiskStatus) (process : Pid) (command : Command) (reply : Reply)
-    → ((w : World) → KernelAt k before w → DoesLine w (Some (Process process command)) reply n now)
-    → (reply ≡ Refused MachineDown → (k.now.machine.is_up ≡ false) ⊎ Rose a.downs b.downs) → DeviceCalls 4 a b b.is_down
-    → Answers (on k before a) (on n now b) (Some (Process process command)) reply
-called k n before now a b process command reply does cause calls = λ w at.
-    let (step, new, done, stands) = does w at in record {
-      step = step;
-      world = new;
-      does = done;
-      stands = stands;
-      counts = counted k n before now a b 4 [] (falls_of (Some (Process process command)) step reply)
-          (call_rose k before w new a b process command step reply at done cause calls.later)
-          (calls.plan ∙ sym (append-nil a.plan))
-          calls.few;
-    }
+pub is_call : (process : Pid) (command : Command) (reply : Reply) → IsDecided (Some (Process process command)) (λ w. decide (present w) process command) reply
+is_call process command reply = record { does = λ w new step does. does; plan = refl; few = λ units. refl; stays = refl; falls = refl }
 
--- ---- the passing of time
+pub is_tick : (ms : ℕ) (reply : Reply) → IsDecided (Some (Tick ms)) (λ w. decide_tick (present w) ms) reply
+is_tick ms reply = record { does = λ w new step does. does; plan = refl; few = λ units. refl; stays = refl; falls = refl }
 
--- it makes no call of the disk, and so the power does not go in it
-tick_counts : (k n : KernelState) (before now : Option DiskState) (w new : World) (a b : DiskStatus) (ms : ℕ) (step : Step) (reply : Reply)
-    → KernelAt k before w → Does w (Some (Tick ms)) step reply new → (reply ≡ Refused MachineDown → k.now.machine.is_up ≡ false) → b ≡ a
-    → Counts (on k before a) (on n now b) 0 [] (falls_of (Some (Tick ms)) step reply)
-tick_counts k n before now w new a b ms answered reply at does cause same = quiet k n before now a b same
-tick_counts k n before now w new a b ms interrupted reply at (on, says, is) cause same = let wrong : true ≡ false = sym on ∙ off_of k before w (cause says) at in absurd (cc)
-tick_counts k n before now w new a b ms (found log) reply at none cause same = absurd none
-tick_counts k n before now w new a b ms (full log) reply at none cause same = absurd none
+module _ (line : Option Line) (o : World → Outcome) (reply : Reply) (is : IsDecided line o reply) (k n : KernelState) (before now : Option DiskState) (a b : DiskStatus)
+    (cause : reply ≡ Refused MachineDown → (k.now.machine.is_up ≡ false) ⊎ Rose a.downs b.downs) (calls : DeviceCalls 4 a b b.is_down) where
+  -- the power went in it only where the count of downs rose
+  decided_rose : (w new : World) (step : Step) → KernelAt k before w → CallDoes w (o w) step reply new → RoseBy (falls_of line step reply) a.downs b.downs
+  decided_rose w new answered at does = subst (λ fell. RoseBy fell a.downs b.downs) (sym is.stays) (RoseBy-none a.downs b.downs calls.later)
+  decided_rose w new interrupted at (on, says, new_is) = elim (cause says) [
+    | inl off ↦ let wrong : true ≡ false = sym on ∙ off_of k before w off at in absurd (cc)
+    | inr rose ↦ subst (λ fell. RoseBy fell a.downs b.downs) (sym is.falls) rose
+  ]
+  decided_rose w new (found log) at never = absurd never
+  decided_rose w new (full log) at never = absurd never
 
-pub ticked : (k n : KernelState) (before now : Option DiskState) (a b : DiskStatus) (ms : ℕ) (reply : Reply)
-    → ((w : World) → KernelAt k before w → DoesLine w (Some (Tick ms)) reply n now)
-    → (reply ≡ Refused MachineDown → k.now.machine.is_up ≡ false) → b ≡ a
-    → Answers (on k before a) (on n now b) (Some (Tick ms)) reply
-ticked k n before now a b ms reply does cause same = λ w at.
-    let (step, new, done, stands) = does w at in record {
-      step = step;
-      world = new;
-      does = done;
-      stands = stands;
-      counts = tick_counts k n before now w new a b ms step reply at done cause same;
-    }
+  pub decided : ((w : World) → KernelAt k before w → DoesLine w line reply n now) → Answers (on k before a) (on n now b) line reply
+  decided does = λ w at.
+      let (step, new, done, stands) = does w at in record {
+        step = step;
+        world = new;
+        does = done;
+        stands = stands;
+        counts = counted k n before now a b (calls_of w.base.units line) (plan_of line reply) (falls_of line step reply)
+            (decided_rose w new step at (is.does w new step done))
+            (calls.plan ∙ sym (append-nil a.plan) ∙ ap (λ (p : List PowerCall). a.plan ++ p) (sym is.plan))
+            (subst (λ most. b.calls ≤ a.calls + most) (sym (is.few w.base.units)) calls.few);
+      }
 
 -- a line that changed nothing
 pub not_executed : (k n : KernelState) (before now : Option DiskState) (a b : DiskStatus) (line : List ℕ) → now ≡ before → b ≡ a → (w : World) → KernelAt k before w

@@ -1,2 +1,7 @@
-pub mod LiveNumbers
-pub mod Numbers
+mod Carrying
+mod Keeping
+mod LiveNumbers
+mod Next
+mod Numbers
+mod OnCourse
+mod Recovering

@@ -1,4 +1,4 @@
--- The numbers of the live transactions, which rise.
+-- The places of the live transactions, which rise.
 use Rattle.std.proofs.Common.{◌≡◌, ℕ, ◌+◌, ◌-◌, ◌<◌, ◌≤◌, ◌==◌, ◌&&◌, zero, suc, Bool, true, false, List, [], ◌∷◌, ◌++◌, length, get_or, set, nat_lt, map, Some, None, refl, sym, ◌∙◌, ap, arith, subst, nat_cmp, lt-ltb, ltb-false, ltb-true, eq-eqb, ne_eqb}
 use Rattle.std.proofs.lemmas.List.{length-map, map-append}
 use Rattle.std.specs.Prelude.{count_by, if◌then◌else◌, Ok, Err, filter, find, option_and_then, option_map, slice_get, Option}
@@ -12,8 +12,7 @@ use Rattle.std.proofs.lemmas.Bool.{and_parts, and_right, eqb-true}
 use Rattle.ktm_base.specs.declared.id.Id.{Id}
 use Rattle.ktm_types.specs.declared.object.Transaction.{Transaction}
 use Rattle.ktm_world.specs.Transactions.{is_live, same_id, transaction_at}
-use Rattle.ktm_tm.specs.TmState.{AreNumbered, IsAbsent, IsPlace, IsRising, if_live, live_numbers, with_number}
-use Rattle.ktm_tm.proofs.Numbers.{absent_from}
+use Rattle.ktm_tm.specs.Listed.{IsRising, live_places, with_number}
 
 -- ---- numbers that rise
 
@@ -73,65 +72,70 @@ missing ns read n i is_in same rising result =
     let at = searched ns n (Err i) (subst (λ (ns : List ℕ). IsBinarySearchResult (λ y. nat_cmp y n) ns (Err i)) same result) (sorted ns 0 rising) in
     (at.0, free ns n i is_in at.0 at.1 at.2)
 
--- ---- the numbers of live transactions
+-- ---- the places of live transactions
 
-rising_head : (b : Bool) (t : Transaction) (live : List Transaction) (before : ℕ) → t.id.number ≡ before + 1 → IsRising (before + 1) (map (λ t. t.id.number) live) → IsRising before (map (λ t. t.id.number) (if b then t ∷ live else live))
-rising_head true t live before is rest = (omega (arith, is), below (map (λ t. t.id.number) live) t.id.number (before + 1) (omega (arith, is)) rest)
-rising_head false t live before is rest = below (map (λ t. t.id.number) live) before (before + 1) (omega arith) rest
+rising_from : (b : Bool) (ns : List ℕ) (before : ℕ) → IsRising (before + 1) ns → IsRising before (if b then (before + 1) ∷ ns else ns)
+rising_from true ns before rest = (omega arith, rest)
+rising_from false ns before rest = below ns before (before + 1) (omega arith) rest
 
 -- they rise
-pub rising : (ts : List Transaction) (boot before : ℕ) → AreNumbered boot before ts → IsRising before (live_numbers ts)
-rising [] boot before numbered = tt
-rising (t ∷ ts) boot before numbered = rising_head (is_live t) t (filter is_live ts) before (ap (λ i. i.number) numbered.0) (rising ts boot (before + 1) numbered.1)
+pub rising : (ts : List Transaction) (before : ℕ) → IsRising before (live_places before ts)
+rising [] before = tt
+rising (t ∷ ts) before = rising_from (is_live t) (live_places (before + 1) ts) before (rising ts (before + 1))
 
 -- a number before all others is put before them
 first : (ns : List ℕ) (n : ℕ) (is_in : Bool) → IsRising n ns → with_number ns n is_in ≡ (if is_in then n ∷ ns else ns)
-first [] n is_in rising = refl
-first (m ∷ ms) n is_in rising = rw (past m n (omega (arith, rising.0)), ne_eqb m n (λ e. omega (arith, e, rising.0))) refl
+first [] n is_in rises = refl
+first (m ∷ ms) n is_in rises = rw (past m n (omega (arith, rises.0)), ne_eqb m n (λ e. omega (arith, e, rises.0))) refl
 
-set_first : (xs : List Transaction) (x t : Transaction) (was is : Bool) → x.id.number ≡ t.id.number → IsRising t.id.number (live_numbers xs)
-    → map (λ t. t.id.number) (if is then t ∷ filter is_live xs else filter is_live xs) ≡ with_number (map (λ t. t.id.number) (if was then x ∷ filter is_live xs else filter is_live xs)) t.id.number is
-set_first xs x t true true same rises = rw (past x.id.number t.id.number (omega (arith, same)), eq-eqb x.id.number t.id.number same) (ap (λ n. n ∷ live_numbers xs) (sym same))
-set_first xs x t true false same rises = rw (past x.id.number t.id.number (omega (arith, same)), eq-eqb x.id.number t.id.number same) refl
-set_first xs x t false true same rises = sym (first (live_numbers xs) t.id.number true rises)
-set_first xs x t false false same rises = sym (first (live_numbers xs) t.id.number false rises)
+set_first : (ns : List ℕ) (n : ℕ) (was is : Bool) → IsRising n ns → (if is then n ∷ ns else ns) ≡ with_number (if was then n ∷ ns else ns) n is
+set_first ns n true true rises = rw (past n n (omega arith), eq-eqb n n refl) refl
+set_first ns n true false rises = rw (past n n (omega arith), eq-eqb n n refl) refl
+set_first ns n false true rises = sym (first ns n true rises)
+set_first ns n false false rises = sym (first ns n false rises)
 
-set_later : (b : Bool) (x : Transaction) (live live' : List Transaction) (n : ℕ) (is : Bool) → x.id.number < n → map (λ t. t.id.number) live' ≡ with_number (map (λ t. t.id.number) live) n is
-    → map (λ t. t.id.number) (if b then x ∷ live' else live') ≡ with_number (map (λ t. t.id.number) (if b then x ∷ live else live)) n is
-set_later true x live live' n is low rest = rw (lt-ltb x.id.number n low) (ap (λ l. x.id.number ∷ l) rest)
-set_later false x live live' n is low rest = rest
+set_later : (b : Bool) (m n : ℕ) (ns ns' : List ℕ) (is : Bool) → m < n → ns' ≡ with_number ns n is → (if b then m ∷ ns' else ns') ≡ with_number (if b then m ∷ ns else ns) n is
+set_later true m n ns ns' is low rest = rw (lt-ltb m n low) (ap (λ l. m ∷ l) rest)
+set_later false m n ns ns' is low rest = rest
 
--- one transaction changes, and keeps its number
-numbers_set : (ts : List Transaction) (boot before i : ℕ) (t : Transaction) → AreNumbered boot before ts → i < length ts → t.id.number ≡ before + 1 + i → live_numbers (set ts i t) ≡ with_number (live_numbers ts) t.id.number (is_live t)
-numbers_set [] boot before i t numbered within is = absurd (omega (arith, within))
-numbers_set (x ∷ xs) boot before zero t numbered within is =
-    let number : x.id.number ≡ before + 1 = ap (λ i. i.number) numbered.0 in
-    set_first xs x t (is_live x) (is_live t) (omega (arith, number, is)) (below (live_numbers xs) t.id.number (before + 1) (omega (arith, is)) (rising xs boot (before + 1) numbered.1))
-numbers_set (x ∷ xs) boot before (suc i) t numbered within is =
-    let number : x.id.number ≡ before + 1 = ap (λ i. i.number) numbered.0 in
-    set_later (is_live x) x (filter is_live xs) (filter is_live (set xs i t)) t.id.number (is_live t) (omega (arith, number, is))
-    (numbers_set xs boot (before + 1) i t numbered.1 (omega (arith, within)) (omega (arith, is)))
+-- one transaction changes
+places_set : (ts : List Transaction) (before i n : ℕ) (t : Transaction) → i < length ts → n ≡ before + 1 + i → live_places before (set ts i t) ≡ with_number (live_places before ts) n (is_live t)
+places_set [] before i n t within is = absurd (omega (arith, within))
+places_set (x ∷ xs) before zero n t within is =
+    let at : n ≡ before + 1 = omega (arith, is) in
+    rw at (set_first (live_places (before + 1) xs) (before + 1) (is_live x) (is_live t) (rising xs (before + 1)))
+places_set (x ∷ xs) before (suc i) n t within is =
+    set_later (is_live x) (before + 1) n (live_places (before + 1) xs) (live_places (before + 1) (set xs i t)) (is_live t) (omega (arith, is))
+    (places_set xs (before + 1) i n t (omega (arith, within)) (omega (arith, is)))
 
-number_at : (ts : List Transaction) (boot before i : ℕ) (d : Transaction) → AreNumbered boot before ts → i < length ts → (get_or ts i d).id.number ≡ before + 1 + i
-number_at [] boot before i d numbered within = absurd (omega (arith, within))
-number_at (t ∷ ts) boot before zero d numbered within = omega (arith, ap (λ i. i.number) numbered.0)
-number_at (t ∷ ts) boot before (suc i) d numbered within = omega (arith, number_at ts boot (before + 1) i d numbered.1 (omega (arith, within)))
+-- of the places as they are kept
+pub arrived : (ts : List Transaction) (i : ℕ) (t : Transaction) (numbers : List ℕ) → numbers ≡ live_places 0 ts → i < length ts → with_number numbers (i + 1) (is_live t) ≡ live_places 0 (set ts i t)
+arrived ts i t numbers are within = rw are (sym (places_set ts 0 i (i + 1) t within (omega arith)))
 
--- the same, of one that was found by its Id, and of the numbers as they are kept
-pub arrived : (ts : List Transaction) (boot i : ℕ) (t : Transaction) (numbers : List ℕ) → AreNumbered boot 0 ts → numbers ≡ live_numbers ts → IsPlace ts t.id i → with_number numbers t.id.number (is_live t) ≡ live_numbers (set ts i t)
-arrived ts boot i t numbers numbered are place =
-    rw are (sym (numbers_set ts boot 0 i t numbered place.within (ap (λ i. i.number) (sym (place.named t)) ∙ number_at ts boot 0 i t numbered place.within)))
+push_later : (b : Bool) (n : ℕ) (ns ns' more : List ℕ) → ns' ≡ ns ++ more → (if b then n ∷ ns' else ns') ≡ (if b then n ∷ ns else ns) ++ more
+push_later true n ns ns' more is = ap (λ l. n ∷ l) is
+push_later false n ns ns' more is = is
 
--- one more, which is live
-pub numbers_push : (ts : List Transaction) (t : Transaction) → is_live t ≡ true → live_numbers (ts ++ t ∷ []) ≡ live_numbers ts ++ t.id.number ∷ []
-numbers_push ts t live = ap (map (λ t. t.id.number)) (filter-append is_live ts (t ∷ [])) ∙ map-append (λ t. t.id.number) (filter is_live ts) (filter is_live (t ∷ [])) ∙ rw live refl
+-- one more
+pub places_push : (ts : List Transaction) (before n : ℕ) (t : Transaction) → n ≡ before + length ts + 1 → live_places before (ts ++ t ∷ []) ≡ live_places before ts ++ (if is_live t then n ∷ [] else [])
+places_push [] before n t is = ap (λ (m : ℕ). if is_live t then m ∷ [] else []) (omega (arith, is))
+places_push (x ∷ xs) before n t is =
+    push_later (is_live x) (before + 1) (live_places (before + 1) xs) (live_places (before + 1) (xs ++ t ∷ [])) _ (places_push xs (before + 1) n t (omega (arith, is)))
+
+one_live : (b : Bool) (n : ℕ) (ns : List ℕ) (ts : List Transaction) (t : Transaction) → is_live t ≡ b → length ns ≡ length (filter is_live ts) → length (if b then n ∷ ns else ns) ≡ length (filter is_live (t ∷ ts))
+one_live true n ns ts t is same = rw is (ap suc same)
+one_live false n ns ts t is same = rw is same
+
+as_many : (ts : List Transaction) (before : ℕ) → length (live_places before ts) ≡ length (filter is_live ts)
+as_many [] before = refl
+as_many (t ∷ ts) before = one_live (is_live t) (before + 1) (live_places (before + 1) ts) ts t refl (as_many ts (before + 1))
 
 -- how many there are
-pub live_count : (ts : List Transaction) → length (live_numbers ts) ≡ count_by is_live ts
-live_count ts = length-map (filter is_live ts) (λ t. t.id.number) ∙ length-filter is_live ts
+pub live_count : (ts : List Transaction) (before : ℕ) → length (live_places before ts) ≡ count_by is_live ts
+live_count ts before = as_many ts before ∙ length-filter is_live ts
 
-pub live_within : (ts : List Transaction) → length (live_numbers ts) ≤ length ts
-live_within ts = rw (live_count ts) (count_by-le-length is_live ts)
+pub live_within : (ts : List Transaction) → length (live_places 0 ts) ≤ length ts
+live_within ts = rw (live_count ts 0) (count_by-le-length is_live ts)
 
 -- ---- a live transaction by its place among them
 
@@ -150,78 +154,39 @@ behind live live' t ts before i i' number same rest = record {
   found = λ d. same ∙ rest.found d;
 }
 
-head : (b : Bool) (t : Transaction) (ts : List Transaction) (before i number : ℕ) → t.id.number ≡ before + 1
-    → ((j : ℕ) → slice_get (live_numbers ts) j ≡ Some number → IsLiveAt (filter is_live ts) ts (before + 1) j number)
-    → slice_get (map (λ t. t.id.number) (if b then t ∷ filter is_live ts else filter is_live ts)) i ≡ Some number
+head : (b : Bool) (t : Transaction) (ts : List Transaction) (before i number : ℕ)
+    → ((j : ℕ) → slice_get (live_places (before + 1) ts) j ≡ Some number → IsLiveAt (filter is_live ts) ts (before + 1) j number)
+    → slice_get (if b then (before + 1) ∷ live_places (before + 1) ts else live_places (before + 1) ts) i ≡ Some number
     → IsLiveAt (if b then t ∷ filter is_live ts else filter is_live ts) (t ∷ ts) before i number
-head true t ts before zero number is rest found =
-    let same : t.id.number ≡ number = cc in
-    record { place = 0; is = omega (arith, same, is); within = omega arith; found = λ d. refl }
-head true t ts before (suc i) number is rest found = behind (filter is_live ts) (t ∷ filter is_live ts) t ts before i (suc i) number refl (rest i found)
-head false t ts before i number is rest found = behind (filter is_live ts) (filter is_live ts) t ts before i i number refl (rest i found)
+head true t ts before zero number rest found =
+    let same : before + 1 ≡ number = cc in
+    record { place = 0; is = omega (arith, same); within = omega arith; found = λ d. refl }
+head true t ts before (suc i) number rest found = behind (filter is_live ts) (t ∷ filter is_live ts) t ts before i (suc i) number refl (rest i found)
+head false t ts before i number rest found = behind (filter is_live ts) (filter is_live ts) t ts before i i number refl (rest i found)
 
-none_mapped : (o : Option Transaction) → option_map (λ t. t.id.number) o ≡ None → o ≡ None
-none_mapped None none = refl
-none_mapped (Some t) none = absurd cc
+none_past : (xs : List ℕ) (i : ℕ) → slice_get xs i ≡ None → length xs ≤ i
+none_past [] i none = omega arith
+none_past (x ∷ xs) zero none = absurd (cc)
+none_past (x ∷ xs) (suc i) none = let rest = none_past xs i none in omega (arith, rest)
 
--- where no number is, no live transaction is
-none_live : (ts : List Transaction) (i : ℕ) → slice_get (live_numbers ts) i ≡ None → slice_get (filter is_live ts) i ≡ None
-none_live ts i none = none_mapped (slice_get (filter is_live ts) i) (sym (slice_get-map (λ t. t.id.number) (filter is_live ts) i) ∙ none)
+-- where no place is, no live transaction is
+none_live : (ts : List Transaction) (i : ℕ) → slice_get (live_places 0 ts) i ≡ None → slice_get (filter is_live ts) i ≡ None
+none_live ts i none = slice_get_past (filter is_live ts) i (omega (arith, none_past (live_places 0 ts) i none, live_count ts 0, length-filter is_live ts))
 
--- what was read of the numbers, if it was there
-pub read_at : (ts : List Transaction) (numbers read : List ℕ) (i number : ℕ) → read ≡ numbers → numbers ≡ live_numbers ts → true ≡ nat_lt i (length read) → number ≡ get_or read i number → slice_get (live_numbers ts) i ≡ Some number
+-- what was read of the places, if it was there
+pub read_at : (ts : List Transaction) (numbers read : List ℕ) (i number : ℕ) → read ≡ numbers → numbers ≡ live_places 0 ts → true ≡ nat_lt i (length read) → number ≡ get_or read i number → slice_get (live_places 0 ts) i ≡ Some number
 read_at ts numbers read i number same are within is = rw (← are, ← same) (slice_get_read read (length read) i number refl (ltb-true i (length read) (sym within)) is)
 
-pub none_at : (ts : List Transaction) (numbers read : List ℕ) (i : ℕ) → read ≡ numbers → numbers ≡ live_numbers ts → false ≡ nat_lt i (length read) → slice_get (filter is_live ts) i ≡ None
+pub none_at : (ts : List Transaction) (numbers read : List ℕ) (i : ℕ) → read ≡ numbers → numbers ≡ live_places 0 ts → false ≡ nat_lt i (length read) → slice_get (filter is_live ts) i ≡ None
 none_at ts numbers read i same are behind = none_live ts i (rw (← are, ← same) (slice_get_past read i (ltb-false i (length read) (sym behind))))
 
-pub live_at : (ts : List Transaction) (boot before i number : ℕ) → AreNumbered boot before ts → slice_get (live_numbers ts) i ≡ Some number → IsLiveAt (filter is_live ts) ts before i number
-live_at [] boot before i number numbered found = absurd cc
-live_at (t ∷ ts) boot before i number numbered found =
-    head (is_live t) t ts before i number (ap (λ i. i.number) numbered.0) (λ j at. live_at ts boot (before + 1) j number numbered.1 at) found
+pub live_at : (ts : List Transaction) (before i number : ℕ) → slice_get (live_places before ts) i ≡ Some number → IsLiveAt (filter is_live ts) ts before i number
+live_at [] before i number found = absurd cc
+live_at (t ∷ ts) before i number found = head (is_live t) t ts before i number (λ j at. live_at ts (before + 1) j number at) found
 
--- the transaction that a number leads to is the live one at its place among them
-pub is_at : (ts : List Transaction) (boot i number : ℕ) (t : Transaction) → AreNumbered boot 0 ts → slice_get (live_numbers ts) i ≡ Some number → t ≡ get_or ts (number - 1) t → Some t ≡ slice_get (filter is_live ts) i
-is_at ts boot i number t numbered found is =
-    let live = live_at ts boot 0 i number numbered found in
+-- the transaction that a place leads to is the live one at its place among them
+pub is_at : (ts : List Transaction) (i number : ℕ) (t : Transaction) → slice_get (live_places 0 ts) i ≡ Some number → t ≡ get_or ts (number - 1) t → Some t ≡ slice_get (filter is_live ts) i
+is_at ts i number t found is =
+    let live = live_at ts 0 i number found in
     let place : number - 1 ≡ live.place = omega (arith, live.is) in
     ap Some (is ∙ ap (λ k. get_or ts k t) place) ∙ sym (live.found t)
-
--- ---- a live transaction by its Id
-
-others_head : (b : Bool) (t : Transaction) (ts : List Transaction) (id : Id) → same_id t.id id ≡ b → (if b then Some t else transaction_at ts id) ≡ None
-    → (transaction_at ts id ≡ None → find (λ t. is_live t && same_id t.id id) ts ≡ None) → find (λ t. is_live t && same_id t.id id) (t ∷ ts) ≡ None
-others_head true t ts id same absent rest = absurd cc
-others_head false t ts id same absent rest = rw (same, and_right (is_live t) false refl) (rest absent)
-
-others_live : (ts : List Transaction) (id : Id) → transaction_at ts id ≡ None → find (λ t. is_live t && same_id t.id id) ts ≡ None
-others_live [] id absent = refl
-others_live (t ∷ ts) id absent = others_head (same_id t.id id) t ts id refl absent (others_live ts id)
-
-live_head : (b live : Bool) (t : Transaction) (ts : List Transaction) (id : Id) → same_id t.id id ≡ b → is_live t ≡ live
-    → (b ≡ true → transaction_at ts id ≡ None) → find (λ t. is_live t && same_id t.id id) ts ≡ option_and_then if_live (transaction_at ts id)
-    → find (λ t. is_live t && same_id t.id id) (t ∷ ts) ≡ option_and_then if_live (transaction_at (t ∷ ts) id)
-live_head true true t ts id same is others rest = rw (same, is) refl
-live_head true false t ts id same is others rest = rw (same, is) (others_live ts id (others refl))
-live_head false live t ts id same is others rest = rw (same, and_right (is_live t) false refl) rest
-
-find_from : (ts : List Transaction) (boot before : ℕ) (id : Id) → AreNumbered boot before ts → find (λ t. is_live t && same_id t.id id) ts ≡ option_and_then if_live (transaction_at ts id)
-find_from [] boot before id numbered = refl
-find_from (t ∷ ts) boot before id numbered =
-    live_head (same_id t.id id) (is_live t) t ts id refl refl
-    (λ same.
-    let parts = and_parts (t.id.boot == id.boot) (t.id.number == id.number) same in
-    let number : t.id.number ≡ id.number = eqb-true _ _ parts.1 in
-    let first : t.id.number ≡ before + 1 = ap (λ i. i.number) numbered.0 in
-    (absent_from ts boot (before + 1) id numbered.1 (λ k from to. and_right _ _ (ne_eqb k id.number (λ e. omega (arith, e, number, first, from))))).absent)
-    (find_from ts boot (before + 1) id numbered.1)
-
--- the first live transaction with an Id is the transaction with it, where that is live
-find_live : (ts : List Transaction) (boot : ℕ) (id : Id) → AreNumbered boot 0 ts → find (λ t. is_live t && same_id t.id id) ts ≡ option_and_then if_live (transaction_at ts id)
-find_live ts boot id numbered = find_from ts boot 0 id numbered
-
-pub found_live : (ts : List Transaction) (boot i : ℕ) (id : Id) (t : Transaction) → AreNumbered boot 0 ts → IsPlace ts id i → t ≡ get_or ts i t → if_live t ≡ find (λ t. is_live t && same_id t.id id) ts
-found_live ts boot i id t numbered place is = ap if_live is ∙ sym (find_live ts boot id numbered ∙ ap (option_and_then if_live) (place.found t))
-
-pub not_live : (ts : List Transaction) (boot : ℕ) (id : Id) → AreNumbered boot 0 ts → IsAbsent ts id → None ≡ find (λ t. is_live t && same_id t.id id) ts
-not_live ts boot id numbered absent = sym (find_live ts boot id numbered ∙ ap (option_and_then if_live) absent.absent)

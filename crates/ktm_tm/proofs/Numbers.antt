@@ -1,95 +1,213 @@
--- Transactions by their numbers.
-use Rattle.std.proofs.Common.{◌≡◌, ℕ, ◌+◌, ◌<◌, ◌≤◌, ◌==◌, zero, suc, true, false, List, [], ◌∷◌, ◌++◌, length, get_or, set, nat_le, cond, refl, sym, ◌∙◌, ap, arith, eq-eqb, ne_eqb, length-append}
-use Rattle.std.proofs.lemmas.List.Sums.{sum_by_push, sum_by-set, get_or-le-sum_by}
-use Rattle.std.specs.Prelude.{count_by, if◌then◌else◌}
-use Rattle.std.proofs.lemmas.Bool.{and_from, and_right, and_parts, eqb-true, leb-true, le-leb, false_from_ne_true}
+-- Transactions by their Ids: those that were brought back, and those of this boot by their numbers.
+use Rattle.std.proofs.Common.{◌≡◌, ◌⊎◌, inl, inr, ℕ, ◌+◌, ◌-◌, ◌<◌, ◌≤◌, ◌==◌, ◌&&◌, zero, suc, true, false, List, [], ◌∷◌, ◌++◌, length, get_or, set, nat_le, cond, refl, sym, ◌∙◌, ap, subst, arith, eq-eqb, ne_eqb, add-one, length-append, length-set}
+use Rattle.std.proofs.lemmas.Bool.{and_from, and_right, and_parts, eqb-true, leb-true, le-leb, lt-ltb, or_left, or_right, false_from_ne_true}
+use Rattle.std.specs.List.{list_all, list_any}
+use Rattle.std.specs.Prelude.{◌||◌, Bool, Some, None, find, if◌then◌else◌}
 use Rattle.ktm_base.specs.declared.id.Id.{Id}
-use Rattle.ktm_types.specs.declared.object.Transaction.{Transaction}
-use Rattle.ktm_world.specs.Transactions.{same_id, is_live}
 use Rattle.ktm_types.specs.declared.object.Phase.TheVariants.{Active}
+use Rattle.ktm_types.specs.declared.object.Transaction.{Transaction}
 use Rattle.ktm_types.specs.declared.object.TransactionOutcome.TheVariants.{Undetermined}
-use Rattle.ktm_world.specs.Present.{Transactions}
-use Rattle.ktm_tm.specs.TmState.{AreNumbered, IsPlace, IsAbsent, is_given, next_id, with_new}
+use Rattle.txf_laws.proofs.offered.Tables.{same_id-equal, same_id-from}
+use Rattle.ktm_world.specs.Durable.{is_before}
+use Rattle.ktm_world.specs.Transactions.{change_at, is_live, same_id, transaction_at}
+use Rattle.ktm_manager.specs.Rising.{are_rising, IsAt, IsNowhere}
+use Rattle.ktm_manager.proofs.offered.Places.{at_id, rising_push, rising_set, within}
+use Rattle.ktm_tm.specs.Listed.{AreListed, AreNumbered, AreSplit, IsAbsent, IsPlace, is_number}
+use Rattle.ktm_tm.specs.TmState.{if_live}
 
-place_from : (ts : List Transaction) (boot before i : ℕ) (id : Id) → AreNumbered boot before ts → id ≡ record { boot = boot; number = before + 1 + i } → i < length ts → IsPlace ts id i
-place_from [] boot before i id numbered is within = absurd (omega (arith, within))
-place_from (t ∷ ts) boot before zero id numbered is within =
-    let id_is : t.id ≡ id = numbered.0 ∙ ap (λ (n : ℕ). record { boot = boot; number = n }) (omega arith) ∙ sym is in
-    let same : same_id t.id id ≡ true = and_from _ _ (eq-eqb _ _ (ap (λ i. i.boot) id_is)) (eq-eqb _ _ (ap (λ i. i.number) id_is)) in
-    record { within = within; named = λ d. id_is; found = λ d. rw same refl; changes = λ f d. rw same refl }
-place_from (t ∷ ts) boot before (suc i) id numbered is within =
-    let number : id.number ≡ before + 1 + suc i = ap (λ i. i.number) is in
-    let other : same_id t.id id ≡ false = and_right _ _ (ne_eqb t.id.number id.number (λ e. omega (arith, e, number, ap (λ i. i.number) numbered.0))) in
-    let rest = place_from ts boot (before + 1) i id numbered.1 (is ∙ ap (λ (n : ℕ). record { boot = boot; number = n }) (omega arith)) (omega (arith, within)) in
+abbrev pub id_of : Transaction → Id
+id_of t = t.id
+
+-- ---- one by its Id
+
+others_live : (ts : List Transaction) (id : Id) → IsNowhere id_of ts id → find (λ t. is_live t && same_id t.id id) ts ≡ None
+others_live [] id nowhere = refl
+others_live (t ∷ ts) id nowhere = rw (nowhere.0, and_right (is_live t) false refl) (others_live ts id nowhere.1)
+
+live_head : (b : Bool) (t : Transaction) (ts : List Transaction) (id : Id) → same_id t.id id ≡ true → is_live t ≡ b → IsNowhere id_of ts id → find (λ t. is_live t && same_id t.id id) (t ∷ ts) ≡ if_live t
+live_head true t ts id same is others = rw (same, is) refl
+live_head false t ts id same is others = rw (same, is) (others_live ts id others)
+
+-- the first live transaction with an Id is the transaction with it, where that is live
+found_live : (ts : List Transaction) (id : Id) (i : ℕ) (d : Transaction) → IsAt id_of ts id i → find (λ t. is_live t && same_id t.id id) ts ≡ if_live (get_or ts i d)
+found_live [] id i d at = absurd at
+found_live (t ∷ ts) id zero d at = live_head (is_live t) t ts id at.0 refl at.1
+found_live (t ∷ ts) id (suc i) d at = rw (at.0, and_right (is_live t) false refl) (found_live ts id i d at.1)
+
+none_passes : (ts : List Transaction) (id : Id) (test : Transaction → Bool) → IsNowhere id_of ts id → ((t : Transaction) → same_id t.id id ≡ false → test t ≡ false) → list_any test ts ≡ false
+none_passes [] id test nowhere others = refl
+none_passes (t ∷ ts) id test nowhere others = rw (others t nowhere.0) (none_passes ts id test nowhere.1 others)
+
+or_nothing : (b : Bool) → (b || false) ≡ b
+or_nothing true = refl
+or_nothing false = refl
+
+one_passes : (ts : List Transaction) (id : Id) (i : ℕ) (test : Transaction → Bool) (d : Transaction) → IsAt id_of ts id i → ((t : Transaction) → same_id t.id id ≡ false → test t ≡ false) → list_any test ts ≡ test (get_or ts i d)
+one_passes [] id i test d at others = absurd at
+one_passes (t ∷ ts) id zero test d at others = rw (none_passes ts id test at.1 others) (or_nothing (test t))
+one_passes (t ∷ ts) id (suc i) test d at others = rw (others t at.0) (one_passes ts id i test d at.1 others)
+
+named_at : (ts : List Transaction) (id : Id) (i : ℕ) (d : Transaction) → IsAt id_of ts id i → (get_or ts i d).id ≡ id
+named_at [] id i d at = absurd at
+named_at (t ∷ ts) id zero d at = same_id-equal t.id id at.0
+named_at (t ∷ ts) id (suc i) d at = named_at ts id i d at.1
+
+transaction_there : (ts : List Transaction) (id : Id) (i : ℕ) (d : Transaction) → IsAt id_of ts id i → transaction_at ts id ≡ Some (get_or ts i d)
+transaction_there [] id i d at = absurd at
+transaction_there (t ∷ ts) id zero d at = rw at.0 refl
+transaction_there (t ∷ ts) id (suc i) d at = rw at.0 (transaction_there ts id i d at.1)
+
+changed_there : (ts : List Transaction) (id : Id) (i : ℕ) (f : Transaction → Transaction) (d : Transaction) → IsAt id_of ts id i → change_at ts id f ≡ set ts i (f (get_or ts i d))
+changed_there [] id i f d at = absurd at
+changed_there (t ∷ ts) id zero f d at = rw at.0 refl
+changed_there (t ∷ ts) id (suc i) f d at = rw at.0 (ap (λ (l : List Transaction). t ∷ l) (changed_there ts id i f d at.1))
+
+pub at_place : (ts : List Transaction) (id : Id) (i : ℕ) → IsAt id_of ts id i → IsPlace ts id i
+at_place ts id i at = record {
+  within = within id_of ts id i at;
+  named = λ d. named_at ts id i d at;
+  found = λ d. transaction_there ts id i d at;
+  live = λ d. found_live ts id i d at;
+  passes = λ test d others. one_passes ts id i test d at others;
+  changes = λ f d. changed_there ts id i f d at;
+}
+
+absent_there : (ts : List Transaction) (id : Id) → IsNowhere id_of ts id → transaction_at ts id ≡ None
+absent_there [] id nowhere = refl
+absent_there (t ∷ ts) id nowhere = rw nowhere.0 (absent_there ts id nowhere.1)
+
+kept_there : (ts : List Transaction) (id : Id) (f : Transaction → Transaction) → IsNowhere id_of ts id → change_at ts id f ≡ ts
+kept_there [] id f nowhere = refl
+kept_there (t ∷ ts) id f nowhere = rw nowhere.0 (ap (λ (l : List Transaction). t ∷ l) (kept_there ts id f nowhere.1))
+
+pub nowhere_absent : (ts : List Transaction) (id : Id) → IsNowhere id_of ts id → IsAbsent ts id
+nowhere_absent ts id nowhere = record {
+  absent = absent_there ts id nowhere;
+  none_live = others_live ts id nowhere;
+  none_passes = λ test others. none_passes ts id test nowhere others;
+  keeps = λ f. kept_there ts id f nowhere;
+}
+
+-- ---- one by its number
+
+numbered : (ts : List Transaction) (boot before k : ℕ) (d : Transaction) → AreNumbered boot before ts → k < length ts → (get_or ts k d).id ≡ record { boot = boot; number = before + 1 + k }
+numbered [] boot before k d are within = absurd (omega (arith, within))
+numbered (t ∷ ts) boot before zero d are within = are.0 ∙ ap (λ (n : ℕ). record { boot = boot; number = n }) (omega arith)
+numbered (t ∷ ts) boot before (suc k) d are within = numbered ts boot (before + 1) k d are.1 (omega (arith, within)) ∙ ap (λ (n : ℕ). record { boot = boot; number = n }) (omega arith)
+
+split_at : (ts : List Transaction) (boot back i k : ℕ) (d : Transaction) → AreSplit boot back ts → i ≡ back + k → i < length ts → (get_or ts i d).id ≡ record { boot = boot; number = k + 1 }
+split_at ts boot zero i k d split is within =
+    numbered ts boot 0 i d split within ∙ ap (λ (n : ℕ). record { boot = boot; number = n }) (omega (arith, is))
+split_at [] boot (suc back) i k d split is within = absurd split
+split_at (t ∷ ts) boot (suc back) zero k d split is within = absurd (omega (arith, is))
+split_at (t ∷ ts) boot (suc back) (suc i) k d split is within = split_at ts boot back i k d split.1 (omega (arith, is)) (omega (arith, within))
+
+-- the transaction with a number that was given stands at the place before it, behind those that were brought back
+pub place_of : (ts : List Transaction) (boot back : ℕ) (id : Id) (place : ℕ) → AreListed boot back ts → id.boot ≡ boot → is_number (length ts - back) id.number ≡ true → place + 1 ≡ back + id.number → IsPlace ts id place
+place_of ts boot back id place listed same given is =
+    let parts = and_parts (nat_le 1 id.number) (nat_le id.number (length ts - back)) given in
+    let least : 1 ≤ id.number = leb-true _ _ parts.0 in
+    let most : id.number ≤ length ts - back = leb-true _ _ parts.1 in
+    let behind = listed.within in
+    let within : place < length ts = omega (arith, least, most, is, behind) in
+    let named : record { boot = boot; number = id.number - 1 + 1 } ≡ id = ap (λ (n : ℕ). record { boot = boot; number = n }) (omega (arith, least)) ∙ ap (λ (b : ℕ). record { boot = b; number = id.number }) (sym same) in
+    at_place ts id place (at_id id_of ts id place listed.rising within (λ d. same_id-from _ _ (split_at ts boot back place (id.number - 1) d listed.split (omega (arith, is, least)) within ∙ named)))
+
+-- a number that was not given names none
+not_numbered : (ts : List Transaction) (boot before : ℕ) (id : Id) → AreNumbered boot before ts → ((k : ℕ) → before < k → k ≤ before + length ts → k ≡ id.number → ⊥) → IsNowhere id_of ts id
+not_numbered [] boot before id are others = tt
+not_numbered (t ∷ ts) boot before id are others = (
+  ap (λ i. same_id i id) are.0 ∙ and_right _ _ (ne_eqb (before + 1) id.number (others (before + 1) (omega arith) (omega arith))),
+  not_numbered ts boot (before + 1) id are.1 (λ k from to. others k (omega (arith, from)) (omega (arith, to))),
+)
+
+not_given : (ts : List Transaction) (boot back : ℕ) (id : Id) → AreSplit boot back ts → id.boot ≡ boot → ((k : ℕ) → 0 < k → k + back ≤ length ts → k ≡ id.number → ⊥) → IsNowhere id_of ts id
+not_given ts boot zero id split same others = not_numbered ts boot 0 id split (λ k from to. others k from (omega (arith, to)))
+not_given [] boot (suc back) id split same others = absurd split
+not_given (t ∷ ts) boot (suc back) id split same others = (
+  ap (λ b. b && (t.id.number == id.number)) (ne_eqb t.id.boot id.boot (λ e. omega (arith, e, same, split.0))),
+  not_given ts boot back id split.1 same (λ k from to. others k from (omega (arith, to))),
+)
+
+pub absent_of : (ts : List Transaction) (boot back : ℕ) (id : Id) → AreListed boot back ts → id.boot ≡ boot → is_number (length ts - back) id.number ≡ false → IsAbsent ts id
+absent_of ts boot back id listed same missing = nowhere_absent ts id (not_given ts boot back id listed.split same (λ k from to is.
+    let given : is_number (length ts - back) id.number ≡ true = and_from _ _ (le-leb 1 id.number (omega (arith, is, from))) (le-leb id.number (length ts - back) (omega (arith, is, to))) in
+    absurd (cc)))
+
+-- ---- one more
+
+before_by_boot : (a b : Id) → a.boot < b.boot → is_before a b ≡ true
+before_by_boot a b low = or_left _ _ (lt-ltb a.boot b.boot low)
+
+before_by_number : (a b : Id) → a.boot ≡ b.boot → a.number < b.number → is_before a b ≡ true
+before_by_number a b same low = or_right _ _ (and_from _ _ (eq-eqb a.boot b.boot same) (lt-ltb a.number b.number low))
+
+numbers_before : (ts : List Transaction) (boot before : ℕ) (id : Id) → AreNumbered boot before ts → id.boot ≡ boot → before + length ts < id.number → list_all (λ (t : Transaction). is_before t.id id) ts ≡ true
+numbers_before [] boot before id are same behind = refl
+numbers_before (t ∷ ts) boot before id are same behind =
+    and_from _ _ (before_by_number t.id id (ap (λ i. i.boot) are.0 ∙ sym same) (omega (arith, behind, ap (λ i. i.number) are.0)))
+    (numbers_before ts boot (before + 1) id are.1 same (omega (arith, behind)))
+
+split_before : (ts : List Transaction) (boot back : ℕ) (id : Id) → AreSplit boot back ts → id.boot ≡ boot → length ts < back + id.number → list_all (λ (t : Transaction). is_before t.id id) ts ≡ true
+split_before ts boot zero id split same behind = numbers_before ts boot 0 id split same (omega (arith, behind))
+split_before [] boot (suc back) id split same behind = absurd split
+split_before (t ∷ ts) boot (suc back) id split same behind =
+    and_from _ _ (before_by_boot t.id id (omega (arith, split.0, same))) (split_before ts boot back id split.1 same (omega (arith, behind)))
+
+numbered_push : (ts : List Transaction) (boot before : ℕ) (t : Transaction) → AreNumbered boot before ts → t.id ≡ record { boot = boot; number = before + length ts + 1 } → AreNumbered boot before (ts ++ t ∷ [])
+numbered_push [] boot before t are is = (is ∙ ap (λ (n : ℕ). record { boot = boot; number = n }) (omega arith), tt)
+numbered_push (x ∷ xs) boot before t are is = (are.0, numbered_push xs boot (before + 1) t are.1 (is ∙ ap (λ (n : ℕ). record { boot = boot; number = n }) (omega arith)))
+
+split_push : (ts : List Transaction) (boot back : ℕ) (t : Transaction) → AreSplit boot back ts → t.id ≡ record { boot = boot; number = length ts - back + 1 } → AreSplit boot back (ts ++ t ∷ [])
+split_push ts boot zero t split is = numbered_push ts boot 0 t split (is ∙ ap (λ (n : ℕ). record { boot = boot; number = n }) (omega arith))
+split_push [] boot (suc back) t split is = absurd split
+split_push (x ∷ xs) boot (suc back) t split is = (split.0, split_push xs boot back t split.1 (is ∙ ap (λ (n : ℕ). record { boot = boot; number = n }) (omega arith)))
+
+-- the next one of this boot
+pub listed_push : (ts : List Transaction) (boot back : ℕ) (t : Transaction) → AreListed boot back ts → t.id ≡ record { boot = boot; number = length ts - back + 1 } → AreListed boot back (ts ++ t ∷ [])
+listed_push ts boot back t listed is =
+    let behind = listed.within in
     record {
-      within = within;
-      named = rest.named;
-      found = λ d. rw other (rest.found d);
-      changes = λ f d. rw other (ap (λ (l : List Transaction). t ∷ l) (rest.changes f d));
+      rising = rising_push id_of ts t listed.rising (split_before ts boot back t.id listed.split (ap (λ i. i.boot) is) (omega (arith, behind, ap (λ i. i.number) is)));
+      within = omega (arith, length-append ts (t ∷ []), behind);
+      split = split_push ts boot back t listed.split is;
     }
 
--- the transaction with a number that was given stands at the place before it
-pub place_of : (ts : List Transaction) (boot : ℕ) (id : Id) (place : ℕ) → AreNumbered boot 0 ts → is_given boot (length ts) id ≡ true → place + 1 ≡ id.number → IsPlace ts id place
-place_of ts boot id place numbered given is =
-    let parts = and_parts (id.boot == boot) _ given in
-    let numbers = and_parts (nat_le 1 id.number) _ parts.1 in
-    place_from ts boot 0 place id numbered
-    (ap (λ (b : ℕ). record id { boot = b }) (eqb-true _ _ parts.0) ∙ ap (λ (n : ℕ). record { boot = boot; number = n }) (omega (arith, is)))
-    (omega (arith, is, leb-true _ _ numbers.1))
+split_back : (ts : List Transaction) (boot back more : ℕ) (t : Transaction) → AreSplit boot back ts → length ts ≡ back → more ≡ suc back → t.id.boot < boot → AreSplit boot more (ts ++ t ∷ [])
+split_back [] boot zero zero t split same is earlier = absurd (omega (arith, is))
+split_back [] boot zero (suc more) t split same is earlier =
+    let none : more ≡ 0 = omega (arith, is) in
+    (earlier, subst (λ (n : ℕ). AreSplit boot n []) (sym none) tt)
+split_back (x ∷ xs) boot zero more t split same is earlier = absurd (omega (arith, same))
+split_back [] boot (suc back) more t split same is earlier = absurd split
+split_back (x ∷ xs) boot (suc back) zero t split same is earlier = absurd (omega (arith, is))
+split_back (x ∷ xs) boot (suc back) (suc more) t split same is earlier = (split.0, split_back xs boot back more t split.1 (omega (arith, same)) (omega (arith, is)) earlier)
 
--- no transaction has an Id that differs from the Ids of all
-pub absent_from : (ts : List Transaction) (boot before : ℕ) (id : Id) → AreNumbered boot before ts
-    → ((k : ℕ) → before < k → k ≤ before + length ts → same_id (record { boot = boot; number = k }) id ≡ false) → IsAbsent ts id
-absent_from [] boot before id numbered others = record { absent = refl; keeps = λ f. refl }
-absent_from (t ∷ ts) boot before id numbered others =
-    let other : same_id t.id id ≡ false = ap (λ i. same_id i id) numbered.0 ∙ others (before + 1) (omega arith) (omega arith) in
-    let rest = absent_from ts boot (before + 1) id numbered.1 (λ k from to. others k (omega (arith, from)) (omega (arith, to))) in
-    record { absent = rw other rest.absent; keeps = λ f. rw other (ap (λ (l : List Transaction). t ∷ l) (rest.keeps f)) }
+-- one more that is brought back, while there are none of this boot
+pub listed_back : (ts : List Transaction) (boot back : ℕ) (t : Transaction) → AreListed boot back ts → length ts ≡ back → t.id.boot < boot → list_all (λ (u : Transaction). is_before u.id t.id) ts ≡ true → AreListed boot (back + 1) (ts ++ t ∷ [])
+listed_back ts boot back t listed same earlier behind = record {
+  rising = rising_push id_of ts t listed.rising behind;
+  within = omega (arith, length-append ts (t ∷ []), same);
+  split = split_back ts boot back (back + 1) t listed.split same (add-one back) earlier;
+}
 
--- no transaction has an Id that was not given
-pub absent_of : (ts : List Transaction) (boot : ℕ) (id : Id) → AreNumbered boot 0 ts → is_given boot (length ts) id ≡ false → IsAbsent ts id
-absent_of ts boot id numbered not_given = absent_from ts boot 0 id numbered (λ k from to. false_from_ne_true _ (λ same.
-    let parts = and_parts (boot == id.boot) (k == id.number) same in
-    let number : k ≡ id.number = eqb-true _ _ parts.1 in
-    let given : is_given boot (length ts) id ≡ true = and_from _ _ (eq-eqb _ _ (sym (eqb-true _ _ parts.0))) (and_from _ _ (le-leb 1 id.number (omega (arith, number, from))) (le-leb id.number (length ts) (omega (arith, number, to)))) in
-    cc))
+-- ---- one that changes
 
--- the next one has the next number
-pub numbered_push : (ts : List Transaction) (boot before : ℕ) (t : Transaction) → AreNumbered boot before ts → t.id ≡ record { boot = boot; number = before + length ts + 1 } → AreNumbered boot before (ts ++ t ∷ [])
-numbered_push [] boot before t numbered is = (is ∙ ap (λ (n : ℕ). record { boot = boot; number = n }) (omega arith), tt)
-numbered_push (x ∷ xs) boot before t numbered is = (numbered.0, numbered_push xs boot (before + 1) t numbered.1 (is ∙ ap (λ (n : ℕ). record { boot = boot; number = n }) (omega arith)))
+numbered_set : (ts : List Transaction) (boot before i : ℕ) (t : Transaction) → AreNumbered boot before ts → i < length ts → (get_or ts i t).id ≡ t.id → AreNumbered boot before (set ts i t)
+numbered_set [] boot before i t are within is = absurd (omega (arith, within))
+numbered_set (x ∷ xs) boot before zero t are within is = (sym is ∙ are.0, are.1)
+numbered_set (x ∷ xs) boot before (suc i) t are within is = (are.0, numbered_set xs boot (before + 1) i t are.1 (omega (arith, within)) is)
 
--- a change that keeps the Id keeps the numbers
-pub numbered_set : (ts : List Transaction) (boot before i : ℕ) (t : Transaction) → AreNumbered boot before ts → i < length ts → (get_or ts i t).id ≡ t.id → AreNumbered boot before (set ts i t)
-numbered_set [] boot before i t numbered within is = absurd (omega (arith, within))
-numbered_set (x ∷ xs) boot before zero t numbered within is = (sym is ∙ numbered.0, numbered.1)
-numbered_set (x ∷ xs) boot before (suc i) t numbered within is = (numbered.0, numbered_set xs boot (before + 1) i t numbered.1 (omega (arith, within)) is)
+split_set : (ts : List Transaction) (boot back i : ℕ) (t : Transaction) → AreSplit boot back ts → i < length ts → (get_or ts i t).id ≡ t.id → AreSplit boot back (set ts i t)
+split_set ts boot zero i t split within is = numbered_set ts boot 0 i t split within is
+split_set [] boot (suc back) i t split within is = absurd split
+split_set (x ∷ xs) boot (suc back) zero t split within is = (subst (λ (id : Id). id.boot < boot) is split.0, split.1)
+split_set (x ∷ xs) boot (suc back) (suc i) t split within is = (split.0, split_set xs boot back i t split.1 (omega (arith, within)) is)
 
--- a number that was given is at least 1
-pub given_from : (boot count : ℕ) (id : Id) → is_given boot count id ≡ true → 1 ≤ id.number
-given_from boot count id given = leb-true _ _ (and_parts (nat_le 1 id.number) _ (and_parts (id.boot == boot) _ given).1).0
-
--- how many are live after one more, and after one is changed
-pub live_push : (ts : List Transaction) (t : Transaction) → count_by is_live (ts ++ t ∷ []) ≡ count_by is_live ts + (if is_live t then 1 else 0)
-live_push ts t = sum_by_push (λ t. cond (is_live t) 1 0) ts t
-
-live_share : {a b : Transaction} → a ≡ b → ◌≡◌ {A = ℕ} (if is_live a then 1 else 0) (if is_live b then 1 else 0)
-live_share is = ap (λ x. if is_live x then 1 else 0) is
-
--- one of them counts for no more than all do
-pub live_within : (ts : List Transaction) (i : ℕ) (t : Transaction) → i < length ts → t ≡ get_or ts i t → (if is_live t then 1 else 0) ≤ count_by is_live ts
-live_within ts i t within is = omega (arith, live_share is, get_or-le-sum_by (λ t. cond (is_live t) 1 0) ts i t within)
-
-pub live_set : (ts : List Transaction) (i : ℕ) (t old : Transaction) → i < length ts → old ≡ get_or ts i old
-    → count_by is_live (set ts i t) + (if is_live old then 1 else 0) ≡ count_by is_live ts + (if is_live t then 1 else 0)
-live_set ts i t old within is =
-    omega (arith, live_share is, sum_by-set (λ t. cond (is_live t) 1 0) ts i t old within)
-
--- what is there with one more, which has the next Id
-pub made : (boot : ℕ) (now : Transactions) (id : Id) (timeout : ℕ) → now.last_transaction ≡ length now.items → id ≡ next_id boot now
-    → record now {
-      last_transaction = length (now.items ++ record { id = id; timeout = timeout; created = now.clock; phase = Active; outcome = Undetermined; is_recorded = false } ∷ []);
-      items = now.items ++ record { id = id; timeout = timeout; created = now.clock; phase = Active; outcome = Undetermined; is_recorded = false } ∷ [];
-    }
-    ≡ with_new boot now timeout
-made boot now id timeout counted is = rw is (ap (λ (n : ℕ). record (with_new boot now timeout) { last_transaction = n }) (length-append now.items _ ∙ ap (λ n. n + 1) (sym counted)))
+-- a change that keeps the Id keeps the order
+pub listed_set : (ts : List Transaction) (boot back i : ℕ) (t : Transaction) → AreListed boot back ts → i < length ts → (get_or ts i t).id ≡ t.id → AreListed boot back (set ts i t)
+listed_set ts boot back i t listed within is = record {
+  rising = rising_set id_of ts i t within is ∙ listed.rising;
+  within = omega (arith, length-set ts i t, listed.within);
+  split = split_set ts boot back i t listed.split within is;
+}

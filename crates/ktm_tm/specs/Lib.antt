@@ -1,1 +1,5 @@
+pub mod Courses
+pub mod Listed
+pub mod Recovery
+pub mod Steps
 pub mod TmState

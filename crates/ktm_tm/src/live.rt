@@ -1,8 +1,9 @@
-// The numbers of the transactions that are live.
+// The places of the transactions that are live.
 ghost use Rattle.std.specs.Prelude.{◌≡◌, ◌<◌, ◌≤◌, length, vec_capacity, vec_len};
 ghost use Rattle.std.specs.List.{insert};
 ghost use Rattle.ktm_world.specs.Transactions.{is_live};
-ghost use Rattle.ktm_tm.specs.TmState.{if_live, IsRising, with_number};
+ghost use Rattle.ktm_tm.specs.Listed.{IsRising, with_number};
+ghost use Rattle.ktm_tm.specs.TmState.{if_live};
 
 use ktm_types::{Phase, Transaction};
 

@@ -1,48 +1,74 @@
-// The transactions of a boot.
-ghost use Rattle.std.specs.Prelude.{◌≡◌, ◌+◌, ◌-◌, ◌≤◌, ◌&&◌, IsOk, MatchOption, OnOk, Some, false, [], count_by, filter, find, length, nat_le, option_and_then, slice_get};
+// The transactions of a boot, with those that a restart brought back.
+ghost use Rattle.std.specs.Prelude.{◌≡◌, ◌+◌, ◌-◌, ◌≤◌, ◌<◌, ◌++◌, ◌∷◌, ◌&&◌, IsOk, MatchOption, OnOk, Some, false, true, [], count_by, filter, find, nat_le, option_and_then, slice_get};
 ghost use Rattle.ktm_world.specs.Transactions.{transaction_at, change_at, is_live, same_id};
 ghost use Rattle.ktm_world.specs.TransactionCalls.{is_due, later, never_times_out, no_transaction_left};
-ghost use Rattle.ktm_tm.specs.TmState.{if_live, next_id, with_new, is_given, IsPlace, IsAbsent};
+ghost use Rattle.std.specs.List.{list_all};
+ghost use Rattle.ktm_world.specs.Durable.{is_before};
+ghost use Rattle.ktm_tm.specs.Listed.{IsPlace, IsAbsent};
+ghost use Rattle.ktm_tm.specs.TmState.{if_live, next_id, with_new, KeepsManaging, KeepsNow};
 
 use crate::live::{if_live, is_live, put_number};
+use crate::place::{find_in, place_in};
 use crate::refusals::may_roll_back;
 use ktm_base::{Id, MOST_LIVE, MOST_NUMBER, NoMemory};
+use ktm_enlist::Enlistments;
+use ktm_manager::Managers;
 use ktm_types::{Phase, Transaction, TransactionOutcome};
 use std::alloc::Global;
 use std::marker::Model;
 
-/// The transactions of a boot, and its clock. A transaction is found by its number, without a walk.
+/// The transactions, enlistments and resource managers, and the clock of a boot. A transaction of this boot is found by its number,
+/// without a walk.
 #[derive(Drop)]
 pub struct Tm {
-    boot: u32,
+    pub(crate) boot: u32,
     // In milliseconds since the boot.
-    clock: u64,
-    // By rising number, from 1 on; those that have ended too.
-    items: Vec<Transaction>,
-    // The numbers of those that have not ended, which rise. It has room for the numbers of all.
-    live: Vec<u32>,
+    pub(crate) clock: u64,
+    // Those that a restart brought back by rising Id, and then those of this boot by their numbers from 1 on; those that have ended
+    // too.
+    pub(crate) items: Vec<Transaction>,
+    // How many were brought back.
+    pub(crate) back: usize,
+    // The places of those that have not ended, from 1 on, which rise. It has room for the places of all.
+    pub(crate) live: Vec<u32>,
+    pub(crate) enlistments: Enlistments,
+    pub(crate) managers: Managers,
+    // The number of the resource manager and of the enlistment that were made last, or 0.
+    pub(crate) last_manager: u32,
+    pub(crate) last_enlistment: u32,
 }
 
 impl Model for Tm {
-    ghost use Rattle.std.specs.Prelude.{◌≡◌, ◌-◌, ◌≤◌, [], length, min, vec_len, vec_capacity};
-    ghost use Rattle.ktm_tm.specs.TmState.{TmState, AreNumbered, live_numbers};
+    ghost use Rattle.std.specs.Prelude.{◌≡◌, ◌-◌, ◌^◌, length, min, true, vec_len, vec_capacity};
+    ghost use Rattle.std.specs.List.{list_all};
+    ghost use Rattle.ktm_enlist.specs.Telling.{has_manager};
+    ghost use Rattle.ktm_tm.specs.Listed.{are_before_next, AreKept};
+    ghost use Rattle.ktm_tm.specs.TmState.{TmState};
 
     ghost Value = { TmState };
 
     ghost view = { λ tm. record {
       boot = tm.boot;
-      now = record { clock = tm.clock; last_transaction = length tm.items.items; last_manager = 0; last_enlistment = 0; items = tm.items.items; enlistments = [] };
-      room = min (vec_capacity tm.items) (vec_capacity tm.live) - vec_len tm.items;
+      now = record {
+        clock = tm.clock;
+        last_transaction = length tm.items.items - tm.back;
+        last_manager = tm.last_manager;
+        last_enlistment = tm.last_enlistment;
+        items = tm.items.items;
+        enlistments = tm.enlistments.enlistments;
+      };
+      managers = tm.managers.managers;
+      room = min (min (vec_capacity tm.items) (vec_capacity tm.live)) (2 ^ 32 - 1) - vec_len tm.items;
+      enlistment_room = tm.enlistments.room;
+      manager_room = tm.managers.room;
+      slots = tm.managers.spare;
     } };
 
-    ghost invariant = { λ tm. AreNumbered tm.boot 0 tm.items.items × (tm.live.items ≡ live_numbers tm.items.items) × (vec_len tm.items ≤ vec_capacity tm.live) };
-}
-
-// Is it the Id of one of these transactions, which were made in this boot.
-fn is_given(boot: u32, items: &[Transaction], id: Id) -> bool
-    ensures { result ≡ is_given boot (length items.now) id }
-{
-    id.boot == boot && 1 <= id.number && id.number as usize <= items.len()
+    ghost invariant = { λ tm.
+        AreKept tm.boot tm.back tm.items.items tm.live.items (vec_capacity tm.live)
+        × (are_before_next (λ m. m.id) tm.boot tm.last_manager tm.managers.managers ≡ true)
+        × (are_before_next (λ e. e.id) tm.boot tm.last_enlistment tm.enlistments.enlistments ≡ true)
+        × (list_all (has_manager tm.managers.managers) tm.enlistments.enlistments ≡ true) };
 }
 
 // Is it one of the two timeouts that mean none.
@@ -67,16 +93,22 @@ fn is_due(clock: u64, t: &Transaction) -> bool
 }
 
 impl Tm {
-    /// No transactions, at the start of this boot.
+    /// Nothing, at the start of this boot.
     pub fn new(alloc: Global, boot: u32) -> Self
         ensures boot { result.boot ≡ boot }
         ensures now { result.now ≡ record { clock = 0; last_transaction = 0; last_manager = 0; last_enlistment = 0; items = []; enlistments = [] } }
+        ensures managers { result.managers ≡ [] }
     {
         Tm {
             boot,
             clock: 0,
             items: Vec::new(alloc),
+            back: 0,
             live: Vec::new(alloc),
+            enlistments: Enlistments::new(alloc),
+            managers: Managers::new(alloc),
+            last_manager: 0,
+            last_enlistment: 0,
         }
     }
 
@@ -91,21 +123,14 @@ impl Tm {
     fn place(&self, id: Id) -> Option<usize>
         ensures { MatchOption result (IsAbsent self.now.now.items id) (IsPlace self.now.now.items id) }
     {
-        if is_given(self.boot, &self.items, id) {
-            Some(id.number as usize - 1)
-        } else {
-            None
-        }
+        place_in(self.boot, self.back, &self.items, id)
     }
 
     /// The transaction with this Id.
     pub fn find(&self, id: Id) -> Option<Transaction>
         ensures { result ≡ transaction_at self.now.now.items id }
     {
-        match self.place(id) {
-            Some(place) => Some(self.items[place]),
-            None => None,
-        }
+        find_in(self.boot, self.back, &self.items, id)
     }
 
     /// The transaction with this Id, if it has not ended.
@@ -148,6 +173,7 @@ impl Tm {
         ensures boot { self.new.boot ≡ self.old.boot }
         ensures now { self.new.now ≡ record self.old.now { clock = later self.old.now.clock ms } }
         ensures room { self.new.room ≡ self.old.room }
+        ensures rest { KeepsManaging self.old self.new }
     {
         self.clock = self.clock.saturating_add(ms);
     }
@@ -163,7 +189,7 @@ impl Tm {
     pub fn is_full(&self) -> bool
         ensures { result ≡ no_transaction_left self.now.now }
     {
-        self.live_count() >= MOST_LIVE || self.items.len() >= MOST_NUMBER as usize
+        self.live_count() >= MOST_LIVE || self.items.len() - self.back >= MOST_NUMBER as usize
     }
 
     /// Takes the memory that one transaction more needs.
@@ -172,7 +198,11 @@ impl Tm {
         ensures now { self.new.now ≡ self.old.now }
         ensures room { OnOk result (1 ≤ self.new.room) }
         ensures enough { 1 ≤ self.old.room → IsOk result }
+        ensures rest { KeepsManaging self.old self.new }
     {
+        if self.items.len() >= u32::MAX as usize {
+            return Err(NoMemory);
+        }
         self.items.reserve(1)?;
         self.live.reserve(self.items.len() - self.live.len() + 1)?;
         Ok(())
@@ -185,7 +215,7 @@ impl Tm {
     {
         Id {
             boot: self.boot,
-            number: (self.items.len() + 1) as u32,
+            number: (self.items.len() - self.back + 1) as u32,
         }
     }
 
@@ -198,6 +228,7 @@ impl Tm {
         ensures boot { self.new.boot ≡ self.old.boot }
         ensures now { self.new.now ≡ with_new self.old.boot self.old.now timeout }
         ensures room { self.new.room + 1 ≡ self.old.room }
+        ensures rest { KeepsManaging self.old self.new }
     {
         let id = self.next_id();
         self.items.push_reserved(Transaction {
@@ -208,7 +239,7 @@ impl Tm {
             outcome: TransactionOutcome::Undetermined,
             is_recorded: false,
         });
-        self.live.push_reserved(id.number);
+        self.live.push_reserved(self.items.len() as u32);
         id
     }
 
@@ -217,11 +248,30 @@ impl Tm {
         ensures boot { self.new.boot ≡ self.old.boot }
         ensures now { self.new.now ≡ record self.old.now { items = change_at self.old.now.items t.id (λ other. t) } }
         ensures room { self.new.room ≡ self.old.room }
+        ensures rest { KeepsManaging self.old self.new }
     {
         let Some(place) = self.place(t.id) else {
             return;
         };
-        put_number(&mut self.live, t.id.number, is_live(&t));
+        put_number(&mut self.live, place as u32 + 1, is_live(&t));
         self.items[place] = t;
+    }
+
+    /// A transaction that a restart brings back, behind the others, while none is made. It takes no memory.
+    pub fn bring_back(&mut self, t: Transaction)
+        requires earlier { t.id.boot < self.old.boot }
+        requires behind { list_all (λ other. is_before other.id t.id) self.old.now.items ≡ true }
+        requires first { self.old.now.last_transaction ≡ 0 }
+        requires room { 1 ≤ self.old.room }
+        ensures boot { self.new.boot ≡ self.old.boot }
+        ensures now { self.new.now ≡ record self.old.now { items = self.old.now.items ++ t ∷ [] } }
+        ensures room { self.new.room + 1 ≡ self.old.room }
+        ensures rest { KeepsManaging self.old self.new }
+    {
+        self.items.push_reserved(t);
+        self.back += 1;
+        if is_live(&t) {
+            self.live.push_reserved(self.items.len() as u32);
+        }
     }
 }

@@ -7,13 +7,13 @@ use Rattle.ktm_base.specs.declared.id.Pid.{Pid}
 use Rattle.ktm_base.specs.declared.refusal.Refusal.{Refusal}
 use Rattle.ktm_base.specs.declared.refusal.Refusal.TheVariants.{MachineDown, LogFull}
 use Rattle.ktm_types.specs.declared.command.Command.{Command}
-use Rattle.ktm_types.specs.declared.command.Command.TheVariants.{CreateTransaction, OpenTransaction, CommitTransaction, RollbackTransaction, GetTransactionInformation, CreateFile, CreateFileTransacted, ReadFile, WriteFile, SetEndOfFile, GetFileSizeEx, FlushFileBuffers, DeleteFile, CreateDirectory, RemoveDirectory, MoveFile, DeleteFileTransacted, CreateDirectoryTransacted, RemoveDirectoryTransacted, MoveFileTransacted, FindFiles, FindFilesTransacted, KvSet, KvUnset, KvGet, KvList, CloseHandle, DuplicateHandle, Exit}
+use Rattle.ktm_types.specs.declared.command.Command.TheVariants.{CreateTransaction, OpenTransaction, CommitTransaction, RollbackTransaction, GetTransactionInformation, CreateResourceManager, OpenResourceManager, RecoverResourceManager, GetNotificationResourceManager, CreateEnlistment, OpenEnlistment, RecoverEnlistment, PrePrepareComplete, PrepareComplete, ReadOnlyEnlistment, CommitComplete, RollbackComplete, SinglePhaseReject, RollbackEnlistment, SetEnlistmentRecoveryInformation, GetEnlistmentRecoveryInformation, CreateFile, CreateFileTransacted, ReadFile, WriteFile, SetEndOfFile, GetFileSizeEx, FlushFileBuffers, DeleteFile, CreateDirectory, RemoveDirectory, MoveFile, DeleteFileTransacted, CreateDirectoryTransacted, RemoveDirectoryTransacted, MoveFileTransacted, FindFiles, FindFilesTransacted, KvSet, KvUnset, KvGet, KvList, CloseHandle, DuplicateHandle, Exit}
 use Rattle.ktm_types.specs.declared.command.View.TheVariants.{Plain, Transaction as Through}
 use Rattle.ktm_types.specs.declared.event.Event.{Event}
 use Rattle.ktm_types.specs.declared.input.PhaseInput.{PhaseInput}
 use Rattle.ktm_types.specs.declared.object.Object.{Object}
-use Rattle.ktm_types.specs.declared.object.Object.TheVariants.{Transaction as TransactionObject, Manager as ManagerObject, Enlistment as EnlistmentObject, File as FileObject}
 use Rattle.ktm_types.specs.declared.object.Transaction.{Transaction}
+use Rattle.ktm_types.specs.declared.options.EnlistmentKind.{EnlistmentKind}
 use Rattle.ktm_types.specs.declared.options.Access.{Access}
 use Rattle.ktm_types.specs.declared.options.Disposition.{Disposition}
 use Rattle.ktm_types.specs.declared.options.ShareMode.{ShareMode}
@@ -21,27 +21,26 @@ use Rattle.ktm_types.specs.declared.reply.Reply.{Reply}
 use Rattle.ktm_types.specs.declared.reply.Reply.TheVariants.{Refused, Done}
 use Rattle.ktm_forms.specs.Built.{is_built_command}
 use Rattle.ktm_world.specs.Decide.{bound_file, caller, decide, with_room, refusal_of, command_tests, command_effect, on_file, opening, own_tests}
-use Rattle.ktm_world.specs.Enlistments.{is_ended}
-use Rattle.ktm_world.specs.HandleCalls.{without_handle, has_handle, labels_of, abort_active, last_handle_gone, handle_gone, close_handle, closed_in_turn, exit, bind_to, duplicate_handle, duplicate_handle_tests}
+use Rattle.ktm_world.specs.Enlistments.{Enlistment, Manager, Note, is_ended}
+use Rattle.ktm_courses.proofs.offered.HandlesAndTime.{Closes, close_handle-so, exit-so, tick-so}
+use Rattle.ktm_world.specs.HandleCalls.{close_handle, exit, bind_to, duplicate_handle, duplicate_handle_tests}
 use Rattle.ktm_world.specs.Handles.{object_at}
-use Rattle.ktm_world.specs.Transactions.{transaction_at, is_active, is_undecided}
+use Rattle.ktm_world.specs.Transactions.{is_undecided}
 use Rattle.ktm_world.specs.FileCalls.{Whereabouts, free, at_node, find_path, conflict_test, create_act, delete_act, make_act, remove_act, move_act, create_at, drop_at, make_at, move_at, create_file, create_file_tests, read_file, read_file_tests, write_access_test, write_file, write_file_tests, set_end, set_end_tests, get_size, flush_file, delete_file, delete_file_tests, create_directory, create_directory_tests, remove_directory, remove_directory_tests, move_file, move_file_tests, find_files, find_files_tests}
 use Rattle.ktm_world.specs.FileOutcome.{FileOutcome, FileRoom}
 use Rattle.ktm_world.specs.Files.{FilesNow, OpenFile, tree_seen, without_transaction}
 use Rattle.ktm_world.specs.Keys.{without_own}
 use Rattle.ktm_world.specs.KeyCalls.{reply_of_value}
 use Rattle.ktm_world.specs.Holds.{Act}
-use Rattle.ktm_world.specs.Labels.{file_named, transaction_named}
-use Rattle.ktm_world.specs.Outcome.{Outcome, apply, only_reply, and_then, refuse_or, first_refusal, is_full, within_log}
+use Rattle.ktm_world.specs.Labels.{enlistment_named, file_named, manager_named, transaction_named}
+use Rattle.ktm_world.specs.Outcome.{Outcome, only_reply, refuse_or, first_refusal, is_full, within_log}
 use Rattle.ktm_world.specs.Phases.{Course}
 use Rattle.ktm_world.specs.Present.{Present}
-use Rattle.ktm_world.specs.Steps.{led}
-use Rattle.ktm_world.specs.TransactionCalls.{course_of, released, commit_reply, create_transaction, create_transaction_tests, commit_transaction, aborted_by, rollback_transaction, information_of, get_transaction_information, transaction_with, open_to_transaction, open_transaction, open_transaction_tests, tick, aborted_if_due, aborted_in_turn, is_due, with_clock}
+use Rattle.ktm_world.specs.Steps.{led, share_of}
+use Rattle.ktm_world.specs.TransactionCalls.{course_of, released, commit_reply, create_transaction, create_transaction_tests, commit_transaction, aborted_by, rollback_transaction, information_of, get_transaction_information, transaction_with, open_to_transaction, open_transaction, open_transaction_tests, tick, answering, arrived, commit_complete, create_enlistment, create_enlistment_tests, create_resource_manager, create_resource_manager_tests, enlist, enlistment_with, get_information, get_notification, goes_on, information_in, keep_information, manager_with, note_reply, open_enlistment, open_enlistment_tests, open_resource_manager, open_resource_manager_tests, open_to_enlistment, open_to_manager, pre_prepare_complete, prepare_complete, read_only_enlistment, recover_all, recover_enlistment, recover_resource_manager, recovery_of, rollback_complete, rollback_enlistment, set_information, single_phase_reject, take_first, transaction_in}
 use Rattle.ktm_world.specs.Uses.{file_room}
 use Rattle.ktm_world.specs.World.{decide_tick}
 use Rattle.ktm_built.specs.Laws.{DecidedLaw}
-use Rattle.ktm_built.specs.Standing.{IsBuiltNow}
-use Rattle.ktm_built.proofs.offered.Quiet.{quiet_tick}
 
 -- the outcome of a full log
 abbrev pub full_log : Present → Outcome
@@ -84,64 +83,61 @@ pub done_bind : (x : Present) (process : Pid) (label : Label) (named : Option Ob
 done_bind x process label None = record { goes_on = refl; says = refl }
 done_bind x process label (Some object) = record { goes_on = refl; says = refl }
 
+done_manager : (x : Present) (process : Pid) (label : Label) (m : Option Manager) → IsDone (open_to_manager x process label m)
+done_manager x process label None = record { goes_on = refl; says = refl }
+done_manager x process label (Some m) = record { goes_on = refl; says = refl }
+
+done_enlistment : (x : Present) (process : Pid) (label : Label) (e : Option Enlistment) → IsDone (open_to_enlistment x process label e)
+done_enlistment x process label None = record { goes_on = refl; says = refl }
+done_enlistment x process label (Some e) = record { goes_on = refl; says = refl }
+
+done_recovered : (x : Present) (m : Option Manager) → IsDone (recover_all x m)
+done_recovered x None = record { goes_on = refl; says = refl }
+done_recovered x (Some m) = record { goes_on = refl; says = refl }
+
+done_informed : (x : Present) (e : Option Enlistment) (information : List ℕ) → IsDone (keep_information x e information)
+done_informed x None information = record { goes_on = refl; says = refl }
+done_informed x (Some e) information = record { goes_on = refl; says = refl }
+
+done_arrived : (x : Present) (c : Course) → IsDone (arrived x c Done)
+done_arrived x c = record { goes_on = released_goes_on c _; says = released_says c _ }
+
+pub done_answering : (x : Present) (e : Option Enlistment) (input : Enlistment → PhaseInput) → IsDone (answering x e input)
+done_answering x None input = record { goes_on = refl; says = refl }
+done_answering x (Some e) input = go (transaction_in x e)
+  where
+    go : (t : Option Transaction) → IsDone (goes_on x e t (input e))
+    go None = record { goes_on = refl; says = refl }
+    go (Some t) = done_arrived x (led (input e) (course_of x t (Some e)))
+
 done_aborted : (x : Present) (t : Transaction) → IsDone (aborted_by x t None Done)
-done_aborted x t = let c = led PhaseInput.Rollback (course_of x t None) in record { goes_on = released_goes_on c _; says = released_says c _ }
+done_aborted x t = done_arrived x (led PhaseInput.Rollback (course_of x t None))
 
 pub done_rollback : (x : Present) (named : Option Transaction) → IsDone (rollback_transaction x named)
 unfolding rollback_transaction
 done_rollback x None = record { goes_on = refl; says = refl }
 done_rollback x (Some t) = done_aborted x t
 
-done_if : (x : Present) (b : Bool) (o : Outcome) → IsDone o → IsDone (cond b o (only_reply x Done))
-done_if x true o done = done
-done_if x false o done = record { goes_on = refl; says = refl }
-
-done_active : (x : Present) (found : Option Transaction) → IsDone (abort_active x found)
-done_active x None = record { goes_on = refl; says = refl }
-done_active x (Some t) = done_if x (is_active t) (aborted_by x t None Done) (done_aborted x t)
-
-done_last : (x : Present) (object : Object) → IsDone (last_handle_gone x object)
-done_last x (TransactionObject id) = done_active x (transaction_at x.transactions.items id)
-done_last x (ManagerObject id) = record { goes_on = refl; says = refl }
-done_last x (EnlistmentObject id) = record { goes_on = refl; says = refl }
-done_last x (FileObject number) = record { goes_on = refl; says = refl }
-
-done_gone : (x : Present) (named : Option Object) → IsDone (handle_gone named x)
-done_gone x None = record { goes_on = refl; says = refl }
-done_gone x (Some object) = go (has_handle x.handles object)
-  where
-    go : (b : Bool) → IsDone (cond b (only_reply x Done) (last_handle_gone x object))
-    go true = record { goes_on = refl; says = refl }
-    go false = done_last x object
-
-done_then : (x : Present) (o : Outcome) (next : Present → Outcome) → IsDone o → ((y : Present) → IsDone (next y)) → IsDone (and_then x o next)
-done_then x o next first then = record { goes_on = or_from _ _ first.goes_on (then (apply x o)).goes_on; says = first.says }
+-- so does what closing a handle and the passing of time come to
+closing : Closes (λ x. Unit {0}) (λ x o. IsDone o)
+closing = record {
+  rolls = record {
+    reply = λ x asked. record { goes_on = refl; says = refl };
+    rolls = λ x t asked there may. done_aborted x t;
+    goes_on = λ x a next first second. record { goes_on = or_from _ _ first.goes_on (second tt).goes_on; says = first.says };
+  };
+  unbinds = λ x process label asked. record { goes_on = refl; says = refl };
+  ends = λ x number asked. record { goes_on = refl; says = refl };
+}
 
 pub done_close : (x : Present) (process : Pid) (label : Label) → IsDone (close_handle x process label)
-unfolding close_handle
-done_close x process label =
-    let named = object_at x.handles process label in
-    done_then x (record (only_reply x Done) { handles = without_handle x.handles process label }) (handle_gone named) (record { goes_on = refl; says = refl }) (λ y. done_gone y named)
-
-done_closed : (x : Present) (process : Pid) (labels : List Label) → IsDone (closed_in_turn x process labels)
-done_closed x process [] = record { goes_on = refl; says = refl }
-done_closed x process (label ∷ labels) = done_then x (close_handle x process label) (λ next. closed_in_turn next process labels) (done_close x process label) (λ y. done_closed y process labels)
+done_close x process label = close_handle-so (λ x. Unit {0}) (λ x o. IsDone o) closing x process label tt
 
 pub done_exit : (x : Present) (process : Pid) → IsDone (exit x process)
-unfolding exit
-done_exit x process = done_closed x process (labels_of x.handles process)
-
-done_due : (x : Present) (found : Option Transaction) → IsDone (aborted_if_due x found)
-done_due x None = record { goes_on = refl; says = refl }
-done_due x (Some t) = done_if x (is_due x.transactions.clock t) (aborted_by x t None Done) (done_aborted x t)
-
-done_in_turn : (x : Present) (ts : List Transaction) → IsDone (aborted_in_turn x ts)
-done_in_turn x [] = record { goes_on = refl; says = refl }
-done_in_turn x (t ∷ ts) = done_then x (aborted_if_due x (transaction_at x.transactions.items t.id)) (λ next. aborted_in_turn next ts) (done_due x (transaction_at x.transactions.items t.id)) (λ y. done_in_turn y ts)
+done_exit x process = exit-so (λ x. Unit {0}) (λ x o. IsDone o) closing x process tt
 
 pub done_tick : (x : Present) (ms : ℕ) → IsDone (tick x ms)
-unfolding tick
-done_tick x ms = done_in_turn (with_clock x ms) x.transactions.items
+done_tick x ms = tick-so (λ x. Unit {0}) (λ x o. IsDone o) closing.rolls x ms tt
 
 -- ---- calls on files
 
@@ -215,13 +211,38 @@ unfolding commit_transaction
 commit_goes_on x None = refl
 commit_goes_on x (Some t) = released_goes_on (led PhaseInput.CommitTransaction (course_of x t None)) _
 
+taken_goes_on : (x : Present) (m : Option Manager) → (take_first x m).stops ≡ false
+taken_goes_on x None = refl
+taken_goes_on x (Some m) = refl
+
+enlisted_goes_on : (x : Present) (process : Pid) (label : Label) (m : Option Manager) (t : Option Transaction) (kind : EnlistmentKind) → (enlist x process label m t kind).stops ≡ false
+enlisted_goes_on x process label None t kind = refl
+enlisted_goes_on x process label (Some m) None kind = refl
+enlisted_goes_on x process label (Some m) (Some t) kind = refl
+
 effect_goes_on : (x : Present) (process : Pid) (command : Command) → is_built_command command ≡ true → (command_effect x process command).stops ≡ false
-unfolding create_transaction open_transaction get_transaction_information duplicate_handle
+unfolding create_transaction open_transaction get_transaction_information duplicate_handle create_resource_manager open_resource_manager recover_resource_manager get_notification create_enlistment open_enlistment recover_enlistment pre_prepare_complete prepare_complete read_only_enlistment commit_complete rollback_complete single_phase_reject rollback_enlistment set_information get_information
 effect_goes_on x process (CreateTransaction label timeout) built = refl
 effect_goes_on x process (OpenTransaction label guid) built = (done_open x process label (transaction_with x guid)).goes_on
 effect_goes_on x process (CommitTransaction label) built = commit_goes_on x (transaction_named x process label)
 effect_goes_on x process (RollbackTransaction label) built = (done_rollback x (transaction_named x process label)).goes_on
 effect_goes_on x process (GetTransactionInformation label) built = refl
+effect_goes_on x process (CreateResourceManager label durability) built = refl
+effect_goes_on x process (OpenResourceManager label guid) built = (done_manager x process label (manager_with x guid)).goes_on
+effect_goes_on x process (RecoverResourceManager label) built = (done_recovered x (manager_named x process label)).goes_on
+effect_goes_on x process (GetNotificationResourceManager label) built = taken_goes_on x (manager_named x process label)
+effect_goes_on x process (CreateEnlistment label manager transaction kind) built = enlisted_goes_on x process label (manager_named x process manager) (transaction_named x process transaction) kind
+effect_goes_on x process (OpenEnlistment label manager guid) built = (done_enlistment x process label (enlistment_with x (manager_named x process manager) guid)).goes_on
+effect_goes_on x process (RecoverEnlistment label) built = (done_answering x (enlistment_named x process label) recovery_of).goes_on
+effect_goes_on x process (PrePrepareComplete label) built = (done_answering x (enlistment_named x process label) (λ e. PhaseInput.PrePrepareComplete)).goes_on
+effect_goes_on x process (PrepareComplete label) built = (done_answering x (enlistment_named x process label) (λ e. PhaseInput.PrepareComplete)).goes_on
+effect_goes_on x process (ReadOnlyEnlistment label) built = (done_answering x (enlistment_named x process label) (λ e. PhaseInput.ReadOnly (share_of e))).goes_on
+effect_goes_on x process (CommitComplete label) built = (done_answering x (enlistment_named x process label) (λ e. PhaseInput.CommitComplete)).goes_on
+effect_goes_on x process (RollbackComplete label) built = (done_answering x (enlistment_named x process label) (λ e. PhaseInput.RollbackComplete)).goes_on
+effect_goes_on x process (SinglePhaseReject label) built = (done_answering x (enlistment_named x process label) (λ e. PhaseInput.SinglePhaseReject)).goes_on
+effect_goes_on x process (RollbackEnlistment label) built = (done_answering x (enlistment_named x process label) (λ e. PhaseInput.Rollback)).goes_on
+effect_goes_on x process (SetEnlistmentRecoveryInformation label information) built = (done_informed x (enlistment_named x process label) information).goes_on
+effect_goes_on x process (GetEnlistmentRecoveryInformation label) built = refl
 effect_goes_on x process (CreateFile label path access share disposition) built = bound_goes_on process label (create_file x.files None path access share disposition).opened _
 effect_goes_on x process (CreateFileTransacted label path access share disposition transaction) built =
     bound_goes_on process label (create_file x.files (caller x process transaction) path access share disposition).opened _
@@ -309,12 +330,28 @@ on_file_up None tests up = refl
 on_file_up (Some o) tests up = up o
 
 tests_of_up : (x : Present) (process : Pid) (command : Command) → is_built_command command ≡ true → none_of_down (command_tests x process command) ≡ true
-unfolding is_of_down none_of_down create_transaction_tests open_transaction_tests duplicate_handle_tests read_file_tests write_file_tests set_end_tests find_files_tests
+unfolding is_of_down none_of_down create_transaction_tests open_transaction_tests create_resource_manager_tests open_resource_manager_tests create_enlistment_tests open_enlistment_tests duplicate_handle_tests read_file_tests write_file_tests set_end_tests find_files_tests
 tests_of_up x process (CreateTransaction label timeout) built = refl
 tests_of_up x process (OpenTransaction label guid) built = refl
 tests_of_up x process (CommitTransaction label) built = refl
 tests_of_up x process (RollbackTransaction label) built = refl
 tests_of_up x process (GetTransactionInformation label) built = refl
+tests_of_up x process (CreateResourceManager label durability) built = refl
+tests_of_up x process (OpenResourceManager label guid) built = refl
+tests_of_up x process (RecoverResourceManager label) built = refl
+tests_of_up x process (GetNotificationResourceManager label) built = refl
+tests_of_up x process (CreateEnlistment label manager transaction kind) built = refl
+tests_of_up x process (OpenEnlistment label manager guid) built = refl
+tests_of_up x process (RecoverEnlistment label) built = refl
+tests_of_up x process (PrePrepareComplete label) built = refl
+tests_of_up x process (PrepareComplete label) built = refl
+tests_of_up x process (ReadOnlyEnlistment label) built = refl
+tests_of_up x process (CommitComplete label) built = refl
+tests_of_up x process (RollbackComplete label) built = refl
+tests_of_up x process (SinglePhaseReject label) built = refl
+tests_of_up x process (RollbackEnlistment label) built = refl
+tests_of_up x process (SetEnlistmentRecoveryInformation label information) built = refl
+tests_of_up x process (GetEnlistmentRecoveryInformation label) built = refl
 tests_of_up x process (CreateFile label path access share disposition) built = create_file_up x.files (file_room x) None path access share disposition
 tests_of_up x process (CreateFileTransacted label path access share disposition transaction) built = create_file_up x.files (file_room x) (caller x process transaction) path access share disposition
 tests_of_up x process (ReadFile file offset many) built = on_file_up (file_named x process file) (λ o. read_file_tests o many) (λ o. refl)
@@ -379,13 +416,46 @@ information_not_down : (x : Present) (t : Option Transaction) → information_of
 information_not_down x None e = cc
 information_not_down x (Some t) e = cc
 
+taken_not_down : (x : Present) (m : Option Manager) → (take_first x m).reply ≡ Refused MachineDown → ⊥
+taken_not_down x None e = cc
+taken_not_down x (Some m) e = go m.queue e
+  where
+    go : (queue : List Note) → note_reply x queue ≡ Refused MachineDown → ⊥
+    go [] e = cc
+    go (note ∷ notes) e = cc
+
+enlisted_not_down : (x : Present) (process : Pid) (label : Label) (m : Option Manager) (t : Option Transaction) (kind : EnlistmentKind) → (enlist x process label m t kind).reply ≡ Refused MachineDown → ⊥
+enlisted_not_down x process label None t kind e = cc
+enlisted_not_down x process label (Some m) None kind e = cc
+enlisted_not_down x process label (Some m) (Some t) kind e = cc
+
+contents_not_down : (enlistment : Option Enlistment) → information_in enlistment ≡ Refused MachineDown → ⊥
+contents_not_down None e = cc
+contents_not_down (Some enlistment) e = cc
+
 effect_not_down : (x : Present) (process : Pid) (command : Command) → is_built_command command ≡ true → (command_effect x process command).reply ≡ Refused MachineDown → ⊥
-unfolding create_transaction open_transaction get_transaction_information duplicate_handle read_file set_end get_size find_files
+unfolding create_transaction open_transaction get_transaction_information duplicate_handle read_file set_end get_size find_files create_resource_manager open_resource_manager recover_resource_manager get_notification create_enlistment open_enlistment recover_enlistment pre_prepare_complete prepare_complete read_only_enlistment commit_complete rollback_complete single_phase_reject rollback_enlistment set_information get_information
 effect_not_down x process (CreateTransaction label timeout) built e = cc
 effect_not_down x process (OpenTransaction label guid) built e = done_not_down _ (done_open x process label (transaction_with x guid)) e
 effect_not_down x process (CommitTransaction label) built e = commit_not_down x (transaction_named x process label) e
 effect_not_down x process (RollbackTransaction label) built e = done_not_down _ (done_rollback x (transaction_named x process label)) e
 effect_not_down x process (GetTransactionInformation label) built e = information_not_down x (transaction_named x process label) e
+effect_not_down x process (CreateResourceManager label durability) built e = cc
+effect_not_down x process (OpenResourceManager label guid) built e = done_not_down _ (done_manager x process label (manager_with x guid)) e
+effect_not_down x process (RecoverResourceManager label) built e = done_not_down _ (done_recovered x (manager_named x process label)) e
+effect_not_down x process (GetNotificationResourceManager label) built e = taken_not_down x (manager_named x process label) e
+effect_not_down x process (CreateEnlistment label manager transaction kind) built e = enlisted_not_down x process label (manager_named x process manager) (transaction_named x process transaction) kind e
+effect_not_down x process (OpenEnlistment label manager guid) built e = done_not_down _ (done_enlistment x process label (enlistment_with x (manager_named x process manager) guid)) e
+effect_not_down x process (RecoverEnlistment label) built e = done_not_down _ (done_answering x (enlistment_named x process label) recovery_of) e
+effect_not_down x process (PrePrepareComplete label) built e = done_not_down _ (done_answering x (enlistment_named x process label) (λ e. PhaseInput.PrePrepareComplete)) e
+effect_not_down x process (PrepareComplete label) built e = done_not_down _ (done_answering x (enlistment_named x process label) (λ e. PhaseInput.PrepareComplete)) e
+effect_not_down x process (ReadOnlyEnlistment label) built e = done_not_down _ (done_answering x (enlistment_named x process label) (λ e. PhaseInput.ReadOnly (share_of e))) e
+effect_not_down x process (CommitComplete label) built e = done_not_down _ (done_answering x (enlistment_named x process label) (λ e. PhaseInput.CommitComplete)) e
+effect_not_down x process (RollbackComplete label) built e = done_not_down _ (done_answering x (enlistment_named x process label) (λ e. PhaseInput.RollbackComplete)) e
+effect_not_down x process (SinglePhaseReject label) built e = done_not_down _ (done_answering x (enlistment_named x process label) (λ e. PhaseInput.SinglePhaseReject)) e
+effect_not_down x process (RollbackEnlistment label) built e = done_not_down _ (done_answering x (enlistment_named x process label) (λ e. PhaseInput.Rollback)) e
+effect_not_down x process (SetEnlistmentRecoveryInformation label information) built e = done_not_down _ (done_informed x (enlistment_named x process label) information) e
+effect_not_down x process (GetEnlistmentRecoveryInformation label) built e = contents_not_down (enlistment_named x process label) e
 effect_not_down x process (CreateFile label path access share disposition) built e = says_not_down _ (opening_says x process label None path access share disposition) e
 effect_not_down x process (CreateFileTransacted label path access share disposition transaction) built e =
     says_not_down _ (opening_says x process label (caller x process transaction) path access share disposition) e
@@ -437,8 +507,8 @@ ticks x ms on = within_log x (refuse_or x (first_refusal ((not on, MachineDown) 
 tick_down : (x : Present) (ms : ℕ) → x.machine.is_up ≡ false → decide_tick x ms ≡ only_reply x (Refused MachineDown)
 tick_down x ms off = ap (ticks x ms) off
 
-tick_up : (x : Present) (ms : ℕ) → IsBuiltNow x → x.machine.is_up ≡ true → decide_tick x ms ≡ tick x ms
-tick_up x ms built on = ap (ticks x ms) on ∙ ap (λ (es : List Event). cond (is_full x.machine.left es) (full_log x) (tick x ms)) (quiet_tick x ms built).silent.records
+tick_up : (x : Present) (ms : ℕ) → x.machine.is_up ≡ true → decide_tick x ms ≡ within_log x (tick x ms)
+tick_up x ms on = ap (ticks x ms) on
 
 pub decided_law : DecidedLaw
 decided_law = record {

@@ -3,9 +3,7 @@ use Rattle.std.proofs.Common.{◌≡◌, ◌&&◌, true, false, List, [], ◌∷
 use Rattle.std.proofs.lemmas.Bool.{cases_Bool, and_parts, or_from, or_parts}
 use Rattle.std.specs.List.{AllByRecursion, list_all, list_any}
 use Rattle.ktm_base.specs.declared.id.Id.{Id}
-use Rattle.ktm_types.specs.declared.object.Phase.{Phase}
 use Rattle.ktm_types.specs.declared.object.Transaction.{Transaction}
-use Rattle.ktm_types.specs.declared.object.TransactionOutcome.{TransactionOutcome}
 use Rattle.ktm_world.specs.Durable.{is_before}
 use Rattle.ktm_world.specs.Transactions.{same_id, transaction_at, change_at}
 use Rattle.txf_laws.specs.Elements.{each_pair}
@@ -15,10 +13,6 @@ use Rattle.ktm_forms.proofs.Ids.{same_id-equal, same_id-self}
 -- they stand by rising Id
 abbrev pub Rise : List Transaction → Type 0
 Rise ts = each_pair (λ (t u : Transaction). is_before t.id u.id) ts ≡ true
-
--- a transaction that has ended, with this outcome
-abbrev pub ended_with : TransactionOutcome → Transaction → Transaction
-ended_with outcome t = record t { phase = Phase.Ended; outcome = outcome }
 
 -- ---- no two have the same Id
 
@@ -43,28 +37,31 @@ rise-rest t ts rise = (and_parts (list_all (λ (u : Transaction). is_before t.id
 
 -- ---- they go on to rise
 
--- one that ends keeps its Id
-behind-ended : (outcome : TransactionOutcome) (a : Id) (ts : List Transaction) (id : Id)
-    → list_all (λ (u : Transaction). is_before a u.id) (change_at ts id (ended_with outcome)) ≡ list_all (λ (u : Transaction). is_before a u.id) ts
-behind-ended outcome a [] id = refl
-behind-ended outcome a (t ∷ ts) id =
-    let rest = behind-ended outcome a ts id in
-    elim (cases_Bool (same_id t.id id)) [ inl same ↦ rw same refl | inr other ↦ rw other (ap (λ b. is_before a t.id && b) rest) ]
-
-rise-changed : (outcome : TransactionOutcome) (ts : List Transaction) (id : Id)
-    → each_pair (λ (t u : Transaction). is_before t.id u.id) (change_at ts id (ended_with outcome)) ≡ each_pair (λ (t u : Transaction). is_before t.id u.id) ts
-rise-changed outcome [] id = refl
-rise-changed outcome (t ∷ ts) id =
-    let rest = rise-changed outcome ts id in
-    let here = behind-ended outcome t.id ts id in
+-- one that is changed keeps its Id
+behind-changed : (f : Transaction → Transaction) (a : Id) (ts : List Transaction) (id : Id) → ((t : Transaction) → same_id t.id id ≡ true → (f t).id ≡ id)
+    → list_all (λ (u : Transaction). is_before a u.id) (change_at ts id f) ≡ list_all (λ (u : Transaction). is_before a u.id) ts
+behind-changed f a [] id keeps = refl
+behind-changed f a (t ∷ ts) id keeps =
+    let rest = behind-changed f a ts id keeps in
     elim (cases_Bool (same_id t.id id)) [
-      | inl same ↦ rw same refl
-      | inr other ↦ rw other (ap (λ b. b && each_pair (λ (t u : Transaction). is_before t.id u.id) (change_at ts id (ended_with outcome))) here
+      | inl same ↦ rw same (ap (λ i. is_before a i && list_all (λ (u : Transaction). is_before a u.id) ts) (keeps t same ∙ sym (same_id-equal t.id id same)))
+      | inr other ↦ rw other (ap (λ b. is_before a t.id && b) rest)
+    ]
+
+rise-kept : (f : Transaction → Transaction) (ts : List Transaction) (id : Id) → ((t : Transaction) → same_id t.id id ≡ true → (f t).id ≡ id)
+    → each_pair (λ (t u : Transaction). is_before t.id u.id) (change_at ts id f) ≡ each_pair (λ (t u : Transaction). is_before t.id u.id) ts
+rise-kept f [] id keeps = refl
+rise-kept f (t ∷ ts) id keeps =
+    let rest = rise-kept f ts id keeps in
+    let here = behind-changed f t.id ts id keeps in
+    elim (cases_Bool (same_id t.id id)) [
+      | inl same ↦ rw same (ap (λ i. list_all (λ (u : Transaction). is_before i u.id) ts && each_pair (λ (t u : Transaction). is_before t.id u.id) ts) (keeps t same ∙ sym (same_id-equal t.id id same)))
+      | inr other ↦ rw other (ap (λ b. b && each_pair (λ (t u : Transaction). is_before t.id u.id) (change_at ts id f)) here
           ∙ ap (λ b. list_all (λ (u : Transaction). is_before t.id u.id) ts && b) rest)
     ]
 
-pub rise-ended : (outcome : TransactionOutcome) (ts : List Transaction) (id : Id) → Rise ts → Rise (change_at ts id (ended_with outcome))
-rise-ended outcome ts id rise = rise-changed outcome ts id ∙ rise
+pub rise-changed : (f : Transaction → Transaction) (ts : List Transaction) (id : Id) → ((t : Transaction) → same_id t.id id ≡ true → (f t).id ≡ id) → Rise ts → Rise (change_at ts id f)
+rise-changed f ts id keeps rise = rise-kept f ts id keeps ∙ rise
 
 -- ---- each is found by its Id
 

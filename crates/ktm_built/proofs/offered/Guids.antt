@@ -1,7 +1,7 @@
--- Transactions by their GUIDs.
+-- Transactions, resource managers and enlistments by their GUIDs.
 use Rattle.std.proofs.Common.{◌≡◌, ℕ, ◌^◌, ◌<◌, ◌&&◌, ◌||◌, Bool, true, false, List, [], ◌∷◌, cond, nat_lt, nat_le, Option, Some, None, refl, sym, ◌∙◌, ap, arith, inl, inr}
 use Rattle.std.specs.Prelude.{bytes_eq, find, option_and_then}
-use Rattle.std.specs.List.{AllByRecursion, list_all}
+use Rattle.std.specs.List.{list_all}
 use Rattle.std.proofs.lemmas.Bool.{cases_Bool, and_parts, and_right, both_ways, leb-true}
 use Rattle.std.proofs.lemmas.Slice.Eq.{bytes_eq-Decides}
 use Rattle.ktm_base.specs.declared.limits.TheConstants.{MOST_NUMBER}
@@ -9,6 +9,7 @@ use Rattle.ktm_base.specs.declared.id.Id.{Id}
 use Rattle.ktm_base.specs.declared.id.ObjectKind.{ObjectKind}
 use Rattle.ktm_base.specs.Guid.{IsId, guid_of}
 use Rattle.ktm_types.specs.declared.object.Transaction.{Transaction}
+use Rattle.ktm_world.specs.Enlistments.{Enlistment, Manager, is_live_enlistment}
 use Rattle.ktm_world.specs.Transactions.{same_id, is_of, is_live}
 use Rattle.ktm_courses.specs.SoundCourse.{is_counted}
 use Rattle.ktm_built.specs.Laws.{GuidLaw, LeadsTo}
@@ -33,20 +34,6 @@ leads kind image guid (Some there) id leads_to is = elim (cases_Bool (bytes_eq (
   ]
 ]
 
--- two tests that agree find the same
-find_alike : (p q : Transaction → Bool) (ts : List Transaction) → AllByRecursion (λ t. p t ≡ q t) ts → find p ts ≡ find q ts
-find_alike p q [] all = refl
-find_alike p q (t ∷ ts) all = ap (λ b. cond b (Some t) (find p ts)) all.0 ∙ ap (λ found. cond (q t) (Some t) found) (find_alike p q ts all.1)
-
--- where there is no Id, none is found
-find_of : (ts : List Transaction) (found : Option Id) → find (λ t. is_live t && is_of t.id found) ts ≡ option_and_then (λ id. find (λ t. is_live t && same_id t.id id) ts) found
-find_of ts (Some id) = refl
-find_of ts None = none ts
-  where
-    none : (ts : List Transaction) → find (λ t. is_live t && false) ts ≡ None
-    none [] = refl
-    none (t ∷ ts) = ap (λ b. cond b (Some t) (find (λ t. is_live t && false) ts)) (and_right (is_live t) false refl) ∙ none ts
-
 -- an Id that was counted is one of the system
 pub counted_id : (boots last : ℕ) (id : Id) → boots < 2 ^ 32 → is_counted boots last id ≡ true → IsId id
 counted_id boots last id fits counted =
@@ -61,16 +48,36 @@ counted_id boots last id fits counted =
       number_fits = omega (arith, leb-true _ _ most.1);
     }
 
-all_lead : (boots last image : ℕ) (guid : List ℕ) (found : Option Id) (ts : List Transaction) → boots < 2 ^ 32 → LeadsTo ObjectKind.Transaction image guid found
-    → list_all (λ (t : Transaction). is_counted boots last t.id) ts ≡ true
-    → AllByRecursion (λ t. (is_live t && bytes_eq (guid_of ObjectKind.Transaction image t.id) guid) ≡ (is_live t && is_of t.id found)) ts
-all_lead boots last image guid found [] fits leads_to counted = tt
-all_lead boots last image guid found (t ∷ ts) fits leads_to counted =
-    let parts = and_parts (is_counted boots last t.id) (list_all (λ (t : Transaction). is_counted boots last t.id) ts) counted in
-    (ap (λ b. is_live t && b) (leads ObjectKind.Transaction image guid found t.id leads_to (counted_id boots last t.id fits parts.0)), all_lead boots last image guid found ts fits leads_to parts.1)
+module _ {X : Type 0} (test : X → Bool) (id_of : X → Id) where
+  -- where there is no Id, none is found
+  find_of : (xs : List X) (found : Option Id) → find (λ x. test x && is_of (id_of x) found) xs ≡ option_and_then (λ id. find (λ x. test x && same_id (id_of x) id) xs) found
+  find_of xs (Some id) = refl
+  find_of xs None = none xs
+    where
+      none : (xs : List X) → find (λ x. test x && false) xs ≡ None
+      none [] = refl
+      none (x ∷ xs) = ap (λ b. cond b (Some x) (find (λ x. test x && false) xs)) (and_right (test x) false refl) ∙ none xs
+
+  -- the first of those that pass with a GUID is the first with the Id that it leads to
+  find_alike : (kind : ObjectKind) (boots last image : ℕ) (guid : List ℕ) (found : Option Id) (xs : List X) → boots < 2 ^ 32 → LeadsTo kind image guid found → list_all (λ x. is_counted boots last (id_of x)) xs ≡ true
+      → find (λ x. test x && bytes_eq (guid_of kind image (id_of x)) guid) xs ≡ find (λ x. test x && is_of (id_of x) found) xs
+  find_alike kind boots last image guid found [] fits leads_to counted = refl
+  find_alike kind boots last image guid found (x ∷ xs) fits leads_to counted =
+      let parts = and_parts (is_counted boots last (id_of x)) (list_all (λ x. is_counted boots last (id_of x)) xs) counted in
+      ap (λ b. cond (test x && b) (Some x) (find (λ x. test x && bytes_eq (guid_of kind image (id_of x)) guid) xs)) (leads kind image guid found (id_of x) leads_to (counted_id boots last (id_of x) fits parts.0))
+      ∙ ap (λ rest. cond (test x && is_of (id_of x) found) (Some x) rest) (find_alike kind boots last image guid found xs fits leads_to parts.1)
+
+  found_by_guid : (kind : ObjectKind) (boots last image : ℕ) (guid : List ℕ) (found : Option Id) (xs : List X) → boots < 2 ^ 32 → LeadsTo kind image guid found → list_all (λ x. is_counted boots last (id_of x)) xs ≡ true
+      → find (λ x. test x && bytes_eq (guid_of kind image (id_of x)) guid) xs ≡ option_and_then (λ id. find (λ x. test x && same_id (id_of x) id) xs) found
+  found_by_guid kind boots last image guid found xs fits leads_to counted = find_alike kind boots last image guid found xs fits leads_to counted ∙ find_of xs found
 
 pub guid_law : GuidLaw
-guid_law x guid found course leads_to =
-    find_alike _ _ x.transactions.items
-    (all_lead x.recorded.boots x.transactions.last_transaction x.recorded.image guid found x.transactions.items course.numbers.boots_fit leads_to course.transactions.counted)
-    ∙ find_of x.transactions.items found
+guid_law = record {
+  transactions = λ x guid found course leads_to.
+      found_by_guid is_live (λ (t : Transaction). t.id) ObjectKind.Transaction x.recorded.boots x.transactions.last_transaction x.recorded.image guid found x.transactions.items course.numbers.boots_fit leads_to course.transactions.counted;
+  managers = λ x guid found course leads_to.
+      found_by_guid (λ m. true) (λ (m : Manager). m.id) ObjectKind.Manager x.recorded.boots x.transactions.last_manager x.recorded.image guid found x.managers course.numbers.boots_fit leads_to course.managers.counted;
+  enlistments = λ x m guid found course leads_to.
+      found_by_guid (λ e. same_id e.manager m.id && is_live_enlistment x.transactions.items e) (λ (e : Enlistment). e.id) ObjectKind.Enlistment x.recorded.boots x.transactions.last_enlistment x.recorded.image guid found
+      x.transactions.enlistments course.numbers.boots_fit leads_to course.enlistments.counted;
+}

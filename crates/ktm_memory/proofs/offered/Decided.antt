@@ -5,7 +5,6 @@ use Rattle.ktm_event.specs.Kept.{EventsState, Holds}
 use Rattle.ktm_types.specs.declared.reply.Reply.{Reply}
 use Rattle.ktm_types.specs.declared.reply.Reply.TheVariants.{Refused}
 use Rattle.ktm_world.specs.Outcome.{Outcome, apply, is_full, only_reply}
-use Rattle.ktm_built.specs.Standing.{IsBuiltNow}
 use Rattle.ktm_memory.specs.declared.settlement.Settlement.{Settlement}
 use Rattle.ktm_memory.specs.declared.settlement.Settlement.TheVariants.{Nothing}
 use Rattle.ktm_memory.specs.Decided.{Decides}
@@ -13,30 +12,30 @@ use Rattle.ktm_memory.specs.Memory.{Held, MaySettle, MemoryState, held, now_of, 
 use Rattle.ktm_memory.specs.Settled.{left_to_do}
 
 -- what is left to do comes to what the outcome comes to
-pub decided : (h : Held) (n : MemoryState) (o : Outcome) (reply : Reply) (then : Settlement) (events : EventsState) → IsBuiltNow (now_of h) → reply ≡ o.reply → Holds events o.events → is_full (now_of h).machine.left o.events ≡ false
-    → held n ≡ h → (left_to_do (now_of h) then).events ≡ o.events → apply (now_of h) (left_to_do (now_of h) then) ≡ apply (now_of h) o → MaySettle n then
+pub decided : (h : Held) (n : MemoryState) (o : Outcome) (reply : Reply) (then : Settlement) (events : EventsState) → reply ≡ o.reply → Holds events o.events → is_full (now_of h).machine.left o.events ≡ false
+    → held n ≡ h → (left_to_do (now_of h) then).events ≡ o.events → (left_to_do (now_of h) then).sent ≡ o.sent → apply (now_of h) (left_to_do (now_of h) then) ≡ apply (now_of h) o → MaySettle n then
     → (o.events ≢ [] → (refusal : Refusal) → reply ≢ Refused refusal) → Decides h o reply then events n
-decided h n o reply then events built says holds room same group comes may answers = record {
+decided h n o reply then events says holds room same group tells comes may answers = record {
   says = says;
   records = holds;
   room = room;
   journal = ap (λ (g : Held). g.journal) same;
   group = ap (λ (g : Held). (left_to_do (now_of g) then).events) same ∙ group;
+  tells = ap (λ (g : Held). (left_to_do (now_of g) then).sent) same ∙ tells;
   comes_to = ap (λ (g : Held). apply (now_of g) (left_to_do (now_of g) then)) same ∙ comes;
-  built = subst (λ (g : Held). IsBuiltNow (now_of g)) (sym same) built;
   may = may;
   waits = λ some. same;
   answers = answers;
 }
 
 -- the same of what records nothing
-pub quiet_decided : (h : Held) (n : MemoryState) (o : Outcome) (reply : Reply) (then : Settlement) (events : EventsState) → IsBuiltNow (now_of h) → reply ≡ o.reply → o.events ≡ [] → held n ≡ h
-    → (left_to_do (now_of h) then).events ≡ o.events → apply (now_of h) (left_to_do (now_of h) then) ≡ apply (now_of h) o → MaySettle n then → Holds events [] → Decides h o reply then events n
-quiet_decided h n o reply then events built says none same group comes may holds =
-    decided h n o reply then events built says (subst (Holds events) (sym none) holds) (ap (is_full (now_of h).machine.left) none) same group comes may (λ some. absurd (some none))
+pub quiet_decided : (h : Held) (n : MemoryState) (o : Outcome) (reply : Reply) (then : Settlement) (events : EventsState) → reply ≡ o.reply → o.events ≡ [] → held n ≡ h
+    → (left_to_do (now_of h) then).events ≡ o.events → (left_to_do (now_of h) then).sent ≡ o.sent → apply (now_of h) (left_to_do (now_of h) then) ≡ apply (now_of h) o → MaySettle n then → Holds events [] → Decides h o reply then events n
+quiet_decided h n o reply then events says none same group tells comes may holds =
+    decided h n o reply then events says (subst (Holds events) (sym none) holds) (ap (is_full (now_of h).machine.left) none) same group tells comes may (λ some. absurd (some none))
 
 -- a reply, and nothing left to do
-pub only_decided : (m : MemoryState) (o : Outcome) (reply : Reply) (events : EventsState) → IsBuiltNow (present_of m) → o ≡ only_reply (present_of m) reply → Holds events []
+pub only_decided : (m : MemoryState) (o : Outcome) (reply : Reply) (events : EventsState) → o ≡ only_reply (present_of m) reply → Holds events []
     → Decides (held m) o reply Nothing events m
-only_decided m o reply events built is holds =
-    subst (λ o. Decides (held m) o reply Nothing events m) (sym is) (quiet_decided (held m) m (only_reply (present_of m) reply) reply Nothing events built refl refl refl refl refl tt holds)
+only_decided m o reply events is holds =
+    subst (λ o. Decides (held m) o reply Nothing events m) (sym is) (quiet_decided (held m) m (only_reply (present_of m) reply) reply Nothing events refl refl refl refl refl refl tt holds)

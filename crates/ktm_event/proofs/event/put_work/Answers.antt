@@ -1,8 +1,8 @@
 use Rattle.std.proofs.Common.{arith}
 use Rattle.std.proofs.lemmas.Result.{err_from_is_err_and}
-use Rattle.ktm_types.specs.declared.event.Part.TheVariants.{Changes, Settings}
+use Rattle.ktm_types.specs.declared.event.Part.TheVariants.{Changes, Settings, Enlistment}
 use Rattle.ktm_event.specs.Work.{changes_of, part_of}
-use Rattle.ktm_event.proofs.Writings.{on_ok_so, on_err_so, work, work_size, work_id, work_changes, work_settings}
+use Rattle.ktm_event.proofs.Writings.{on_ok_so, on_err_so, work, work_size, work_id, work_changes, work_settings, work_enlistment}
 use Rattle.ktm_event.proofs.event.put_work.Goals as goal
 
 pub put_tagged_id-requires : goal.put_tagged_id-requires
@@ -18,6 +18,9 @@ put_names_and_files_part-requires c = work_changes c.args.stage c.args.transacti
 
 pub put_settings_part-requires : goal.put_settings_part-requires
 put_settings_part-requires c = work_settings c.args.stage c.args.transaction _ (rw c.in-Settings.is at c.requires)
+
+pub put_enlistment-requires : goal.put_enlistment-requires
+put_enlistment-requires c = work_enlistment c.args.stage c.args.transaction _ _ _ (rw c.in-Enlistment.is at c.requires)
 
 pub returns-in-Changes-clause-adds : goal.returns-in-Changes-clause-adds
 returns-in-Changes-clause-adds c =
@@ -48,3 +51,18 @@ pub returns-in-Settings-clause-full : goal.returns-in-Settings-clause-full
 returns-in-Settings-clause-full c =
     let size = work_size c.args.stage c.args.transaction (Settings c.in-Settings.settings.now) in
     rw c.in-Settings.is (on_err_so c.put_settings_part.result c.put_settings_part.ensures.full (λ full. omega (arith, full, c.in_ok-put_tagged_id.ensures.len, c.put_tagged_id.ensures.room, size)))
+
+pub returns-in-Enlistment-clause-adds : goal.returns-in-Enlistment-clause-adds
+returns-in-Enlistment-clause-adds c =
+    let head = rw c.tag.ensures at c.in_ok-put_tagged_id.ensures.adds in
+    rw c.in-Enlistment.is (on_ok_so c.put_enlistment.result c.put_enlistment.ensures.adds (λ adds. work c.args.stage (Enlistment c.in-Enlistment.enlistment c.in-Enlistment.manager c.in-Enlistment.information.now) (rw c.in-Enlistment.is at c.requires) head adds))
+
+pub returns-in-Enlistment-clause-len : goal.returns-in-Enlistment-clause-len
+returns-in-Enlistment-clause-len c =
+    let size = work_size c.args.stage c.args.transaction (Enlistment c.in-Enlistment.enlistment c.in-Enlistment.manager c.in-Enlistment.information.now) in
+    rw c.in-Enlistment.is (on_ok_so c.put_enlistment.result c.put_enlistment.ensures.len (λ len. omega (arith, len, c.in_ok-put_tagged_id.ensures.len, size)))
+
+pub returns-in-Enlistment-clause-full : goal.returns-in-Enlistment-clause-full
+returns-in-Enlistment-clause-full c =
+    let size = work_size c.args.stage c.args.transaction (Enlistment c.in-Enlistment.enlistment c.in-Enlistment.manager c.in-Enlistment.information.now) in
+    rw c.in-Enlistment.is (on_err_so c.put_enlistment.result c.put_enlistment.ensures.full (λ full. omega (arith, full, c.in_ok-put_tagged_id.ensures.len, c.put_tagged_id.ensures.room, size)))

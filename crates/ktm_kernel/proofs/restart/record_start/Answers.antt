@@ -1,19 +1,11 @@
-use Rattle.std.proofs.Common.{[], ◌+◌, ap, arith}
-use Rattle.ktm_kernel.proofs.Restarts.{lists_start}
+use Rattle.ktm_kernel.proofs.Restarts.{roomy_then}
 use Rattle.ktm_kernel.proofs.restart.record_start.Goals as goal
 
-pub append-requires-clause-some : goal.append-requires-clause-some
-append-requires-clause-some g c = omega (arith, (c.push.ensures.adds [] c.events_in-events.ensures.empty).counted)
+pub machine-requires : goal.machine-requires
+machine-requires g c = roomy_then _ _ _ c.requires.listed.0 c.requires.listed.1 c.requires.roomy c.in-Ok.ensures
 
-pub returns-in-Ok-clause-leaves : goal.returns-in-Ok-clause-leaves
-returns-in-Ok-clause-leaves g c = (
-  lists_start c.push.new.self _ c.args.journal.now.units c.args.state.now _ c.requires.built (ap (λ n. n + 1) c.boots.ensures) (c.push.ensures.adds [] c.events_in-events.ensures.empty) c.push.ensures.room c.events_in-events.ensures.room,
-  c.in-Ok.ensures,
-)
+pub returns-in-Ok-clause-ok : goal.returns-in-Ok-clause-ok
+returns-in-Ok-clause-ok g c = record { memory = c.record.new.self; is = c.machine.ensures; leaves = c.in-Ok.ensures }
 
-pub returns-in-Err-clause-leaves : goal.returns-in-Err-clause-leaves
-returns-in-Err-clause-leaves g c = (
-  c.push.new.self,
-  lists_start c.push.new.self _ c.args.journal.now.units c.args.state.now _ c.requires.built (ap (λ n. n + 1) c.boots.ensures) (c.push.ensures.adds [] c.events_in-events.ensures.empty) c.push.ensures.room c.events_in-events.ensures.room,
-  c.in-Err.ensures,
-)
+pub returns-in-Err-clause-err : goal.returns-in-Err-clause-err
+returns-in-Err-clause-err g c = record { memory = c.record.new.self; why = c.in-Err.fault; is = c.unrecorded.ensures; leaves = c.in-Err.ensures }

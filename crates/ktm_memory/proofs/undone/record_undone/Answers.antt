@@ -1,6 +1,6 @@
 use Rattle.std.proofs.Common.{◌≡◌, ◌≤◌, ℕ, ◌+◌, ◌++◌, [], All, List, drop, filter, sum_by, append-nil, append_assoc, refl, ap, sym, subst, ◌∙◌, arith}
 use Rattle.std.specs.List.{flat_map}
-use Rattle.ktm_course.proofs.offered.Events.{first_spelled, sizes_both}
+use Rattle.ktm_event.proofs.Joined.{first_spelled, sizes_both}
 use Rattle.ktm_event.specs.Kept.{EventsState, Holds}
 use Rattle.ktm_event.specs.Spelling.{IsSpellableEvent}
 use Rattle.ktm_types.specs.Sizes.{event_size}

@@ -1,6 +1,6 @@
 use Rattle.std.proofs.Common.{◌+◌, drop, filter, sum_by, ap, sym, ◌∙◌, arith}
 use Rattle.std.specs.List.{flat_map}
-use Rattle.ktm_course.proofs.offered.Events.{sizes_both}
+use Rattle.ktm_event.proofs.Joined.{sizes_both}
 use Rattle.ktm_types.specs.Sizes.{event_size}
 use Rattle.ktm_world.specs.Transactions.{is_live}
 use Rattle.ktm_world.specs.TransactionCalls.{later}

@@ -1,26 +1,18 @@
-use Rattle.std.proofs.Common.{◌≡◌, ℕ, ◌&&◌, List, Option, Some, None, IfSome, ap, sym, ◌∙◌}
+use Rattle.std.proofs.Common.{◌&&◌, ap, sym, ◌∙◌}
 use Rattle.std.specs.Prelude.{find, option_and_then}
-use Rattle.ktm_base.specs.declared.id.Id.{Id}
 use Rattle.ktm_base.specs.declared.id.ObjectKind.{ObjectKind}
-use Rattle.ktm_base.specs.Guid.{IsId, guid_of}
 use Rattle.ktm_world.specs.Transactions.{is_live, same_id}
-use Rattle.ktm_built.specs.Laws.{LeadsTo}
 use Rattle.ktm_built.proofs.offered.Guids.{guid_law}
 use Rattle.ktm_memory.specs.Memory.{present_of}
 use Rattle.ktm_memory.proofs.offered.Standing.{kept}
+use Rattle.ktm_route.proofs.Found.{leads_to}
 use Rattle.ktm_route.proofs.labels.with_guid.Goals as goal
-
--- what was found for the GUID, on this image
-leads : (n image : ℕ) (guid : List ℕ) (found : Option Id) → n ≡ image → IfSome found (λ id. IsId id × (guid_of ObjectKind.Transaction n id ≡ guid))
-    → ((id : Id) → IsId id → guid_of ObjectKind.Transaction n id ≡ guid → found ≡ Some id) → LeadsTo ObjectKind.Transaction image guid found
-leads n image guid None same has every = record { has = tt; every = λ id is its. every id is (ap (λ i. guid_of ObjectKind.Transaction i id) same ∙ its) }
-leads n image guid (Some id) same has every = record { has = ap (λ i. guid_of ObjectKind.Transaction i id) (sym same) ∙ has.1; every = λ id is its. every id is (ap (λ i. guid_of ObjectKind.Transaction i id) same ∙ its) }
 
 pub returns-in_default : goal.returns-in_default
 returns-in_default c =
     let x = present_of c.args.memory.now in
-    sym (guid_law x c.args.guid.now c.id_of.result (kept x c.requires).sound.course
-    (leads c.image.result x.recorded.image c.args.guid.now c.id_of.result (c.image.ensures ∙ ap (λ j. j.image) c.journal.ensures) c.id_of.ensures.found c.id_of.ensures.every)
+    sym (guid_law.transactions x c.args.guid.now c.id_of.result (kept x c.requires).sound.course
+    (leads_to ObjectKind.Transaction c.image.result x.recorded.image c.args.guid.now c.id_of.result (c.image.ensures ∙ ap (λ j. j.image) c.journal.ensures) c.id_of.ensures.found c.id_of.ensures.every)
     ∙ ap (option_and_then (λ id. find (λ t. is_live t && same_id t.id id) x.transactions.items)) c.in_default.is)
 
 pub returns : goal.returns
@@ -28,6 +20,6 @@ returns c =
     let x = present_of c.args.memory.now in
     c.find_live.ensures.first
     ∙ ap (λ tm. find (λ t. is_live t && same_id t.id c.in-Some.id) tm.now.items) c.tm.ensures
-    ∙ sym (guid_law x c.args.guid.now c.id_of.result (kept x c.requires).sound.course
-    (leads c.image.result x.recorded.image c.args.guid.now c.id_of.result (c.image.ensures ∙ ap (λ j. j.image) c.journal.ensures) c.id_of.ensures.found c.id_of.ensures.every)
+    ∙ sym (guid_law.transactions x c.args.guid.now c.id_of.result (kept x c.requires).sound.course
+    (leads_to ObjectKind.Transaction c.image.result x.recorded.image c.args.guid.now c.id_of.result (c.image.ensures ∙ ap (λ j. j.image) c.journal.ensures) c.id_of.ensures.found c.id_of.ensures.every)
     ∙ ap (option_and_then (λ id. find (λ t. is_live t && same_id t.id id) x.transactions.items)) c.in-Some.is)

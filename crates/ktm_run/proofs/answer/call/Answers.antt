@@ -1,10 +1,10 @@
-use Rattle.ktm_run.proofs.Answering.{called, not_executed}
+use Rattle.ktm_run.proofs.Answering.{decided, is_call, not_executed}
 use Rattle.ktm_run.proofs.answer.call.Goals as goal
 
 pub returns-in-Ok-clause-does : goal.returns-in-Ok-clause-does
 returns-in-Ok-clause-does g c =
-    called c.args.kernel.now c.call.new.self (g.D.Disk.told c.args.disk.now) (g.D.Disk.told c.call.new.disk) (g.D.Disk.status c.args.disk.now) (g.D.Disk.status c.call.new.disk)
-    c.args.process c.args.command c.in-Ok.reply c.in-Ok.ensures.leaves.does c.in-Ok.ensures.leaves.cause c.in-Ok.ensures.leaves.calls
+    decided _ _ c.in-Ok.reply (is_call c.args.process c.args.command c.in-Ok.reply) c.args.kernel.now c.call.new.self (g.D.Disk.told c.args.disk.now) (g.D.Disk.told c.call.new.disk) (g.D.Disk.status c.args.disk.now) (g.D.Disk.status c.call.new.disk)
+    c.in-Ok.ensures.leaves.cause c.in-Ok.ensures.leaves.calls c.in-Ok.ensures.leaves.does
 
 pub returns-in-Err-clause-no_memory : goal.returns-in-Err-clause-no_memory
 returns-in-Err-clause-no_memory g c = λ line.

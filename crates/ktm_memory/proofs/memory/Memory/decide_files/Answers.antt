@@ -9,7 +9,6 @@ use Rattle.ktm_memory.specs.Memory.{held, present_of}
 use Rattle.ktm_memory.specs.Opening.{files_outcome}
 use Rattle.ktm_memory.proofs.offered.Decided.{only_decided}
 use Rattle.ktm_memory.proofs.FilesDecided.{may_make, planned, quiet_outcome}
-use Rattle.ktm_memory.proofs.offered.Standing.{built}
 use Rattle.ktm_memory.proofs.offered.Takes.{gave_up, own_quiet, plain_full, quick_decision}
 use Rattle.ktm_memory.proofs.memory.Memory.decide_files.Goals as goal
 
@@ -24,7 +23,7 @@ returns-then-changes_nothing-clause-ok c =
     let quiet = quiet_outcome x c.args.process c.args.who c.args.label c.in_ok-plan.plan (sym c.changes_nothing.ensures ∙ c.if-changes_nothing.true) in
     let reply = c.only.ensures.reply ∙ ap (λ (p : FileOutcome). p.reply) c.plan.view_is in
     rw c.only.ensures.settlement
-    (only_decided c.args.self.now _ c.only.result.reply c.args.events.now (built x c.requires.standing)
+    (only_decided c.args.self.now _ c.only.result.reply c.args.events.now
     (ap (files_outcome x c.args.process c.args.who c.args.label) (sym plan) ∙ quiet ∙ ap (only_reply x) (sym reply)) c.requires.empty)
 
 pub decide_plain-requires-clause-may : goal.decide_plain-requires-clause-may

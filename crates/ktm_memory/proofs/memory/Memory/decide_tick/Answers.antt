@@ -1,7 +1,6 @@
 use Rattle.std.proofs.Common.{◌≡◌, ℕ, ◌-◌, not, Bool, true, false, List, All, filter, refl, sym, ap, subst, ◌∙◌}
 use Rattle.std.specs.List.{flat_map}
 use Rattle.ktm_built.specs.Effects.{undo_of}
-use Rattle.ktm_built.proofs.offered.Undone.{undone_spelled}
 use Rattle.ktm_event.specs.Kept.{Holds}
 use Rattle.ktm_event.specs.Spelling.{IsSpellableEvent}
 use Rattle.ktm_types.specs.declared.event.Event.{Event}
@@ -9,9 +8,8 @@ use Rattle.ktm_world.specs.Outcome.{is_full}
 use Rattle.ktm_world.specs.TransactionCalls.{later}
 use Rattle.ktm_world.specs.Transactions.{is_live}
 use Rattle.ktm_memory.specs.Memory.{IsRoomy, MemoryState, present_of}
-use Rattle.ktm_memory.proofs.CommitGroups.{room_from}
 use Rattle.ktm_memory.proofs.Decides.{tick_decided}
-use Rattle.ktm_memory.proofs.UndoneLive.{tick_undoes, undone_live}
+use Rattle.ktm_memory.proofs.UndoneLive.{tick_undoes, undone_live, undone_spelled}
 use Rattle.ktm_memory.proofs.offered.Standing.{kept}
 use Rattle.ktm_memory.proofs.memory.Memory.decide_tick.Goals as goal
 
@@ -26,6 +24,10 @@ is_too_much m ms = is_full (m.journal.log.area.len - m.journal.log.end) (undone 
 full_from : (b : Bool) → not b ≡ false → b ≡ true
 full_from true is = refl
 full_from false is = absurd (cc)
+
+room_from : (b : Bool) → true ≡ not b → b ≡ false
+room_from false e = refl
+room_from true e = absurd (cc)
 
 pub returns-then-not-has_room-clause-ok : goal.returns-then-not-has_room-clause-ok
 returns-then-not-has_room-clause-ok c =

@@ -1,15 +1,14 @@
 use Rattle.std.proofs.Common.{◌≡◌, length}
-use Rattle.ktm_built.specs.Standing.{IsBuiltNow}
-use Rattle.ktm_memory.specs.Memory.{present_of}
 use Rattle.ktm_world.specs.HandleCalls.{exit, labels_of}
-use Rattle.ktm_world.specs.Outcome.{apply}
+use Rattle.ktm_memory.specs.Memory.{MemoryState, Settles, TellsWithin}
 use Rattle.ktm_memory.proofs.memory.Memory.exit.Given as goal
 
 abbrev pub invariant-loop-closed : goal.invariant-loop-closed
 invariant-loop-closed l = record {
-  gone : apply (present_of l.self) (exit (present_of l.self) l.process) ≡ apply (present_of l.fn.self) (exit (present_of l.fn.self) l.process);
+  -- what settles the rest settles all
+  settles : (new : MemoryState) → Settles l.self (λ x. exit x l.process) new → Settles l.fn.self (λ x. exit x l.process) new;
+  told : TellsWithin l.self (λ x. exit x l.process);
   journal : l.self.journal ≡ l.fn.self.journal;
-  built : IsBuiltNow (present_of l.self);
 }
 
 abbrev pub decreases-loop-closed : goal.decreases-loop-closed

@@ -1,66 +1,60 @@
-use Rattle.std.proofs.Common.{None, ap, refl, subst, sym, ◌∙◌, List}
-use Rattle.std.specs.List.{list_any}
-use Rattle.ktm_built.specs.Courses.{IsKnown, with_moved}
-use Rattle.ktm_built.specs.Effects.{with_group}
-use Rattle.ktm_built.proofs.offered.Courses.{led_on}
-use Rattle.ktm_records.proofs.offered.AgreementOfCourses.{arrival}
-use Rattle.ktm_built.proofs.offered.Applied.{apply-reply}
-use Rattle.ktm_built.proofs.offered.Quiet.{quiet_tick}
-use Rattle.ktm_course.specs.Moved.{is_commit}
+use Rattle.std.proofs.Common.{◌≡◌, true, is_some, List, sym, subst}
+use Rattle.ktm_built.proofs.offered.NextNode.{logs_next}
+use Rattle.ktm_memory.specs.Memory.{MemoryState, SettlesGood, TellsWithin, course_then}
+use Rattle.ktm_memory.proofs.Behind.{settles-good, settles-reply}
+use Rattle.ktm_memory.proofs.Telling.{settles-inform, settles-recover, settles-take, told-recover}
+use Rattle.ktm_tm.specs.Courses.{caller_of}
 use Rattle.ktm_types.specs.declared.reply.Reply.TheVariants.{Done}
 use Rattle.ktm_types.specs.declared.step.Step.{Step}
-use Rattle.ktm_world.specs.Outcome.{apply, only_reply}
-use Rattle.ktm_world.specs.Steps.{run}
-use Rattle.ktm_world.specs.TransactionCalls.{arrived, course_of, create_transaction, tick}
-use Rattle.ktm_memory.specs.Memory.{present_of}
-use Rattle.ktm_memory.specs.Opening.{files_outcome}
-use Rattle.ktm_memory.specs.Settled.{before, labels_outcome, with_change_made}
-use Rattle.ktm_memory.proofs.Left.{built_before, change_leaves, create_silent, labels_done, left_quiet, left_recorded, moved_aside}
+use Rattle.ktm_world.specs.Enlistments.{enlistment_at, manager_at}
+use Rattle.ktm_world.specs.Outcome.{only_reply}
+use Rattle.ktm_world.specs.TransactionCalls.{arrived, get_notification, recover_resource_manager, set_information}
 use Rattle.ktm_memory.proofs.memory.Memory.settle.Goals as goal
 
-pub returns-in-Nothing-clause-now : goal.returns-in-Nothing-clause-now
-returns-in-Nothing-clause-now c = rw c.in-Nothing.is (λ j are.
-    sym (apply-reply (present_of c.args.self.now) Done refl) ∙ left_quiet c.args.self.now j (λ x. apply x (only_reply x Done)) (only_reply (before c.args.self.now j) Done) are refl refl)
+pub recover-requires-clause-slots : goal.recover-requires-clause-slots
+recover-requires-clause-slots c =
+    let m : MemoryState = record { is_up = c.self.inside.is_up; journal = c.self.inside.journal; handles = c.self.inside.handles; tm = c.self.inside.tm; trace = c.self.inside.trace; files = c.self.inside.files; next_node = c.self.inside.next_node; keys = c.self.inside.keys } in
+    let there = subst (λ (old : MemoryState). is_some (manager_at old.tm.managers c.in-Recover.manager) ≡ true) (sym c.self.view_is) (rw c.in-Recover.is at c.requires.may) in
+    told-recover m c.in-Recover.manager c.law_of_kept.ensures there
+    (subst (λ (old : MemoryState). TellsWithin old (λ x. recover_resource_manager x (manager_at x.managers c.in-Recover.manager))) (sym c.self.view_is) (rw c.in-Recover.is at c.requires.told))
 
-pub returns-in-Begin-clause-now : goal.returns-in-Begin-clause-now
-returns-in-Begin-clause-now c = rw c.in-Begin.is (λ j are.
-    let x = before c.args.self.now j in
-    c.begin.ensures.now
-    ∙ left_quiet c.args.self.now j (λ x. apply x (create_transaction x c.in-Begin.process c.in-Begin.label c.in-Begin.timeout)) (create_transaction x c.in-Begin.process c.in-Begin.label c.in-Begin.timeout) are (create_silent x c.in-Begin.process c.in-Begin.label c.in-Begin.timeout).records refl)
+pub returns-in-Nothing-clause-settles : goal.returns-in-Nothing-clause-settles
+returns-in-Nothing-clause-settles c = rw c.in-Nothing.is (settles-good c.args.self.now c.args.self.now (λ x. only_reply x Done) (settles-reply c.args.self.now))
 
-pub returns-in-Change-clause-now : goal.returns-in-Change-clause-now
-returns-in-Change-clause-now c = rw c.in-Change.is (λ j are.
-    let x = before c.args.self.now j in
-    c.change.ensures.now
-    ∙ left_recorded c.args.self.now j (λ x. with_change_made x c.in-Change.process c.in-Change.label c.in-Change.plan) (files_outcome x c.in-Change.process None c.in-Change.label c.in-Change.plan) are (λ x events. refl)
-    (change_leaves x c.in-Change.process c.in-Change.label c.in-Change.plan (built_before c.args.self.now j c.requires.built)))
-
-pub carry_out-requires-clause-known : goal.carry_out-requires-clause-known
-carry_out-requires-clause-known c =
-    let may = rw c.in-Course.is at c.requires.may in
-    subst (λ (steps : List Step). IsKnown (list_any is_commit steps) (run steps (course_of (present_of c.args.self.now) c.in-Course.transaction None)).transaction) (sym c.as_slice.ensures.value) (may.leads c.args.self.now.journal).known
-
-pub returns-in-Course-clause-now : goal.returns-in-Course-clause-now
-returns-in-Course-clause-now c = rw c.in-Course.is (λ j are.
-    let may = rw c.in-Course.is at c.requires.may in
-    let x = before c.args.self.now j in
+pub returns-in-Course-clause-settles : goal.returns-in-Course-clause-settles
+returns-in-Course-clause-settles c =
     let t = c.in-Course.transaction in
-    let steps = c.in-Course.steps.items in
-    let then' = (run steps (course_of x t None)).transaction in
-    let commits = list_any is_commit steps in
-    c.carry_out.ensures.now
-    ∙ ap (λ (ss : List Step). with_moved (present_of c.args.self.now) t (run ss (course_of x t None)).transaction (list_any is_commit ss)) c.as_slice.ensures.value
-    ∙ left_recorded c.args.self.now j (λ x. with_moved x t then' commits) (arrived x (run steps (course_of x t None)) Done) are (moved_aside t then' commits)
-    (led_on x t steps Done (built_before c.args.self.now j c.requires.built) (may.leads j) ∙ ap (with_group (with_moved x t then' commits)) (sym (arrival x (run steps (course_of x t None)) Done).events)))
+    rw c.in-Course.is
+    (subst (λ (steps : List Step). SettlesGood c.args.self.now (λ x. arrived x (course_then x t c.in-Course.caller steps) Done) c.carry_out.new.self) c.as_slice.ensures.value (record {
+      shows = λ x now good. c.carry_out.ensures.settles.shows x now (logs_next x t (caller_of x.transactions.enlistments c.in-Course.caller) c.as_slice.result.now good);
+      slots = c.carry_out.ensures.settles.slots;
+    }))
 
-pub returns-in-Handles-clause-now : goal.returns-in-Handles-clause-now
-returns-in-Handles-clause-now c = rw c.in-Handles.is (λ j are.
-    let x = before c.args.self.now j in
-    c.handle.ensures.now
-    ∙ left_quiet c.args.self.now j (λ x. apply x (labels_outcome x c.in-Handles.process c.in-Handles.labels)) (labels_outcome x c.in-Handles.process c.in-Handles.labels) are
-    (labels_done x c.in-Handles.process c.in-Handles.labels (built_before c.args.self.now j c.requires.built)).records refl)
+pub returns-in-Recover-clause-settles : goal.returns-in-Recover-clause-settles
+returns-in-Recover-clause-settles c =
+    let m : MemoryState = record { is_up = c.self.inside.is_up; journal = c.self.inside.journal; handles = c.self.inside.handles; tm = c.self.inside.tm; trace = c.self.inside.trace; files = c.self.inside.files; next_node = c.self.inside.next_node; keys = c.self.inside.keys } in
+    let there = subst (λ (old : MemoryState). is_some (manager_at old.tm.managers c.in-Recover.manager) ≡ true) (sym c.self.view_is) (rw c.in-Recover.is at c.requires.may) in
+    let n : MemoryState = record m { tm = c.recover.new.self } in
+    rw c.in-Recover.is
+    (subst (λ (old : MemoryState). SettlesGood old (λ x. recover_resource_manager x (manager_at x.managers c.in-Recover.manager)) n) c.self.view_is
+    (settles-good m n (λ x. recover_resource_manager x (manager_at x.managers c.in-Recover.manager))
+    (settles-recover m c.recover.new.self c.in-Recover.manager there c.recover.ensures.room.boot c.recover.ensures.now c.recover.ensures.managers c.recover.ensures.slots)))
 
-pub returns-in-Pass-clause-now : goal.returns-in-Pass-clause-now
-returns-in-Pass-clause-now c = rw c.in-Pass.is (λ j are.
-    let x = before c.args.self.now j in
-    c.tick.ensures.now ∙ left_quiet c.args.self.now j (λ x. apply x (tick x c.in-Pass.ms)) (tick x c.in-Pass.ms) are (quiet_tick x c.in-Pass.ms (built_before c.args.self.now j c.requires.built)).silent.records refl)
+pub returns-in-Take-clause-settles : goal.returns-in-Take-clause-settles
+returns-in-Take-clause-settles c =
+    let m : MemoryState = record { is_up = c.self-in-Take.inside.is_up; journal = c.self-in-Take.inside.journal; handles = c.self-in-Take.inside.handles; tm = c.self-in-Take.inside.tm; trace = c.self-in-Take.inside.trace; files = c.self-in-Take.inside.files; next_node = c.self-in-Take.inside.next_node; keys = c.self-in-Take.inside.keys } in
+    let there = subst (λ (old : MemoryState). is_some (manager_at old.tm.managers c.in-Take.manager) ≡ true) (sym c.self-in-Take.view_is) (rw c.in-Take.is at c.requires.may) in
+    let n : MemoryState = record m { tm = c.take_note.new.self } in
+    rw c.in-Take.is
+    (subst (λ (old : MemoryState). SettlesGood old (λ x. get_notification x (manager_at x.managers c.in-Take.manager)) n) c.self-in-Take.view_is
+    (settles-good m n (λ x. get_notification x (manager_at x.managers c.in-Take.manager))
+    (settles-take m c.take_note.new.self c.in-Take.manager there c.take_note.ensures.room.boot c.take_note.ensures.now c.take_note.ensures.managers c.take_note.ensures.slots)))
+
+pub returns-in-Inform-clause-settles : goal.returns-in-Inform-clause-settles
+returns-in-Inform-clause-settles c =
+    let m : MemoryState = record { is_up = c.self-in-Inform.inside.is_up; journal = c.self-in-Inform.inside.journal; handles = c.self-in-Inform.inside.handles; tm = c.self-in-Inform.inside.tm; trace = c.self-in-Inform.inside.trace; files = c.self-in-Inform.inside.files; next_node = c.self-in-Inform.inside.next_node; keys = c.self-in-Inform.inside.keys } in
+    let n : MemoryState = record m { tm = c.inform.new.self } in
+    rw c.in-Inform.is
+    (subst (λ (old : MemoryState). SettlesGood old (λ x. set_information x (enlistment_at x.transactions.enlistments c.in-Inform.enlistment) c.in-Inform.information) n) c.self-in-Inform.view_is
+    (settles-good m n (λ x. set_information x (enlistment_at x.transactions.enlistments c.in-Inform.enlistment) c.in-Inform.information)
+    (settles-inform m c.inform.new.self c.in-Inform.enlistment c.in-Inform.information c.inform.ensures.others.boot c.inform.ensures.now c.inform.ensures.others.managers c.inform.ensures.others.slots)))

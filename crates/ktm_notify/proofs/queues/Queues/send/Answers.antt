@@ -16,19 +16,19 @@ index_mut-requires c =
 pub invariant_of-self : goal.invariant_of-self
 invariant_of-self c =
     let inside = within c.self.inside.slots.items c.self.inside.ends.items c.args.manager (rw (← c.self.view_is) at c.requires.there) in
-    let sent = sent-now _ _ c.args.manager c.push_spare-key.result c.args.note _ c.self.invariant inside c.push_spare-key.ensures.absent c.index-ends.ensures in
+    let sent = sent-now _ _ c.args.manager c.push_spare-key.result c.args.note _ c.self.invariant.0 inside c.push_spare-key.ensures.absent c.index-ends.ensures in
     rw (c.link.ensures.items, c.push_spare-key.ensures.items, c.unwrap_or.ensures)
-    (queues-are _ _ _ c.args.manager _ c.self.invariant sent.altered sent.distinct sent.joined sent.sent)
+    (queues-are _ _ _ c.args.manager _ c.self.invariant.0 sent.altered sent.distinct sent.joined sent.sent, omega (arith, c.self.invariant.1, c.push_spare-key.ensures.spare, c.link.ensures.list.1))
 
 pub returns-clause-queues : goal.returns-clause-queues
 returns-clause-queues c =
     let inside = within c.self.inside.slots.items c.self.inside.ends.items c.args.manager (rw (← c.self.view_is) at c.requires.there) in
-    let sent = sent-now _ _ c.args.manager c.push_spare-key.result c.args.note _ c.self.invariant inside c.push_spare-key.ensures.absent c.index-ends.ensures in
+    let sent = sent-now _ _ c.args.manager c.push_spare-key.result c.args.note _ c.self.invariant.0 inside c.push_spare-key.ensures.absent c.index-ends.ensures in
     rw (← c.self.view_is, c.link.ensures.items, c.push_spare-key.ensures.items, c.unwrap_or.ensures)
     (queues-sent _ _ _ _ _ inside sent)
 
 pub returns-clause-waiting : goal.returns-clause-waiting
 returns-clause-waiting c =
     let inside = within c.self.inside.slots.items c.self.inside.ends.items c.args.manager (rw (← c.self.view_is) at c.requires.there) in
-    let sent = sent-now _ _ c.args.manager c.push_spare-key.result c.args.note _ c.self.invariant inside c.push_spare-key.ensures.absent c.index-ends.ensures in
+    let sent = sent-now _ _ c.args.manager c.push_spare-key.result c.args.note _ c.self.invariant.0 inside c.push_spare-key.ensures.absent c.index-ends.ensures in
     rw (← c.self.view_is, c.link.ensures.items, c.push_spare-key.ensures.items) sent.longer

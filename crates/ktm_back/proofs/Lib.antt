@@ -1,0 +1,4 @@
+mod Behind
+mod Managers
+pub mod Coming
+pub mod offered

@@ -1,0 +1,169 @@
+-- How a transaction goes on is decided: by the row of what is seen of it, and what memory it takes to carry the steps out.
+use Rattle.std.proofs.Common.{◌≡◌, ◌≢◌, ◌≤◌, All, Bool, true, false, cond, List, length, Option, None, refl, sym, ap, subst, ◌∙◌}
+use Rattle.arrayvec.specs.ArrayVec.{ArrayVec}
+use Rattle.std.specs.List.{list_any}
+use Rattle.ktm_base.specs.declared.id.Id.{Id}
+use Rattle.ktm_base.specs.declared.refusal.Refusal.{Refusal}
+use Rattle.ktm_built.proofs.offered.Courses.{arrived-apply, arrived-reply}
+use Rattle.ktm_built.proofs.offered.Rows.{row_leads}
+use Rattle.ktm_built.specs.Courses.{LeadsOn}
+use Rattle.ktm_built.specs.Files.{MayCommitNow}
+use Rattle.ktm_course.specs.Moved.{is_commit}
+use Rattle.ktm_event.specs.Kept.{EventsState, Holds}
+use Rattle.ktm_event.specs.Spelling.{IsSpellableEvent}
+use Rattle.ktm_records.proofs.offered.AgreementOfCourses.{arrival}
+use Rattle.ktm_steps.proofs.offered.Ways.{if_cases}
+use Rattle.ktm_tm.specs.Courses.{caller_of}
+use Rattle.ktm_trace.specs.Contents.{KeptLaw}
+use Rattle.ktm_trace.specs.Recordings.{steps_room}
+use Rattle.ktm_types.specs.declared.input.PhaseInput.{PhaseInput}
+use Rattle.ktm_types.specs.declared.input.Seen.{Seen}
+use Rattle.ktm_types.specs.declared.object.Transaction.{Transaction}
+use Rattle.ktm_types.specs.declared.reply.Reply.{Reply}
+use Rattle.ktm_types.specs.declared.reply.Reply.TheVariants.{Committed, Done, Pending, Refused}
+use Rattle.ktm_types.specs.declared.step.Step.{Step}
+use Rattle.ktm_world.specs.Enlistments.{Enlistment, is_ended}
+use Rattle.ktm_world.specs.Keys.{own_settings}
+use Rattle.ktm_world.specs.Outcome.{Outcome, apply, is_full}
+use Rattle.ktm_world.specs.Phases.{Course as Going}
+use Rattle.ktm_world.specs.Present.{Present}
+use Rattle.ktm_world.specs.Rows.{row}
+use Rattle.ktm_world.specs.Steps.{led, run, seen}
+use Rattle.ktm_world.specs.TransactionCalls.{arrived, course_of}
+use Rattle.ktm_world.specs.Transactions.{is_undecided}
+use Rattle.txf_volume.specs.Commit.{MayCommit}
+use Rattle.txf_volume.specs.Held.{files_of}
+use Rattle.ktm_memory.specs.Decided.{Decides}
+use Rattle.ktm_memory.specs.Memory.{CanCommit, CanGoOn, Held, MemoryState, Shows, course_then, held, present_of}
+use Rattle.ktm_memory.specs.Routed.{IsReadyCourse, course_to, reply_to}
+use Rattle.ktm_memory.specs.declared.settlement.Settlement.TheVariants.{Course}
+
+-- ---- what memory shows
+
+-- memory shows what it holds
+pub shows_present : KeptLaw → (m : MemoryState) → Shows m (present_of m)
+shows_present kept m = record {
+  is_up = refl;
+  boot = refl;
+  transactions = refl;
+  managers = refl;
+  traces = sym (kept m.tm.now.enlistments (files_of m.files).table.own m.keys.keys.own m.trace.transactions);
+  files = refl;
+  next_node = refl;
+  keys = refl;
+  handles = refl;
+}
+
+-- memory that holds the same shows the same
+pub shows_same : (m n : MemoryState) → held m ≡ held n → (x : Present) → Shows m x → Shows n x
+shows_same m n same x shows = record {
+  is_up = sym (ap (λ (h : Held). h.is_up) same) ∙ shows.is_up;
+  boot = sym (ap (λ (h : Held). h.boot) same) ∙ shows.boot;
+  transactions = sym (ap (λ (h : Held). h.transactions) same) ∙ shows.transactions;
+  managers = sym (ap (λ (h : Held). h.managers) same) ∙ shows.managers;
+  traces = sym (ap (λ (h : Held). h.traces) same) ∙ shows.traces;
+  files = sym (ap (λ (h : Held). h.files) same) ∙ shows.files;
+  next_node = sym (ap (λ (h : Held). h.next_node) same) ∙ shows.next_node;
+  keys = sym (ap (λ (h : Held). h.keys) same) ∙ shows.keys;
+  handles = sym (ap (λ (h : Held). h.handles) same) ∙ shows.handles;
+}
+
+-- ---- the steps
+
+-- this is seen of the transaction, whoever calls
+abbrev pub IsSeenIn : MemoryState → Transaction → Seen → Type 0
+IsSeenIn m t s = (x : Present) (e : Option Enlistment) → Shows m x → s ≡ seen (course_of x t e)
+
+-- by the row of what is seen it has come to the same
+pub comes_to : (x : Present) (t : Transaction) (caller : Option Id) (input : PhaseInput) (steps : List Step) (s : Seen) → s ≡ seen (course_of x t (caller_of x.transactions.enlistments caller)) → steps ≡ row s input
+    → course_then x t caller steps ≡ course_to x t caller input
+unfolding led
+comes_to x t caller input steps s sees is =
+    let c = course_of x t (caller_of x.transactions.enlistments caller) in
+    ap (λ (ss : List Step). run ss c) (is ∙ ap (λ (u : Seen). row u input) sees)
+
+-- and leads it on, whatever memory shows
+pub leads_on : (m : MemoryState) (t : Transaction) (caller : Option Id) (input : PhaseInput) (steps : List Step) (s : Seen) → IsSeenIn m t s → steps ≡ row s input
+    → (x : Present) → Shows m x → LeadsOn x t (caller_of x.transactions.enlistments caller) steps
+leads_on m t caller input steps s sees is x shows =
+    let e = caller_of x.transactions.enlistments caller in
+    subst (LeadsOn x t e) (sym (is ∙ ap (λ (u : Seen). row u input) (sees x e shows))) (row_leads x t e input)
+
+-- ---- what is decided
+
+arrived-sent : (x : Present) (c : Going) (reply : Reply) → (arrived x c reply).sent ≡ c.sent
+arrived-sent x c reply = if_cases (λ (o : Outcome). o.sent ≡ c.sent) (is_undecided c.transaction) _ _ (λ is. refl) (λ known. refl)
+
+no_refusal : (b : Bool) (refusal : Refusal) → cond b Committed Pending ≡ Refused refusal → ⊥
+no_refusal true refusal is = absurd (cc)
+no_refusal false refusal is = absurd (cc)
+
+done_refuses_nothing : (refusal : Refusal) → Done ≡ Refused refusal → ⊥
+done_refuses_nothing refusal is = absurd (cc)
+
+-- what is replied is no refusal
+answers : (input : PhaseInput) (c : Going) (refusal : Refusal) → reply_to input c ≢ Refused refusal
+answers PhaseInput.CommitTransaction c refusal = no_refusal (is_ended c.transaction.phase) refusal
+answers _ c refusal = done_refuses_nothing refusal
+
+-- what a transaction changed and set can be committed, where memory has room for it
+pub can_commit : (m : MemoryState) (t : Transaction) → MayCommitNow (present_of m) t → length (own_settings m.keys.keys.own t.id) ≤ m.keys.room → MayCommit m.files t.id → CanCommit m t.id
+can_commit m t may room ready = record { keys = room; files = ready; applies = may.applies; left = may.left; unopened = may.unopened; counted = may.counted; few = may.few }
+
+-- memory is ready for the steps
+pub record IsReserved (m : MemoryState) (t : Transaction) (steps : List Step) : Type 0 where
+  pub places : steps_room steps ≤ m.trace.places
+  pub spare : steps_room steps ≤ m.trace.spare
+  pub keys : list_any is_commit steps ≡ true → length (own_settings m.keys.keys.own t.id) ≤ m.keys.room
+  pub files : list_any is_commit steps ≡ true → MayCommit m.files t.id
+
+module _ (kept : KeptLaw) (m : MemoryState) (t : Transaction) (caller : Option Id) (input : PhaseInput) (steps : ArrayVec Step) (s : Seen) (sees : IsSeenIn m t s) (is : steps.items ≡ row s input) where
+  same : course_then (present_of m) t caller steps.items ≡ course_to (present_of m) t caller input
+  same = comes_to (present_of m) t caller input steps.items s (sees (present_of m) (caller_of m.tm.now.enlistments caller) (shows_present kept m)) is
+
+  can_go_on : IsReadyCourse (present_of m) t caller input → IsReserved m t steps.items → is_full (present_of m).machine.left (course_to (present_of m) t caller input).events ≡ false → CanGoOn m t caller steps.items
+  can_go_on ready reserved room = record {
+    there = ready.there;
+    leads = leads_on m t caller input steps.items s sees is;
+    places = reserved.places;
+    spare = reserved.spare;
+    commits = λ commits.
+        can_commit m t (ready.may (ap (list_any is_commit) (sym (is ∙ ap (λ (u : Seen). row u input) (sees (present_of m) None (shows_present kept m)))) ∙ commits) room) (reserved.keys commits) (reserved.files commits);
+  }
+
+  -- what is left to do comes to what the call comes to
+  pub course_decided : (reply : Reply) (events : EventsState) → reply ≡ reply_to input (course_to (present_of m) t caller input) → Holds events (course_then (present_of m) t caller steps.items).events
+      → is_full (present_of m).machine.left (course_then (present_of m) t caller steps.items).events ≡ false → IsReadyCourse (present_of m) t caller input → IsReserved m t steps.items
+      → (let c = course_to (present_of m) t caller input in Decides (held m) (arrived (present_of m) c (reply_to input c)) reply (Course t caller steps) events m)
+  course_decided reply events says holds room ready reserved =
+      let x = present_of m in
+      let c = course_to x t caller input in
+      let d = course_then x t caller steps.items in
+      let are : (arrived x c (reply_to input c)).events ≡ d.events = (arrival x c (reply_to input c)).events ∙ ap (λ (g : Going). g.events) (sym same) in
+      let fits : is_full x.machine.left (arrived x c (reply_to input c)).events ≡ false = ap (is_full x.machine.left) are ∙ room in
+      record {
+        says = says ∙ sym (arrived-reply x c (reply_to input c));
+        records = subst (Holds events) (sym are) holds;
+        room = fits;
+        journal = refl;
+        group = (arrival x d Done).events ∙ sym are;
+        tells = arrived-sent x d Done ∙ ap (λ (g : Going). g.sent) same ∙ sym (arrived-sent x c (reply_to input c));
+        comes_to = ap (λ (g : Going). apply x (arrived x g Done)) same ∙ arrived-apply x c Done (reply_to input c);
+        may = can_go_on ready reserved (ap (λ (g : Going). is_full x.machine.left g.events) (sym same) ∙ room);
+        waits = λ some. refl;
+        answers = λ some refusal. subst (λ (r : Reply). r ≢ Refused refusal) (sym says) (answers input c refusal);
+      }
+
+  -- where the log has no room for what it records, it has none for what the call records
+  pub course_is_full : is_full (present_of m).machine.left (course_then (present_of m) t caller steps.items).events ≡ true
+      → (let c = course_to (present_of m) t caller input in is_full (present_of m).machine.left (arrived (present_of m) c (reply_to input c)).events ≡ true)
+  course_is_full full =
+      let x = present_of m in
+      let c = course_to x t caller input in
+      ap (is_full x.machine.left) ((arrival x c (reply_to input c)).events ∙ ap (λ (g : Going). g.events) (sym same)) ∙ full
+
+  -- and what it records has bytes
+  pub course_is_spelled : IsReadyCourse (present_of m) t caller input → is_full (present_of m).machine.left (course_then (present_of m) t caller steps.items).events ≡ false
+      → All IsSpellableEvent (course_then (present_of m) t caller steps.items).events
+  course_is_spelled ready room =
+      subst (λ (g : Going). All IsSpellableEvent g.events) (sym same) (ready.spelled (ap (λ (g : Going). is_full (present_of m).machine.left g.events) (sym same) ∙ room))

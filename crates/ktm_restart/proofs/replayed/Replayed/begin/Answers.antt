@@ -1,0 +1,21 @@
+use Rattle.std.proofs.Common.{◌≡◌, ◌+◌, None, true, length, arith, ap, sym, subst, ◌∙◌}
+use Rattle.std.specs.List.{flat_map}
+use Rattle.ktm_types.specs.declared.event.Event.TheVariants.{Boot}
+use Rattle.ktm_world.specs.Durable.{Durable, fact_of}
+use Rattle.ktm_world.specs.World.{own_events}
+use Rattle.ktm_restart.specs.Replayed.{ReplayedState}
+use Rattle.ktm_restart.specs.Waiting.{none_waits_but}
+use Rattle.ktm_restart.proofs.Coming.{none-filter}
+use Rattle.ktm_restart.proofs.OwnDones.{Made, made-all, own-boot}
+use Rattle.ktm_restart.proofs.replayed.Replayed.begin.Goals as goal
+
+pub loop-init : goal.loop-init
+loop-init c =
+    let s : Durable = c.args.self.now.state in
+    let boots = ap (λ (r : ReplayedState). fact_of s (Boot (r.state.boots + 1))) c.start.view_is in
+    let made : Made s c.count.new.self.state (Boot (s.boots + 1)) (flat_map own_events s.transactions) = own-boot s c.start-2.new.self.state c.count.new.self.state (c.start-2.ensures ∙ boots) c.count.ensures in
+    record {
+      after = made-all made;
+      events = omega (arith, made.events, ap length made.left, c.requires.events);
+      rest = λ none. subst (λ (d : Durable). none_waits_but None d.transactions ≡ true) (sym made.is) (none-filter _ s.transactions none);
+    }

@@ -1,0 +1,131 @@
+// What a restart records by itself of the transactions that are not over: that the files and the keys of each decided one are
+// done.
+ghost use Rattle.std.specs.Prelude.{◌≡◌, ◌+◌, ◌-◌, ◌^◌, ◌≤◌, ◌∷◌, ◌++◌, [], All, List, min, sum_by, MatchOption};
+ghost use Rattle.std.specs.List.{flat_map};
+ghost use Rattle.ktm_event.specs.Kept.{Holds};
+ghost use Rattle.ktm_event.specs.Spelling.{IsSpellableEvent};
+ghost use Rattle.ktm_types.specs.Sizes.{event_size};
+ghost use Rattle.ktm_types.specs.declared.event.Event.{Event as Recording};
+ghost use Rattle.ktm_world.specs.Durable.{has_undone};
+ghost use Rattle.ktm_world.specs.World.{done_if, own_events};
+
+use crate::table::has_undone;
+use ktm_base::Id;
+use ktm_event::{Events, event_size};
+use ktm_types::{DonePart, Event};
+use ktm_world::Recorded;
+
+// How many bytes the event takes that a participant is done, where it is to be recorded.
+fn done_size(transaction: &Recorded, done: DonePart) -> usize
+    ensures { result ≡ min (sum_by event_size (done_if (has_undone done transaction.now) transaction.now.id done)) (2 ^ 64 - 1) }
+{
+    if !has_undone(transaction, done) {
+        return 0;
+    }
+    let event = Event::Done {
+        transaction: transaction.id,
+        done,
+    };
+    event_size(&event)
+}
+
+// How many bytes the events of a transaction take.
+fn own_size(transaction: &Recorded) -> usize
+    ensures { result ≡ min (sum_by event_size (own_events transaction.now)) (2 ^ 64 - 1) }
+{
+    let files = done_size(transaction, DonePart::Files);
+    files.saturating_add(done_size(transaction, DonePart::Keys))
+}
+
+/// Puts the event of a boot into the list.
+pub(crate) fn push_boot(boot: u32, events: &mut Events)
+    requires { 5 ≤ events.old.spare }
+    ensures adds { (group : List Recording) → Holds events.old group → Holds events.new (group ++ Recording.Boot boot ∷ []) }
+    ensures spare { events.new.spare + 5 ≡ events.old.spare }
+    ensures room { events.new.room ≡ events.old.room }
+    ensures capacity { events.old.capacity ≤ events.new.capacity }
+{
+    events.push(&Event::Boot { boot });
+}
+
+/// How many bytes the events of the transactions take, or 2^64 - 1, where they take more.
+pub(crate) fn own_sizes(transactions: &[Recorded]) -> usize
+    ensures { result ≡ min (sum_by event_size (flat_map own_events transactions.now)) (2 ^ 64 - 1) }
+{
+    let mut size = 0usize;
+    for transaction in transactions {
+        size = size.saturating_add(own_size(transaction));
+    }
+    size
+}
+
+// Puts the event into the list that a participant is done, where it is to be recorded.
+fn push_done(transaction: &Recorded, done: DonePart, events: &mut Events)
+    requires spelled { All IsSpellableEvent (done_if (has_undone done transaction.now) transaction.now.id done) }
+    requires fits { sum_by event_size (done_if (has_undone done transaction.now) transaction.now.id done) ≤ events.old.spare }
+    ensures adds { (group : List Recording) → Holds events.old group
+        → Holds events.new (group ++ done_if (has_undone done transaction.now) transaction.now.id done) }
+    ensures spare { events.new.spare + sum_by event_size (done_if (has_undone done transaction.now) transaction.now.id done) ≡ events.old.spare }
+    ensures room { events.new.room ≡ events.old.room }
+    ensures capacity { events.old.capacity ≤ events.new.capacity }
+{
+    if has_undone(transaction, done) {
+        let event = Event::Done {
+            transaction: transaction.id,
+            done,
+        };
+        events.push(&event);
+    }
+}
+
+// Puts the events of a transaction into the list.
+fn push_own(transaction: &Recorded, events: &mut Events)
+    requires spelled { All IsSpellableEvent (own_events transaction.now) }
+    requires fits { sum_by event_size (own_events transaction.now) ≤ events.old.spare }
+    ensures adds { (group : List Recording) → Holds events.old group → Holds events.new (group ++ own_events transaction.now) }
+    ensures spare { events.new.spare + sum_by event_size (own_events transaction.now) ≡ events.old.spare }
+    ensures room { events.new.room ≡ events.old.room }
+    ensures capacity { events.old.capacity ≤ events.new.capacity }
+{
+    push_done(transaction, DonePart::Files, events);
+    push_done(transaction, DonePart::Keys, events);
+}
+
+/// Puts the events of the transactions into the list.
+pub(crate) fn push_all_own(transactions: &[Recorded], events: &mut Events)
+    requires spelled { All IsSpellableEvent (flat_map own_events transactions.now) }
+    requires fits { sum_by event_size (flat_map own_events transactions.now) ≤ events.old.spare }
+    ensures adds { (group : List Recording) → Holds events.old group → Holds events.new (group ++ flat_map own_events transactions.now) }
+    ensures spare { events.new.spare + sum_by event_size (flat_map own_events transactions.now) ≡ events.old.spare }
+    ensures room { events.new.room ≡ events.old.room }
+    ensures capacity { events.old.capacity ≤ events.new.capacity }
+{
+    for transaction in transactions {
+        push_own(transaction, events);
+    }
+}
+
+// The first participant of a transaction that is to be recorded as done.
+fn own_done(transaction: &Recorded) -> Option<DonePart>
+    ensures { MatchOption result (own_events transaction.now ≡ []) (λ done. (rest : List Recording) × (own_events transaction.now ≡ Recording.Done transaction.now.id done ∷ rest)) }
+{
+    if has_undone(transaction, DonePart::Files) {
+        return Some(DonePart::Files);
+    }
+    if has_undone(transaction, DonePart::Keys) {
+        return Some(DonePart::Keys);
+    }
+    None
+}
+
+/// The first event of the transactions, by its transaction and the participant that is done.
+pub(crate) fn first_own(transactions: &[Recorded]) -> Option<(Id, DonePart)>
+    ensures { MatchOption result (flat_map own_events transactions.now ≡ []) (λ own. (rest : List Recording) × (flat_map own_events transactions.now ≡ Recording.Done own.0 own.1 ∷ rest)) }
+{
+    for transaction in transactions {
+        if let Some(done) = own_done(transaction) {
+            return Some((transaction.id, done));
+        }
+    }
+    None
+}

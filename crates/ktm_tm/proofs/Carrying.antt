@@ -1,0 +1,138 @@
+-- Steps that are carried out one after another.
+use Rattle.std.proofs.Common.{true≢false, ◌≡◌, ◌⊎◌, inl, inr, ℕ, ◌+◌, ◌≤◌, Bool, true, false, List, [], ◌∷◌, ◌++◌, length, map, Option, Some, None, refl, sym, ◌∙◌, ap, subst, arith, length-append}
+use Rattle.std.specs.Prelude.{is_some, if◌then◌else◌}
+use Rattle.std.specs.List.{list_all, list_any}
+use Rattle.std.proofs.lemmas.Bool.{and_from, and_parts, cases_Bool}
+use Rattle.ktm_base.specs.declared.id.Id.{Id}
+use Rattle.ktm_types.specs.declared.object.Transaction.{Transaction}
+use Rattle.ktm_types.specs.declared.step.Answered.{Answered}
+use Rattle.ktm_types.specs.declared.step.Owed.{Owed}
+use Rattle.ktm_types.specs.declared.step.Step.{Step}
+use Rattle.ktm_world.specs.Enlistments.{Enlistment, Manager, Sent, has_id, is_unfinished, manager_at, with_enlistments}
+use Rattle.ktm_world.specs.Outcome.{served}
+use Rattle.ktm_world.specs.Steps.{answered, is_one_of}
+use Rattle.ktm_enlist.specs.Enlistments.{EnlistmentsState}
+use Rattle.ktm_enlist.specs.Telling.{asked, has_manager}
+use Rattle.ktm_manager.specs.Managers.{ManagersState}
+use Rattle.ktm_manager.proofs.offered.Served.{served_nothing, served_twice, there_served}
+use Rattle.ktm_world.specs.Transactions.{same_id}
+use Rattle.ktm_tm.specs.declared.steps.Going.{Going}
+use Rattle.ktm_tm.specs.Steps.{After, after, after_all, only, with_answer, Carries, Leaves}
+
+-- ---- enlistments keep their Ids and those of their resource managers
+
+-- the change keeps both
+pub record Keeps (f : Enlistment → Enlistment) : Type 0 where
+  pub id : (e : Enlistment) → (f e).id ≡ e.id
+  pub manager : (e : Enlistment) → (f e).manager ≡ e.manager
+
+asked_keeps : (owed : Option Owed) → Keeps (asked owed)
+asked_keeps None = record { id = λ e. refl; manager = λ e. refl }
+asked_keeps (Some owed) = record { id = λ e. refl; manager = λ e. refl }
+
+answered_keeps : (answer : Answered) → Keeps (answered answer)
+answered_keeps Answered.PrePrepared = record { id = λ e. refl; manager = λ e. refl }
+answered_keeps Answered.Prepared = record { id = λ e. refl; manager = λ e. refl }
+answered_keeps Answered.ReadOnly = record { id = λ e. refl; manager = λ e. refl }
+answered_keeps Answered.Finished = record { id = λ e. refl; manager = λ e. refl }
+answered_keeps Answered.Recovered = record { id = λ e. refl; manager = λ e. refl }
+
+pub changed_test : (test : Id → Id → Bool) (meant : Enlistment → Bool) (f : Enlistment → Enlistment) → Keeps f → (es : List Enlistment)
+    → list_all (λ e. test e.id e.manager) (with_enlistments meant f es) ≡ list_all (λ e. test e.id e.manager) es
+changed_test test meant f keeps [] = refl
+changed_test test meant f keeps (e ∷ es) = elim (cases_Bool (meant e)) [
+  | inl is ↦ rw (is, keeps.id e, keeps.manager e, changed_test test meant f keeps es) refl
+  | inr other ↦ rw (other, changed_test test meant f keeps es) refl
+]
+
+answer_test : (test : Id → Id → Bool) (caller : Option Id) (answer : Answered) (es : List Enlistment) → list_all (λ e. test e.id e.manager) (with_answer caller answer es) ≡ list_all (λ e. test e.id e.manager) es
+answer_test test None answer es = refl
+answer_test test (Some id) answer es = changed_test test (has_id id) (answered answer) (answered_keeps answer) es
+
+-- so a test of both comes out the same after a step
+pub after_test : (test : Id → Id → Bool) (g : Going) (step : Step) (t : Transaction) (es : List Enlistment) → list_all (λ e. test e.id e.manager) (after g step t es).enlistments ≡ list_all (λ e. test e.id e.manager) es
+after_test test g (Step.Record fact) t es = refl
+after_test test g Step.Commit t es = refl
+after_test test g (Step.Tell who kind) t es = changed_test test (is_one_of t.id g.caller who) (asked None) (asked_keeps None) es
+after_test test g (Step.Ask who kind owed) t es = changed_test test (is_one_of t.id g.caller who) (asked (Some owed)) (asked_keeps (Some owed)) es
+after_test test g (Step.Change answer) t es = answer_test test g.caller answer es
+after_test test g (Step.Enter phase) t es = refl
+after_test test g (Step.Decide outcome) t es = refl
+after_test test g (Step.End outcome) t es = changed_test test _ (asked None) (asked_keeps None) es
+after_test test g (Step.EndWhereFinished outcome) t es = elim (cases_Bool (list_any (is_unfinished t.id) es)) [
+  | inl is ↦ rw is refl
+  | inr none ↦ rw none (changed_test test _ (asked None) (asked_keeps None) es)
+]
+
+-- and after all steps
+pub after_all_test : (test : Id → Id → Bool) (g : Going) (steps : List Step) (t : Transaction) (es : List Enlistment) → list_all (λ e. test e.id e.manager) (after_all g steps t es).enlistments ≡ list_all (λ e. test e.id e.manager) es
+after_all_test test g [] t es = refl
+after_all_test test g (step ∷ steps) t es = after_all_test test g steps (after g step t es).transaction (after g step t es).enlistments ∙ after_test test g step t es
+
+-- the managers of all are there while these are served
+pub there_all : (took : Option Id) (sent : List Sent) (ms : List Manager) (es : List Enlistment) → list_all (has_manager (map (served took sent) ms)) es ≡ list_all (has_manager ms) es
+there_all took sent ms [] = refl
+there_all took sent ms (e ∷ es) = rw (there_served took sent ms e.manager, there_all took sent ms es) refl
+
+-- and where there is one manager more
+pub there_more : (ms : List Manager) (m : Manager) (es : List Enlistment) → list_all (has_manager ms) es ≡ true → list_all (has_manager (ms ++ m ∷ [])) es ≡ true
+there_more ms m [] all = refl
+there_more ms m (e ∷ es) all =
+    let parts = and_parts (has_manager ms e) (list_all (has_manager ms) es) all in
+    and_from _ _ (at-more ms parts.0) (there_more ms m es parts.1)
+  where
+    at-more : (ms : List Manager) → is_some (manager_at ms e.manager) ≡ true → is_some (manager_at (ms ++ m ∷ []) e.manager) ≡ true
+    at-more [] there = absurd (true≢false (sym there))
+    at-more (n ∷ ms) there = elim (cases_Bool (same_id n.id e.manager)) [ inl is ↦ rw is refl | inr other ↦ rw other (at-more ms (rw other at there)) ]
+
+-- and with one enlistment more, of a manager that is there
+pub there_push : (ms : List Manager) (es : List Enlistment) (e : Enlistment) → list_all (has_manager ms) es ≡ true → is_some (manager_at ms e.manager) ≡ true → list_all (has_manager ms) (es ++ e ∷ []) ≡ true
+there_push ms [] e all there = rw there refl
+there_push ms (f ∷ es) e all there =
+    let parts = and_parts (has_manager ms f) (list_all (has_manager ms) es) all in and_from _ _ parts.0 (there_push ms es e parts.1 there)
+
+-- ---- a step, and the rest of them
+
+-- where nothing is sent
+pub only_carries : (t : Transaction) (es : EnlistmentsState) (ms : ManagersState) → Carries (only t es.enlistments) t es es ms ms
+only_carries t es ms = record { transaction = refl; enlistments = refl; managers = sym (served_nothing ms.managers); spare = omega arith; enlistment_room = refl; manager_room = refl }
+
+pub leaves_all : (g : Going) (steps : List Step) (t : Transaction) (es : EnlistmentsState) (ms : ManagersState) → list_all (has_manager ms.managers) es.enlistments ≡ true → Leaves g steps t es ms (after_all g steps t es.enlistments) es ms
+leaves_all g steps t es ms there = record { there = there; transaction = refl; enlistments = refl; managers = refl; spare = refl; enlistment_room = refl; manager_room = refl }
+
+-- there is room for what the next step sends
+pub next_fits : (g : Going) (step : Step) (rest : List Step) (t : Transaction) (es : EnlistmentsState) (ms : ManagersState) (all : After) (was : EnlistmentsState) (base : ManagersState)
+    → Leaves g (step ∷ rest) t es ms all was base → length all.sent ≤ base.spare → length (after g step t es.enlistments).sent ≤ ms.spare
+next_fits g step rest t es ms all was base left enough =
+    omega (arith, left.spare, enough, length-append (after g step t es.enlistments).sent (after_all g rest (after g step t es.enlistments).transaction (after g step t es.enlistments).enlistments).sent)
+
+-- the rest of the steps is left to do once one is carried out
+pub next_left : (g : Going) (step : Step) (rest : List Step) (t t' : Transaction) (es es' : EnlistmentsState) (ms ms' : ManagersState) (all : After) (was : EnlistmentsState) (base : ManagersState)
+    → Leaves g (step ∷ rest) t es ms all was base → Carries (after g step t es.enlistments) t' es es' ms ms' → Leaves g rest t' es' ms' all was base
+next_left g step rest t t' es es' ms ms' all was base left carried =
+    let sent = (after g step t es.enlistments).sent in
+    let others = after_all g rest (after g step t es.enlistments).transaction (after g step t es.enlistments).enlistments in
+    let same : after_all g rest t' es'.enlistments ≡ others = ap (λ t. after_all g rest t es'.enlistments) carried.transaction ∙ ap (after_all g rest (after g step t es.enlistments).transaction) carried.enlistments in
+    record {
+      there =
+          ap (λ (l : List Manager). list_all (has_manager l) es'.enlistments) carried.managers ∙ there_all None sent ms.managers es'.enlistments
+          ∙ ap (list_all (has_manager ms.managers)) carried.enlistments ∙ after_test (λ id manager. is_some (manager_at ms.managers manager)) g step t es.enlistments ∙ left.there;
+      transaction = ap (λ (a : After). a.transaction) same ∙ left.transaction;
+      enlistments = ap (λ (a : After). a.enlistments) same ∙ left.enlistments;
+      managers =
+          ap (λ (a : After). map (served None a.sent) ms'.managers) same ∙ ap (map (served None others.sent)) carried.managers ∙ served_twice sent others.sent ms.managers ∙ left.managers;
+      spare = omega (arith, carried.spare, left.spare, length-append sent others.sent, ap (λ (a : After). length a.sent) same);
+      enlistment_room = carried.enlistment_room ∙ left.enlistment_room;
+      manager_room = carried.manager_room ∙ left.manager_room;
+    }
+
+-- none is left
+pub none_left : (g : Going) (t : Transaction) (es : EnlistmentsState) (ms : ManagersState) (all : After) (was : EnlistmentsState) (base : ManagersState) → Leaves g [] t es ms all was base → Carries all t was es base ms
+none_left g t es ms all was base left = record {
+  transaction = left.transaction;
+  enlistments = left.enlistments;
+  managers = sym (served_nothing ms.managers) ∙ left.managers;
+  spare = left.spare ∙ omega arith;
+  enlistment_room = left.enlistment_room;
+  manager_room = left.manager_room;
+}
