@@ -1,2 +1,5 @@
 mod Changing
+mod Counting
+mod Grouping
+mod Places
 mod Told

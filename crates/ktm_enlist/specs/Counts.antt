@@ -1,9 +1,8 @@
 -- What counts of the enlistments of a transaction.
-use Rattle.std.specs.Prelude.{◌≡◌, ℕ, ◌+◌, ◌<◌, ◌&&◌, Bool, true, List, count_by, is_some}
+use Rattle.std.specs.Prelude.{◌≡◌, ℕ, ◌&&◌, ◌||◌, not, Bool, true, List, count_by, is_some}
 use Rattle.ktm_base.specs.declared.id.Id.{Id}
-use Rattle.ktm_types.specs.declared.input.Share.{Share}
-use Rattle.ktm_world.specs.Enlistments.{Enlistment, allows_one_phase, asks_pre_prepare, takes_part}
-use Rattle.ktm_world.specs.Phases.{one_if}
+use Rattle.ktm_world.specs.Enlistments.{Enlistment, allows_one_phase, asks_pre_prepare, is_superior, takes_part}
+use Rattle.ktm_world.specs.Transactions.{same_id}
 use Rattle.ktm_enlist.specs.declared.counts.Counts.{Counts}
 
 -- how many of the enlistments that take part in the transaction pass the test
@@ -17,16 +16,6 @@ pub record AreCounts (c : Counts) (id : Id) (es : List Enlistment) : Type 0 wher
   pub in_one_phase : c.in_one_phase ≡ parts id allows_one_phase es
   pub owing : c.owing ≡ parts id (λ e. is_some e.owes) es
 
--- the counts with one enlistment more, which counts for this
-pub record CountsShare (c : Counts) (share : Share) (more : Counts) : Type 0 where
-  pub enlistments : more.enlistments ≡ c.enlistments + 1
-  pub asking : more.asking ≡ c.asking + one_if share.asks
-  pub in_one_phase : more.in_one_phase ≡ c.in_one_phase + one_if share.allows_one_phase
-  pub owing : more.owing ≡ c.owing + one_if share.owes
-
--- each count is below this bound
-pub record MayCount (c : Counts) (bound : ℕ) : Type 0 where
-  pub enlistments : c.enlistments < bound
-  pub asking : c.asking < bound
-  pub in_one_phase : c.in_one_phase < bound
-  pub owing : c.owing < bound
+-- is an enlistment of the transaction live as long as that has not ended
+abbrev pub is_live_until_end : Id → Enlistment → Bool
+is_live_until_end id e = same_id e.transaction id && (is_superior e || (not e.is_read_only && not e.is_finished))

@@ -1,10 +1,8 @@
 // How enlistments are told and asked.
-ghost use Rattle.std.specs.Prelude.{◌≡◌, ◌+◌, ◌≤◌, None, filter, if◌then◌else◌, length, map, true};
-ghost use Rattle.std.specs.List.{list_all};
-ghost use Rattle.ktm_world.specs.Enlistments.{tell, with_enlistments};
+ghost use Rattle.std.specs.Prelude.{◌≡◌, ◌+◌, ◌≤◌, None, length, map, true};
 ghost use Rattle.ktm_world.specs.Outcome.{served};
 ghost use Rattle.ktm_world.specs.Steps.{is_one_of};
-ghost use Rattle.ktm_enlist.specs.Telling.{asked, told, has_manager};
+ghost use Rattle.ktm_enlist.specs.Telling.{asked, asked_if, told, has_manager};
 
 use ktm_base::{Id, Notify};
 use ktm_manager::Managers;
@@ -32,11 +30,11 @@ fn ask(e: &mut Enlistment, owed: Option<Owed>)
     }
 }
 
-// The enlistment is told, if it is one of those.
-fn tell_one(e: &mut Enlistment, managers: &mut Managers, t: Told)
+/// The enlistment is told, if it is one of those.
+pub(crate) fn tell_one(e: &mut Enlistment, managers: &mut Managers, t: Told)
     requires there { has_manager managers.old.managers e.old ≡ true }
     requires spare { length (told (is_one_of t.transaction t.caller t.who) t.kind e.old) ≤ managers.old.spare }
-    ensures enlistment { e.new ≡ (if is_one_of t.transaction t.caller t.who e.old then asked t.owed e.old else e.old) }
+    ensures enlistment { e.new ≡ asked_if (is_one_of t.transaction t.caller t.who) t.owed e.old }
     ensures managers { managers.new.managers ≡ map (served None (told (is_one_of t.transaction t.caller t.who) t.kind e.old)) managers.old.managers }
     ensures spare { managers.new.spare + length (told (is_one_of t.transaction t.caller t.who) t.kind e.old) ≡ managers.old.spare }
     ensures room { managers.new.room ≡ managers.old.room }
@@ -48,19 +46,5 @@ fn tell_one(e: &mut Enlistment, managers: &mut Managers, t: Told)
         };
         managers.send(e.manager, note);
         ask(e, t.owed);
-    }
-}
-
-/// Each of the enlistments that is one of those is told, in their order.
-pub fn tell_all(enlistments: &mut [Enlistment], managers: &mut Managers, t: Told)
-    requires there { list_all (has_manager managers.old.managers) enlistments.old ≡ true }
-    requires spare { length (filter (is_one_of t.transaction t.caller t.who) enlistments.old) ≤ managers.old.spare }
-    ensures enlistments { enlistments.new ≡ with_enlistments (is_one_of t.transaction t.caller t.who) (asked t.owed) enlistments.old }
-    ensures managers { managers.new.managers ≡ map (served None (map (tell t.kind) (filter (is_one_of t.transaction t.caller t.who) enlistments.old))) managers.old.managers }
-    ensures spare { managers.new.spare + length (filter (is_one_of t.transaction t.caller t.who) enlistments.old) ≡ managers.old.spare }
-    ensures room { managers.new.room ≡ managers.old.room }
-{
-    for e in enlistments.iter_mut() {
-        tell_one(e, managers, t);
     }
 }

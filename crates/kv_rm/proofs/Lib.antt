@@ -1,3 +1,4 @@
 pub mod Places
 pub mod Counts
 pub mod Merges
+pub mod Restoring

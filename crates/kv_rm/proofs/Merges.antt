@@ -22,13 +22,14 @@ stored_all-behind_one x xs (s ∷ ss) first rises =
     ap (λ store. stored_all store ss) (stored-behind x xs s.key s.value first)
     ∙ stored_all-behind_one x (stored xs s) ss (comes_first-trans x.key s.key ss first parts.0) parts.1
 
-module _ (y : Keyed (List ℕ)) (after : Store) where
-  before_it : (a : List ℕ) (before : Store) → comes_first a (before ++ y ∷ after) ≡ true → is_rising (before ++ y ∷ after) ≡ true → comes_before a y.key ≡ true
-  before_it a [] first rises = first
-  before_it a (x ∷ before) first rises =
-      let parts = and_parts (comes_first x.key (before ++ y ∷ after)) (is_rising (before ++ y ∷ after)) rises in
-      comes_before-trans a x.key y.key first (before_it x.key before parts.0 parts.1)
+-- a key that comes before the first one comes before each later one
+pub before_it : {V : Type 0} (y : Keyed V) (after : List (Keyed V)) (a : List ℕ) (before : List (Keyed V)) → comes_first a (before ++ y ∷ after) ≡ true → is_rising (before ++ y ∷ after) ≡ true → comes_before a y.key ≡ true
+before_it y after a [] first rises = first
+before_it y after a (x ∷ before) first rises =
+    let parts = and_parts (comes_first x.key (before ++ y ∷ after)) (is_rising (before ++ y ∷ after)) rises in
+    comes_before-trans a x.key y.key first (before_it y after x.key before parts.0 parts.1)
 
+module _ (y : Keyed (List ℕ)) (after : Store) where
   rising_after : (before : Store) → is_rising (before ++ y ∷ after) ≡ true → is_rising after ≡ true
   rising_after [] rises = (and_parts (comes_first y.key after) (is_rising after) rises).1
   rising_after (x ∷ before) rises = rising_after before (and_parts (comes_first x.key (before ++ y ∷ after)) (is_rising (before ++ y ∷ after)) rises).1
@@ -38,7 +39,7 @@ module _ (y : Keyed (List ℕ)) (after : Store) where
   stored_all-behind [] rest ss rises first rising = refl
   stored_all-behind (x ∷ before) rest ss rises first rising =
       let parts = and_parts (comes_first x.key (before ++ y ∷ after)) (is_rising (before ++ y ∷ after)) rises in
-      stored_all-behind_one x (before ++ rest) ss (comes_first-trans x.key y.key ss (before_it x.key before parts.0 parts.1) first) rising
+      stored_all-behind_one x (before ++ rest) ss (comes_first-trans x.key y.key ss (before_it y after x.key before parts.0 parts.1) first) rising
       ∙ ap (λ store. x ∷ store) (stored_all-behind before rest ss parts.1 first rising)
 
 -- ---- one setting

@@ -3,3 +3,4 @@ pub mod Count
 pub mod KvState
 pub mod Calls
 pub mod Split
+pub mod Restored

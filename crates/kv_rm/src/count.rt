@@ -80,6 +80,20 @@ impl Counts {
         }
     }
 
+    /// The counts with these settings too.
+    pub fn more(self, settings: &[Setting]) -> Counts
+        requires values { self.values + count_by (is_of_kind Value) settings.now < 2 ^ 32 }
+        requires unsets { self.unsets + count_by (is_of_kind Unset) settings.now < 2 ^ 32 }
+        ensures values { result.values ≡ self.values + count_by (is_of_kind Value) settings.now }
+        ensures unsets { result.unsets ≡ self.unsets + count_by (is_of_kind Unset) settings.now }
+    {
+        let values = count_values(settings);
+        Counts {
+            values: self.values + values,
+            unsets: self.unsets + (settings.len() - values),
+        }
+    }
+
     /// The counts without these settings.
     pub fn less(self, settings: &[Setting]) -> Counts
         requires values { count_by (is_of_kind Value) settings.now ≤ self.values }

@@ -31,6 +31,19 @@ impl Model for OwnKeys {
     ghost view = { λ o. record { transaction = o.transaction; settings = o.settings.items } };
 }
 
+// Settings by rising key, as a list under keys.
+fn keyed(alloc: Global, settings: Vec<Setting>) -> Result<KeyedList<Option<Bytes>>, NoMemory>
+    requires { is_rising settings.items ≡ true }
+    ensures { IfOk result (λ list. list.items ≡ settings.items) }
+{
+    let mut list = KeyedList::new(alloc);
+    list.reserve(settings.len())?;
+    for setting in settings {
+        list.put(setting.key, setting.value)?;
+    }
+    Ok(list)
+}
+
 /// Where a setting of a transaction's goes.
 #[derive(Clone, Copy)]
 pub struct Seat {
@@ -54,6 +67,22 @@ impl OwnKeys {
     {
         let mut settings = KeyedList::new(alloc);
         settings.put(key, value)?;
+        Ok(OwnKeys {
+            transaction,
+            settings,
+        })
+    }
+
+    /// With these settings, by rising key.
+    pub fn with_settings(
+        alloc: Global,
+        transaction: Id,
+        settings: Vec<Setting>,
+    ) -> Result<Self, NoMemory>
+        requires { is_rising settings.items ≡ true }
+        ensures { IfOk result (λ own. own ≡ record { transaction = transaction; settings = settings.items }) }
+    {
+        let settings = keyed(alloc, settings)?;
         Ok(OwnKeys {
             transaction,
             settings,

@@ -4,11 +4,13 @@ ghost use Rattle.std.specs.Option.{option_copied};
 ghost use Rattle.ktm_base.specs.declared.id.Id.{Id};
 ghost use Rattle.ktm_types.specs.declared.reply.Reply.TheVariants.{Done};
 ghost use Rattle.ktm_world.specs.KeyCalls.{KeyRoom, is_key_held, keys_with, with_setting};
-ghost use Rattle.ktm_world.specs.Keys.{changes_pending, Own, own_settings, without_own, value_seen, stored_all, store_seen, keys_of};
+ghost use Rattle.ktm_keyed.specs.Keyed.{is_rising};
+ghost use Rattle.ktm_world.specs.Keys.{changes_pending, keys_used, Own, own_settings, without_own, value_seen, stored_all, store_seen, keys_of};
 ghost use Rattle.ktm_world.specs.Phases.{has_settings};
 ghost use Rattle.kv_rm.specs.Calls.{is_refused, key_outcome};
 ghost use Rattle.kv_rm.specs.Count.{kind_of, AreCounts, AreFew};
 ghost use Rattle.kv_rm.specs.Place.{IsSeatOf};
+ghost use Rattle.kv_rm.specs.Restored.{keys_restored};
 ghost use Rattle.kv_rm.specs.declared.call.KvCall.TheVariants.{Get, Set, Unset};
 ghost use Rattle.kv_rm.specs.declared.count.Kind.{Kind};
 
@@ -95,6 +97,23 @@ impl KvRm {
                 unsets: 0,
             },
         }
+    }
+
+    /// The transaction has these settings of its own from now on, behind those of the others: it is brought back by a restart.
+    /// At want of memory nothing has changed.
+    pub fn restore(&mut self, transaction: Id, settings: Vec<Setting>) -> Result<(), NoMemory>
+        requires rising { is_rising settings.items ≡ true }
+        requires few_values { keys_used (keys_restored self.old.keys transaction settings.items) < 2 ^ 32 }
+        requires few_unsets { changes_pending (keys_restored self.old.keys transaction settings.items) < 2 ^ 32 }
+        ensures ok { OnOk result (self.new.keys ≡ keys_restored self.old.keys transaction settings.items) }
+        ensures err { OnErr result (self.new.keys ≡ self.old.keys) }
+        ensures room { self.new.room ≡ self.old.room }
+    {
+        let counts = self.counts.more(&settings);
+        let own = OwnKeys::with_settings(self.alloc, transaction, settings)?;
+        self.own.push(own)?;
+        self.counts = counts;
+        Ok(())
     }
 
     /// Makes a call for a transaction, or for none: it is refused, or answered. At want of memory nothing has changed; a call

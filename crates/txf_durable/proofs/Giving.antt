@@ -28,7 +28,7 @@ abbrev units_at : Tree → ℕ → ℕ
 units_at tree file = units_of (bytes_of tree file)
 
 -- the files that are cut
-abbrev cut_files : List Change → List ℕ
+abbrev pub cut_files : List Change → List ℕ
 cut_files [] = []
 cut_files (Cut node size pages ∷ cs) = node ∷ cut_files cs
 cut_files (c ∷ cs) = cut_files cs
@@ -36,7 +36,7 @@ cut_files (c ∷ cs) = cut_files cs
 -- ---- the files with bytes
 
 -- of bytes at the end, the files that are cut rise from the least one
-cuts-rise : (least : ℕ) (cut : Option ℕ) (bs : List Change) → are_final_bytes least cut bs ≡ true → RisingNumbers (cut_files bs) × ((n : ℕ) → IsIn n (cut_files bs) → least ≤ n)
+pub cuts-rise : (least : ℕ) (cut : Option ℕ) (bs : List Change) → are_final_bytes least cut bs ≡ true → RisingNumbers (cut_files bs) × ((n : ℕ) → IsIn n (cut_files bs) → least ≤ n)
 cuts-rise least cut [] final = (tt, λ n none. absurd none)
 cuts-rise least cut (Cut node size pages ∷ cs) final =
     let parts = and_parts (nat_le least node && size == 0) (are_final_bytes (node + 1) (Some node) cs) final in
@@ -48,7 +48,7 @@ cuts-rise least cut (Make node parent kind name ∷ cs) final = absurd (true≢f
 cuts-rise least cut (Move node parent name ∷ cs) final = absurd (true≢false (sym final))
 cuts-rise least cut (Drop node ∷ cs) final = absurd (true≢false (sym final))
 
-was-cut : (cut : Option ℕ) (node : ℕ) → was_cut cut node ≡ true → cut ≡ Some node
+pub was-cut : (cut : Option ℕ) (node : ℕ) → was_cut cut node ≡ true → cut ≡ Some node
 was-cut None node is = absurd (true≢false (sym is))
 was-cut (Some file) node is = ap Some (eqb-true file node is)
 
@@ -118,7 +118,7 @@ kept-then least cut (Move node parent name ∷ cs) xs final n there = absurd (tr
 kept-then least cut (Drop node ∷ cs) xs final n there = absurd (true≢false (sym final))
 
 -- recorded changes write the files that they cut at the end
-files-cut : (names bytes : List Change) → list_all (gives_bytes bytes) (written_files names) ≡ true → are_final_bytes 0 None bytes ≡ true → written_files (names ++ bytes) ≡ cut_files bytes
+pub files-cut : (names bytes : List Change) → list_all (gives_bytes bytes) (written_files names) ≡ true → are_final_bytes 0 None bytes ≡ true → written_files (names ++ bytes) ≡ cut_files bytes
 files-cut names bytes gives final =
     fold-append written_after [] names bytes
     ∙ same-numbers (fold written_after (written_files names) bytes) (cut_files bytes) (rising-written bytes (written_files names) (rising-written names [] tt)) (cuts-rise 0 None bytes final).0

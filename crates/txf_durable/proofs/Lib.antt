@@ -3,3 +3,4 @@ mod Rising
 mod Recordings
 mod Trying
 mod Units
+pub mod offered

@@ -30,7 +30,7 @@ file-with tree node f n file =
     go None is = absurd (true≢false (sym is))
     go (Some x) is = sym is
 
-file-kept : (tree : Tree) (c : Change) (n : ℕ) → changes_bytes c ≡ true → applies tree c ≡ true → is_file (changed tree c) n ≡ is_file tree n
+pub file-kept : (tree : Tree) (c : Change) (n : ℕ) → changes_bytes c ≡ true → applies tree c ≡ true → is_file (changed tree c) n ≡ is_file tree n
 file-kept tree (Put node offset contents) n bytes is = file-with tree node (λ old. put_over old offset (bytes_in contents)) n (and_parts (is_file tree node) (is_whole contents) is).0
 file-kept tree (Cut node size pages) n bytes is = file-with tree node (λ old. cut_to old size) n (and_parts (is_file tree node) (is_empty_list pages) is).0
 file-kept tree (Make node parent kind name) n bytes is = absurd (true≢false (sym bytes))

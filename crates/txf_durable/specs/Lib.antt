@@ -1,3 +1,4 @@
 pub mod Numbers
 pub mod Recorded
 pub mod State
+pub mod Putting

@@ -27,3 +27,5 @@ pub mod OwnPlaces
 pub mod CommitTied
 pub mod PlainKept
 pub mod PlainTies
+pub mod Restoring
+pub mod RestoringCounts

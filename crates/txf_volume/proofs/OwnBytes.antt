@@ -28,7 +28,7 @@ is_in-above : (fs : List ℕ) (n : ℕ) → ((m : ℕ) → IsIn m fs → n < m) 
 is_in-above [] n above = refl
 is_in-above (m ∷ ms) n above = rw (ne_eqb m n (λ e. omega (arith, above m (inl refl), e))) (is_in-above ms n (λ k there. above k (inr there)))
 
-sum-with_number : (g : ℕ → ℕ) (fs : List ℕ) (n : ℕ) → RisingNumbers fs → sum_by g (with_number fs n) ≡ sum_by g fs + cond (is_in fs n) 0 (g n)
+pub sum-with_number : (g : ℕ → ℕ) (fs : List ℕ) (n : ℕ) → RisingNumbers fs → sum_by g (with_number fs n) ≡ sum_by g fs + cond (is_in fs n) 0 (g n)
 sum-with_number g [] n rises = let one = sum_by-cons g n [] in omega arith
 sum-with_number g (m ∷ ms) n rises = elim (cases_Bool (m == n)) [
   | inl same ↦ rw same (omega arith)
@@ -56,7 +56,7 @@ sum-without_number g (m ∷ ms) n rises =
     ]
 
 -- two sums that differ at one number at most
-sum-differs : (g h : ℕ → ℕ) (fs : List ℕ) (n : ℕ) → RisingNumbers fs → ((f : ℕ) → IsIn f fs → (f == n) ≡ false → h f ≡ g f) → sum_by h fs + cond (is_in fs n) (g n) 0 ≡ sum_by g fs + cond (is_in fs n) (h n) 0
+pub sum-differs : (g h : ℕ → ℕ) (fs : List ℕ) (n : ℕ) → RisingNumbers fs → ((f : ℕ) → IsIn f fs → (f == n) ≡ false → h f ≡ g f) → sum_by h fs + cond (is_in fs n) (g n) 0 ≡ sum_by g fs + cond (is_in fs n) (h n) 0
 sum-differs g h [] n rises same = omega arith
 sum-differs g h (m ∷ ms) n rises same =
     let a = sum_by-cons g m ms in
@@ -77,7 +77,7 @@ sum-differs g h (m ∷ ms) n rises same =
 -- ---- bytes of one file
 
 -- a file by itself
-abbrev one : ℕ → List ℕ → Tree
+abbrev pub one : ℕ → List ℕ → Tree
 one file bytes = record { number = file; parent = 1; name = []; content = Some bytes } ∷ []
 
 pub one-bytes : (file : ℕ) (bytes : List ℕ) → bytes_of (one file bytes) file ≡ bytes
@@ -104,7 +104,7 @@ one-all file bytes (c ∷ cs) of_it =
     ap (λ t. changed_all t cs) first ∙ one-all file (remade bytes c) cs (λ d there. of_it d (inr there)) ∙ ap (λ t. one file (bytes_of (changed_all t cs) file)) (sym first)
 
 -- one change more, of the file
-after-one : (bytes : List ℕ) (file : ℕ) (cs : List Change) (c : Change) → is_of_file file c ≡ true → bytes_after bytes file (cs ++ c ∷ []) ≡ remade (bytes_after bytes file cs) c
+pub after-one : (bytes : List ℕ) (file : ℕ) (cs : List Change) (c : Change) → is_of_file file c ≡ true → bytes_after bytes file (cs ++ c ∷ []) ≡ remade (bytes_after bytes file cs) c
 after-one bytes file cs c of_it =
     let its : filter (is_of_file file) (cs ++ c ∷ []) ≡ filter (is_of_file file) cs ++ c ∷ [] = filter-append (is_of_file file) cs (c ∷ []) ∙ ap (λ ds. filter (is_of_file file) cs ++ ds) (rw of_it refl) in
     let ds = filter (is_of_file file) cs in
@@ -113,7 +113,7 @@ after-one bytes file cs c of_it =
     ∙ one-bytes file (remade (bytes_after bytes file cs) c)
 
 -- one change more, of no bytes of it
-after-other : (bytes : List ℕ) (file : ℕ) (cs : List Change) (c : Change) → is_of_file file c ≡ false → bytes_after bytes file (cs ++ c ∷ []) ≡ bytes_after bytes file cs
+pub after-other : (bytes : List ℕ) (file : ℕ) (cs : List Change) (c : Change) → is_of_file file c ≡ false → bytes_after bytes file (cs ++ c ∷ []) ≡ bytes_after bytes file cs
 after-other bytes file cs c other =
     ap (λ es. bytes_of (changed_all (one file bytes) es) file)
     (filter-append (is_of_file file) cs (c ∷ []) ∙ ap (λ ds. filter (is_of_file file) cs ++ ds) (rw other refl) ∙ append-nil (filter (is_of_file file) cs))

@@ -6,3 +6,4 @@ pub mod OwnParts
 pub mod Commit
 pub mod Making
 pub mod Plain
+pub mod Restoring

@@ -9,6 +9,7 @@ ghost use Rattle.ktm_world.specs.Files.{tree_seen};
 ghost use Rattle.txf_opens.specs.Acts.{open_of};
 ghost use Rattle.txf_opens.specs.declared.file.OpenFile.{OpenFile as Kept};
 ghost use Rattle.txf_volume.specs.Held.{files_of, without_own};
+ghost use Rattle.txf_volume.specs.Restoring.{files_restored, CanBeRestored};
 ghost use Rattle.txf_laws.specs.FileEffects.{forgotten, IsNextOpen, IsNotOpened, IsPlanOf, CanBeCounted};
 ghost use Rattle.txf_volume.specs.Transacted.{changed_by, first_opened, opened_by, CanOwn, HasRoom};
 ghost use Rattle.txf_volume.specs.Uses.{IsSteady};
@@ -107,6 +108,20 @@ impl Files {
         }
     }
 
+    // The changes are the transaction's own from now on, one after another. Where memory fails, some of them are.
+    fn own_all(&mut self, transaction: Id, changes: Vec<Change>) -> Result<(), NoMemory>
+        requires { CanBeRestored (files_of self.old) transaction changes.items }
+        ensures done { OnOk result (files_of self.new ≡ files_restored (files_of self.old) transaction changes.items) }
+        ensures some { OnErr result (forgotten (files_of self.new) transaction ≡ files_of self.old) }
+    {
+        for change in changes {
+            if let Err(NoMemory) = self.own_if(transaction, Some(change)) {
+                return Err(NoMemory);
+            }
+        }
+        Ok(())
+    }
+
     // A committed file that the transaction opens first is fixed at its last version.
     fn fix(&mut self, transaction: Id, file: u64)
         requires spare { 0 < self.old.versions.spare }
@@ -178,5 +193,19 @@ impl Files {
         self.reserve.release(transaction);
         self.versions.release(transaction);
         self.opens.end_group(transaction);
+    }
+
+    /// The changes are those of a transaction that is brought back by a restart: they are its own from now on, behind those of
+    /// the others, and hold what they name. Where memory fails, nothing has changed.
+    pub fn restore(&mut self, transaction: Id, changes: Vec<Change>) -> Result<(), NoMemory>
+        requires { CanBeRestored (files_of self.old) transaction changes.items }
+        ensures done { OnOk result (files_of self.new ≡ files_restored (files_of self.old) transaction changes.items) }
+        ensures same { OnErr result (files_of self.new ≡ files_of self.old) }
+    {
+        if let Err(NoMemory) = self.own_all(transaction, changes) {
+            self.forget(transaction);
+            return Err(NoMemory);
+        }
+        Ok(())
     }
 }

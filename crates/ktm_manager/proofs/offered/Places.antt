@@ -1,6 +1,6 @@
 -- Where the one with an Id stands among things by rising Id, and what follows of it.
 use Rattle.std.proofs.Common.{◌≡◌, ◌⊎◌, ℕ, zero, suc, ◌+◌, ◌<◌, ◌≤◌, ◌==◌, ◌&&◌, Bool, true, false, List, [], ◌∷◌, ◌++◌, length, get_or, set, map, Some, None, refl, sym, ◌∙◌, ap, subst, arith, add-one, inl, inr, is_lt, Ordering, Less, Equal, Greater, nat_lt, ltb-false}
-use Rattle.std.specs.Prelude.{Ok, Err, find, is_some, if◌then◌else◌}
+use Rattle.std.specs.Prelude.{Ok, Err, find, insert, is_some, if◌then◌else◌}
 use Rattle.std.specs.List.{list_all, list_any}
 use Rattle.std.specs.Cmp.{IsTotalOrder}
 use Rattle.std.specs.List.Sorted.{IsBinarySearchResult, IsNonDecreasingBy, IsSortedBy}
@@ -11,7 +11,7 @@ use Rattle.std.proofs.lemmas.List.Sorted.{searchable_from_sorted}
 use Rattle.ktm_base.specs.declared.id.Id.{Id}
 use Rattle.ktm_world.specs.Durable.{is_before}
 use Rattle.ktm_world.specs.Transactions.{same_id}
-use Rattle.txf_laws.proofs.offered.Tables.{same_id-equal, same_id-from, before_other, is_before-then}
+use Rattle.txf_laws.proofs.offered.Tables.{same_id-equal, same_id-from, same_id-sym, before_other, is_before-turned}
 use Rattle.txf_laws.specs.Elements.{each_pair}
 use Rattle.ktm_manager.specs.Rising.{are_rising, id_order, IsAt, IsNowhere}
 
@@ -60,6 +60,20 @@ less_other a b is = false_from_ne_true _ (λ same. let tied = same_equal a b sam
 
 more_other : (a b : Id) → id_order a b ≡ Greater → same_id a b ≡ false
 more_other a b is = false_from_ne_true _ (λ same. let tied = same_equal a b same in absurd (cc))
+
+before_less : (a b : Id) → is_before a b ≡ true → id_order a b ≡ Less
+before_less a b first = elim (or_cases _ _ first) [
+  | inl boot ↦ rw (less a.boot b.boot (ltb-true _ _ boot)) refl
+  | inr rest ↦
+      let parts = and_parts (a.boot == b.boot) _ rest in
+      rw (level a.boot b.boot (eqb-true _ _ parts.0), less a.number b.number (ltb-true _ _ parts.1)) refl
+]
+
+less_before : (a b : Id) → id_order a b ≡ Less → is_before a b ≡ true
+less_before a b is = is_before-turned a b (less_other a b is) (false_from_ne_true _ (λ behind. true≢false (sym (ap is_lt is) ∙ not_below b a behind)))
+
+more_before : (a b : Id) → id_order a b ≡ Greater → is_before b a ≡ true
+more_before a b is = is_before-turned b a (same_id-sym a b (more_other a b is)) (false_from_ne_true _ (λ behind. let first = before_less a b behind in absurd (cc)))
 
 -- one that comes first is another
 pub before_differs : (a b : Id) → is_before a b ≡ true → same_id a b ≡ false
@@ -122,6 +136,38 @@ module _ {X : Type 0} where
         | inr (inl low) ↦ less_other (id_of (get_or xs k d)) id (point.0 k d (omega arith) low)
         | inr (inr high) ↦ more_other (id_of (get_or xs k d)) id (point.1 k d (omega (arith, high)) inside)
       ])
+
+  -- ---- one more where a search by halves ends
+
+  all_from : (test : X → Bool) (xs : List X) → ((k : ℕ) (d : X) → k < length xs → test (get_or xs k d) ≡ true) → list_all test xs ≡ true
+  all_from test [] each = refl
+  all_from test (x ∷ xs) each = and_from _ _ (each 0 x (omega arith)) (all_from test xs (λ k d within. each (suc k) d (omega (arith, within))))
+
+  all_insert : (test : X → Bool) (xs : List X) (i : ℕ) (y : X) → list_all test xs ≡ true → test y ≡ true → list_all test (insert xs i y) ≡ true
+  all_insert test xs zero y all is = and_from _ _ is all
+  all_insert test [] (suc i) y all is = and_from _ _ is refl
+  all_insert test (x ∷ xs) (suc i) y all is =
+      let parts = and_parts (test x) (list_all test xs) all in
+      and_from _ _ parts.0 (all_insert test xs i y parts.1 is)
+
+  rising_insert : (id_of : X → Id) (xs : List X) (i : ℕ) (y : X) → are_rising id_of xs ≡ true
+      → ((k : ℕ) (d : X) → k < i → k < length xs → is_before (id_of (get_or xs k d)) (id_of y) ≡ true)
+      → ((k : ℕ) (d : X) → i ≤ k → k < length xs → is_before (id_of y) (id_of (get_or xs k d)) ≡ true)
+      → are_rising id_of (insert xs i y) ≡ true
+  rising_insert id_of xs zero y rises before behind = and_from _ _ (all_from (λ (z : X). is_before (id_of y) (id_of z)) xs (λ k d inside. behind k d (omega arith) inside)) rises
+  rising_insert id_of [] (suc i) y rises before behind = refl
+  rising_insert id_of (x ∷ xs) (suc i) y rises before behind =
+      and_from _ _ (all_insert (λ (z : X). is_before (id_of x) (id_of z)) xs i y (rises_first id_of x xs rises) (before 0 x (omega arith) (omega arith)))
+      (rising_insert id_of xs i y (rises_rest id_of x xs rises) (λ k d low inside. before (suc k) d (omega (arith, low)) (omega (arith, inside)))
+      (λ k d high inside. behind (suc k) d (omega (arith, high)) (omega (arith, inside))))
+
+  -- they rise with one that has the Id put there
+  pub gap_rises : (id_of : X → Id) (xs : List X) (id : Id) (i : ℕ) (y : X) → are_rising id_of xs ≡ true → id_of y ≡ id → IsBinarySearchResult (λ x. id_order (id_of x) id) xs (Err i) → are_rising id_of (insert xs i y) ≡ true
+  gap_rises id_of xs id i y rises same result =
+      let point = result (searchable_from_sorted id_total id_of xs id (sorted id_of xs rises)) in
+      rising_insert id_of xs i y rises
+      (λ k d low inside. subst (λ (a : Id). is_before (id_of (get_or xs k d)) a ≡ true) (sym same) (less_before (id_of (get_or xs k d)) id (point.0 k d (omega arith) low)))
+      (λ k d high inside. subst (λ (a : Id). is_before a (id_of (get_or xs k d)) ≡ true) (sym same) (more_before (id_of (get_or xs k d)) id (point.1 k d high inside)))
 
   -- ---- one more behind all others
 

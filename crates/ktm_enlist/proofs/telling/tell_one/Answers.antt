@@ -1,4 +1,4 @@
-use Rattle.std.proofs.Common.{sym, rules}
+use Rattle.std.proofs.Common.{sym}
 use Rattle.ktm_manager.proofs.offered.Served.{served_nothing}
 use Rattle.ktm_enlist.proofs.telling.tell_one.Goals as goal
 
