@@ -1,8 +1,8 @@
 """The forms of lines that the program answers: what each costs by itself, and beside many other things.
 
 A probe is a form with lines, the measured one of which begins with a star. Its lines leave what is there as it was, so that
-they can be repeated. They find the transaction h100, the key "m", and the directory `\\work` with the file `m` and the empty
-directory `e`."""
+they can be repeated. They find the transaction h100, the volatile resource manager h101, for which nothing waits, the key
+"m", and the directory `\\work` with the file `m` and the empty directory `e`."""
 
 import measuring
 
@@ -17,6 +17,9 @@ OPEN_IN = 'p1 CreateFileTransacted h2 "\\work\\m" rw - OPEN_EXISTING h1'
 MAKE_IN = 'p1 CreateFileTransacted h2 "\\work\\n" rw - CREATE_NEW h1'
 SET, WRITE = f'p1 KvSet h1 "m" {VALUE}', f"p1 WriteFile h2 0 {VALUE}"
 COMMIT = "p1 CommitTransaction h1"
+ENLIST, TAKE = "p1 CreateEnlistment h2 h101 h1 plain", "p1 GetNotificationResourceManager h101"
+PREPARED, COMMITTED_TOO = "p1 PrepareComplete h2", "p1 CommitComplete h2"
+REJECTED, ROLLED_BACK = "p1 RollbackEnlistment h2", "p1 RollbackComplete h2"
 # Takes some memory at once, at which the C library does what it still has to do for memory that was given back before.
 SETTLE = [BEGIN, MAKE_IN, CLOSE, UNDO, END]
 
@@ -34,6 +37,21 @@ PROBES = {
     "CloseHandle of a file": [OPEN, "*" + CLOSE],
     "DuplicateHandle": ["*p1 DuplicateHandle h1 p1 h100", END],
     "exit with one handle": ["p3 DuplicateHandle h1 p1 h100", "*p3 exit"],
+    "CreateResourceManager": ["*p1 CreateResourceManager h2 volatile", CLOSE],
+    "RecoverResourceManager": ["*p1 RecoverResourceManager h101", TAKE],
+    "GetNotificationResourceManager": ["p1 RecoverResourceManager h101", "*" + TAKE],
+    "CreateEnlistment": [BEGIN, "*" + ENLIST, UNDO, TAKE, ROLLED_BACK, CLOSE, END],
+    "SetEnlistmentRecoveryInformation": [
+        BEGIN, ENLIST, f"*p1 SetEnlistmentRecoveryInformation h2 {VALUE}", UNDO, TAKE, ROLLED_BACK, CLOSE, END,
+    ],
+    "CommitTransaction that asks one to prepare": [
+        BEGIN, ENLIST, "*" + COMMIT, TAKE, PREPARED, TAKE, COMMITTED_TOO, CLOSE, END,
+    ],
+    "PrepareComplete": [BEGIN, ENLIST, COMMIT, TAKE, "*" + PREPARED, TAKE, COMMITTED_TOO, CLOSE, END],
+    "PrepareComplete that commits a key": [BEGIN, ENLIST, SET, COMMIT, TAKE, "*" + PREPARED, TAKE, COMMITTED_TOO, CLOSE, END],
+    "CommitComplete": [BEGIN, ENLIST, COMMIT, TAKE, PREPARED, TAKE, "*" + COMMITTED_TOO, CLOSE, END],
+    "RollbackEnlistment": [BEGIN, ENLIST, COMMIT, TAKE, "*" + REJECTED, CLOSE, END],
+    "RollbackComplete": [BEGIN, ENLIST, UNDO, TAKE, "*" + ROLLED_BACK, CLOSE, END],
     "KvSet": [BEGIN, "*" + SET, UNDO, END],
     "KvSet of a new key": [BEGIN, f'*p1 KvSet h1 "n" {VALUE}', UNDO, END],
     "KvUnset": [BEGIN, '*p1 KvUnset h1 "m"', UNDO, END],
@@ -87,7 +105,13 @@ COMMITTED = [
     COMMIT,
     END,
 ]
-OPENED = ["p1 CreateTransaction h100 0", "p2 DuplicateHandle h1 p1 h100", *SETTLE]
+OPENED = [
+    "p1 CreateTransaction h100 0",
+    "p2 DuplicateHandle h1 p1 h100",
+    "p1 CreateResourceManager h101 volatile",
+    "p2 CreateResourceManager h901 volatile",
+    *SETTLE,
+]
 
 
 def other(number):
@@ -137,6 +161,31 @@ def ended(count):
     return ["p2 CreateTransaction h2 0", "p2 CloseHandle h2"] * count
 
 
+def enlisted(count):
+    """Returns what enlists a resource manager in one other transaction this many times."""
+    return [f"p2 CreateEnlistment h{at + 2} h901 h1 plain" for at in range(count)]
+
+
+def finished(count):
+    """Returns what enlists it in this many transactions, one after another, each of which rolls back."""
+    return [
+        line
+        for _ in range(count)
+        for line in [
+            "p2 CreateTransaction h2 0",
+            "p2 CreateEnlistment h3 h901 h2 plain",
+            "p2 RollbackEnlistment h3",
+            "p2 CloseHandle h3",
+            "p2 CloseHandle h2",
+        ]
+    ]
+
+
+def waiting(count):
+    """Returns what leaves this many notifications of the probes' own resource manager in its queue, and as many of another's."""
+    return [f"p{at % 2 + 1} RecoverResourceManager h{[101, 901][at % 2]}" for at in range(2 * count)]
+
+
 def longer(count):
     """Returns what makes the file `m` this long."""
     return [OPEN, f"p1 SetEndOfFile h2 {count}", CLOSE]
@@ -148,6 +197,9 @@ THINGS = {
     "open handles": ([10, 100, 900], NOTHING, handles),
     "live transactions": ([10, 30, 60], NOTHING, live),
     "ended transactions": ([10, 100, 900], NOTHING, ended),
+    "live enlistments": ([10, 30, 60], NOTHING, enlisted),
+    "finished enlistments": ([10, 100, 900], NOTHING, finished),
+    "notifications that wait": ([10, 100, 300], NOTHING, waiting),
     "names in the directory": ([10, 100, 900], names_in("work"), NOTHING),
     "names in another": ([10, 100, 900], names_in("other"), NOTHING),
     "keys": ([10, 100, 900], keys, NOTHING),
@@ -160,6 +212,40 @@ def probed(rounds):
     """Returns the lines of all probes, each measured one with its form, and each other one with none."""
     probes = [*PROBES.items()] * rounds + [*LAST_PROBES.items()]
     return [(form if line.startswith("*") else None, line.lstrip("*")) for form, lines in probes for line in lines]
+
+
+def votes(count):
+    """Returns the lines by which this many enlistments of one transaction vote and commit, and those by which as many roll back.
+    Each line that is measured has its form; the first is one of many, and the last brings on what follows from all."""
+    labels = [f"h{at + 200}" for at in range(count)]
+    each = lambda call: [f"p1 {call} {label}" for label in labels]
+    enlists = [f"p1 CreateEnlistment {label} h101 h1 plain" for label in labels]
+    takes, closes = [TAKE] * count, [*each("CloseHandle"), END]
+    unmeasured = lambda lines: [(None, line) for line in lines]
+    first_and_last = lambda name, lines: [(f"{name}, the first", lines[0]), *unmeasured(lines[1:-1]), (f"{name}, the last", lines[-1])]
+    return [
+        *unmeasured([BEGIN]),
+        *first_and_last("CreateEnlistment", enlists),
+        ("CommitTransaction", COMMIT),
+        *unmeasured(takes),
+        *first_and_last("PrepareComplete", each("PrepareComplete")),
+        *unmeasured(takes),
+        *first_and_last("CommitComplete", each("CommitComplete")),
+        *unmeasured([*closes, BEGIN, *enlists, COMMIT, *takes]),
+        ("RollbackEnlistment", f"p1 RollbackEnlistment {labels[0]}"),
+        *unmeasured(takes[1:]),
+        *first_and_last("RollbackComplete", each("RollbackComplete")[1:]),
+        *unmeasured(closes),
+    ]
+
+
+def by_vote(side, count):
+    """Returns for each form of a vote how many instructions it takes where its transaction has this many enlistments."""
+    lines = [*OPENED, *[line for _, line in votes(count)]]
+    with side.state() as state:
+        side.measured(measuring.run, COMMITTED, state)
+        measured = side.measured(measuring.instructions_by_reply, lines, state, is_right)
+    return {form: value for (form, _), value in zip(votes(count), measured[len(OPENED) :]) if form}
 
 
 def is_right(reply):

@@ -246,6 +246,15 @@ def of_growth(sides, _):
     ]
 
 
+def of_votes(sides, _):
+    """What the calls of enlistments cost, by how many their transaction has."""
+    counts = [3, 10, 60]
+    found = [forms.by_vote(sides.wattorju, count) for count in counts]
+    rows = [[form, *[each[form] for each in found]] for form in found[0]]
+    columns = ["line", *[f"{count} enlistments" for count in counts]]
+    return Table("votes", "instructions of a vote, by the enlistments of its transaction", columns, rows)
+
+
 TABLES = {
     "versions": of_versions,
     "sets": of_sets,
@@ -256,5 +265,6 @@ TABLES = {
     "lines": of_lines,
     "restarts": of_restarts,
     "growth": of_growth,
+    "votes": of_votes,
     "memory": of_memory,
 }

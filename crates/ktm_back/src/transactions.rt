@@ -7,8 +7,8 @@ ghost use Rattle.ktm_world.specs.World.{is_brought_back, is_enlistment_part, tra
 use ktm_types::{Part, Phase, RecordedPart, Stage, Transaction, TransactionOutcome};
 use ktm_world::Recorded;
 
-// Does it wait for its superior.
-fn is_held(stage: Stage) -> bool
+/// Does it wait for its superior.
+pub(crate) fn is_held(stage: Stage) -> bool
     ensures { result ≡ is_held stage }
 {
     match stage {

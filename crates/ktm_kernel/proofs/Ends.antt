@@ -20,9 +20,9 @@ use Rattle.ktm_world.specs.Logs.{Group, as_groups}
 use Rattle.ktm_world.specs.Outcome.{Outcome, apply, is_full, within_log}
 use Rattle.ktm_world.specs.Present.{Present}
 use Rattle.ktm_world.proofs.offered.Durables.{after_events-events, after_events-image, after_events-units}
-use Rattle.ktm_built.specs.Standing.{IsStandingNow}
-use Rattle.ktm_built.proofs.offered.Decided.{full_log}
-use Rattle.ktm_built.proofs.offered.Machine.{apply-full}
+use Rattle.ktm_standing.specs.Standing.{IsStandingNow}
+use Rattle.ktm_standing.proofs.offered.Decided.{full_log}
+use Rattle.ktm_standing.proofs.offered.Machine.{apply-full}
 use Rattle.ktm_memory.specs.declared.settlement.Settlement.{Settlement}
 use Rattle.ktm_memory.specs.Decided.{Decides}
 use Rattle.ktm_memory.specs.Memory.{Held, IsRoomy, MaySettle, MemoryState, SettlesGood, Shows, TellsWithin, appended, held, now_of, present_of}

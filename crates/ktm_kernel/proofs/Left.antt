@@ -1,8 +1,6 @@
 -- What a loss of power leaves of a machine.
 use Rattle.std.proofs.Common.{◌≡◌, ℕ, ◌&&◌, List, [], ◌++◌, length, Option, refl, sym, ◌∙◌, ap, subst}
-use Rattle.std.proofs.lemmas.Bool.{and_from}
 use Rattle.std.proofs.lemmas.List.{append-nil}
-use Rattle.std.proofs.lemmas.List.Folds.{list_all-append}
 use Rattle.std.specs.Prelude.{Contains, IsTrue, IsSomeAnd}
 use Rattle.ktm_base.specs.Disk.{DiskState}
 use Rattle.ktm_base.proofs.offered.ToldSteps.{IsSomeAnd-map}
@@ -11,7 +9,6 @@ use Rattle.ktm_restart.specs.Logs.{HoldsLog, StandsFor}
 use Rattle.ktm_journal.proofs.offered.Images.{what_is_left}
 use Rattle.ktm_world.specs.Durable.{Durable, empty_state, stand, log_applies}
 use Rattle.ktm_world.specs.World.{World, possible_logs}
-use Rattle.ktm_forms.specs.Built.{is_built_group, is_built_log}
 use Rattle.ktm_world.specs.Logs.{Group, Power, up, down, is_up, prefixes_from, possible_by}
 use Rattle.ktm_world.proofs.offered.Durables.{stand-append, stand-units, stand-image, log_applies-append}
 use Rattle.ktm_kernel.specs.Stands.{KernelState, Began, Stands, StandsBy, LeavesPossible, LeavesStates, LeftLaw}
@@ -37,9 +34,6 @@ module _ (j : JournalState) (before : List Group) (w : World) (began : Began j b
       subst (λ b. IsTrue b) (sym (log_applies-append (empty_state j.units j.image) before log))
       (both_true (log_applies (empty_state j.units j.image) before) (log_applies (stand (empty_state j.units j.image) before) log) began.applies (subst (λ (s : Durable). IsTrue (log_applies s log)) began.base applies))
 
-  pub both_built : (log : List Group) → IsTrue (is_built_log log) → IsTrue (is_built_log (before ++ log))
-  both_built log built = list_all-append is_built_group before log ∙ and_from (is_built_log before) (is_built_log log) began.built built
-
   pub stands_for : (log : List Group) (image : List ℕ) → HoldsLog j.units j.image (before ++ log) image → StandsFor (stand w.base log) image
   stands_for log image holds = record {
     log = before ++ log;
@@ -61,7 +55,7 @@ left_up k told w on stands = IsSomeAnd-map told (JournalAt k.journal (stands.bef
     (λ s at image left. (
       w.log,
       log_is_possible w on (stands.standing.running.kept),
-      record { is = what_is_left k.journal (stands.before ++ w.log) s image at left; built = both_built k.journal stands.before w stands.began w.log stands.standing.built.log; applies = both_apply k.journal stands.before w stands.began w.log stands.standing.running.applies },
+      record { is = what_is_left k.journal (stands.before ++ w.log) s image at left; applies = both_apply k.journal stands.before w stands.began w.log stands.standing.running.applies },
     ))
 
 left_by : (power : Power) (k : KernelState) (told : Option DiskState) (w : World) → w.power ≡ power → StandsBy (is_up power) k told w → IsSomeAnd told (LeavesStates w)

@@ -1,6 +1,7 @@
 pub mod Possible
 pub mod Left
 pub mod Worlds
+pub mod Reserved
 pub mod Ready
 pub mod OwnGroups
 pub mod Begun

@@ -6,7 +6,6 @@ use Rattle.ktm_base.specs.declared.id.Pid.{Pid}
 use Rattle.ktm_base.specs.declared.refusal.Refusal.TheVariants.{MachineDown}
 use Rattle.ktm_base.specs.Count.{Rose}
 use Rattle.ktm_base.specs.Disk.{DiskState, DiskStatus, DeviceCalls}
-use Rattle.ktm_forms.specs.Built.{is_built_command}
 use Rattle.ktm_log.specs.OnDisk.{OnDisk}
 use Rattle.ktm_slots.specs.Owed.{owed_slots}
 use Rattle.ktm_types.specs.declared.command.Command.{Command}
@@ -19,12 +18,15 @@ use Rattle.ktm_world.specs.Decide.{decide}
 use Rattle.ktm_world.specs.Outcome.{Outcome, apply}
 use Rattle.ktm_world.specs.Present.{Present}
 use Rattle.ktm_world.specs.World.{World, decide_tick, present}
-use Rattle.ktm_built.specs.Laws.{StandingLaw}
-use Rattle.ktm_built.specs.Standing.{IsStanding, IsStandingNow}
-use Rattle.ktm_built.proofs.offered.Decided.{decided_law}
+use Rattle.ktm_laws.specs.ReservedFiles.{ReservedFilesLaw}
+use Rattle.ktm_standing.specs.Laws.{KeptLaw, StandingLaw}
+use Rattle.ktm_standing.specs.Standing.{IsStanding, IsStandingNow}
+use Rattle.ktm_standing.proofs.offered.Decided.{decided_law}
 use Rattle.ktm_kernel.specs.Answers.{AnswerLeaves, CallLeaves, IsAnswered, IsLineAnswered}
 use Rattle.ktm_kernel.specs.Done.{Ends}
+use Rattle.ktm_kernel.specs.Reserved.{KeepsReserved}
 use Rattle.ktm_kernel.specs.Stands.{DoesLine, IsPowered, IsReady, KernelAt, KernelState}
+use Rattle.ktm_kernel.proofs.Reserved.{call_reserved, tick_reserved}
 use Rattle.ktm_kernel.proofs.Worlds.{DoesCall, GoesOn, call_goes_on, down_call, down_tick, ended_line, tick_goes_on, tick_not_down}
 
 -- ---- a machine that is down
@@ -77,8 +79,8 @@ module _ (line : Line) (decides : Present → Outcome) (does : (w : World) (k : 
   -- while the machine is up, for each world that it stands for
   up_answered : ((w : World) → IsStanding w → GoesOn w (decides (present w))) → (old new : OnDisk KernelState) → old.it.now.machine.is_up ≡ true → IsReady old.it old.told old.status
       → IsStandingNow (apply old.it.now (decides old.it.now)) → (decides old.it.now).reply ≢ Refused MachineDown
-      → (reply : Reply) → IsAnswered (decides old.it.now) old new reply → IsLineAnswered line (decides old.it.now) old new reply
-  up_answered goes_on old new up ready standing other reply answered = record {
+      → (reply : Reply) → KeepsReserved line old.it.now new.it.now → IsAnswered (decides old.it.now) old new reply → IsLineAnswered line (decides old.it.now) old new reply
+  up_answered goes_on old new up ready standing other reply reserved answered = record {
     does = λ w at. does w new.it new.told reply (ended_line decides new.status.is_down old.it new.it reply old.told new.told up goes_on answered.ends w at);
     cause = down_cause new.status.is_down old.it new.it (decides old.it.now) reply old.told new.told old.status new.status other (ready.powered.power up) answered.ends answered.calls;
     ready = record {
@@ -88,6 +90,7 @@ module _ (line : Line) (decides : Present → Outcome) (does : (w : World) (k : 
     };
     calls = answered.calls;
     untouched = answered.untouched;
+    reserved = λ on. reserved;
   }
 
   -- while it is down, when nothing is done
@@ -99,15 +102,17 @@ module _ (line : Line) (decides : Present → Outcome) (does : (w : World) (k : 
     ready = ready;
     calls = record { later = omega arith; counted = omega arith; few = omega arith; cause = λ refused. inl refused; down = or_same old.status.is_down; plan = refl; places = refl };
     untouched = λ touches. record { told = refl; status = refl };
+    reserved = λ on. absurd (both_ways old.it.now.machine.is_up off on);
   }
 
 -- a call of a process
-pub call_answered : StandingLaw → (process : Pid) (command : Command) → IsCommand command → is_built_command command ≡ true → (old new : OnDisk KernelState) → old.it.now.machine.is_up ≡ true → IsReady old.it old.told old.status
+pub call_answered : StandingLaw → ReservedFilesLaw → KeptLaw → (process : Pid) (command : Command) → IsCommand command → (old new : OnDisk KernelState) → old.it.now.machine.is_up ≡ true → IsReady old.it old.told old.status
     → (r : Result Reply NoMemory) → AnswerLeaves (decide old.it.now process command) old new r → CallLeaves process command old new r
-call_answered law process command can built old new up ready (Ok reply) answered =
-    up_answered (Process process command) (λ x. decide x process command) (λ w k told r does. does) (call_goes_on law process command can built) old new up ready
-    (law.commands_now old.it.now process command can built (ready.standing up)) (decided_law.is_up old.it.now process command built up) reply answered
-call_answered law process command can built old new up ready (Err fault) untouched = untouched
+call_answered law reserves keeps process command can old new up ready (Ok reply) answered =
+    up_answered (Process process command) (λ x. decide x process command) (λ w k told r does. does) (call_goes_on law process command can) old new up ready
+    (law.commands_now old.it.now process command can (ready.standing up)) (decided_law.is_up old.it.now process command up) reply
+    (call_reserved reserves process command new.status.is_down old.it new.it reply old.told new.told (keeps old.it.now (ready.standing up)) answered.ends) answered
+call_answered law reserves keeps process command can old new up ready (Err fault) untouched = untouched
 
 pub call_down : (process : Pid) (command : Command) (old : OnDisk KernelState) → old.it.now.machine.is_up ≡ false → IsReady old.it old.told old.status
     → IsLineAnswered (Process process command) (decide old.it.now process command) old old (Refused MachineDown)
@@ -115,11 +120,12 @@ call_down process command old off ready =
     down_answered (Process process command) (λ x. decide x process command) (λ w k told r does. does) old (down_call old.it old.told process command off) off ready
 
 -- the passing of time
-pub tick_answered : StandingLaw → (ms : ℕ) (old new : OnDisk KernelState) → old.it.now.machine.is_up ≡ true → IsReady old.it old.told old.status
+pub tick_answered : StandingLaw → ReservedFilesLaw → KeptLaw → (ms : ℕ) (old new : OnDisk KernelState) → old.it.now.machine.is_up ≡ true → IsReady old.it old.told old.status
     → (reply : Reply) → IsAnswered (decide_tick old.it.now ms) old new reply → IsLineAnswered (Tick ms) (decide_tick old.it.now ms) old new reply
-tick_answered law ms old new up ready reply answered =
+tick_answered law reserves keeps ms old new up ready reply answered =
     up_answered (Tick ms) (λ x. decide_tick x ms) (λ w k told r does. does) (tick_goes_on law ms) old new up ready
-    (law.ticks_now old.it.now ms (ready.standing up)) (tick_not_down old.it.now ms up) reply answered
+    (law.ticks_now old.it.now ms (ready.standing up)) (tick_not_down old.it.now ms up) reply
+    (tick_reserved reserves ms new.status.is_down old.it new.it reply old.told new.told (keeps old.it.now (ready.standing up)) answered.ends) answered
 
 pub tick_down : (ms : ℕ) (old : OnDisk KernelState) → old.it.now.machine.is_up ≡ false → IsReady old.it old.told old.status → IsLineAnswered (Tick ms) (decide_tick old.it.now ms) old old (Refused MachineDown)
 tick_down ms old off ready = down_answered (Tick ms) (λ x. decide_tick x ms) (λ w k told r does. does) old (down_tick old.it old.told ms off) off ready

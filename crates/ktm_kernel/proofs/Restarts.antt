@@ -1,10 +1,10 @@
 -- What a restart finds on a disk, and what it makes of it.
-use Rattle.std.proofs.Common.{◌≡◌, ℕ, ◌+◌, ◌-◌, ◌*◌, ◌^◌, ◌≤◌, ◌<◌, true, false, List, [], ◌∷◌, ◌++◌, length, Bool, Result, Err, Option, None, Some, refl, sym, ◌∙◌, ap, subst, arith, inl, inr, append_assoc}
+use Rattle.std.proofs.Common.{◌≡◌, ℕ, ◌+◌, ◌-◌, ◌*◌, ◌^◌, ◌≤◌, ◌<◌, true, false, List, [], ◌∷◌, ◌++◌, length, Bool, Result, Ok, Err, Option, None, Some, refl, sym, ◌∙◌, ap, subst, arith, inl, inr, append_assoc}
 use Rattle.std.proofs.lemmas.Bool.{and_from, and_parts, both_ways, ltb-false}
 use Rattle.std.proofs.lemmas.List.Folds.{list_all-append}
 use Rattle.std.proofs.lemmas.List.Sums.{sum_by-cons}
 use Rattle.std.specs.List.{list_all}
-use Rattle.std.specs.Prelude.{IsTrue, IfSome, IsSomeAnd, Vec, vec_capacity}
+use Rattle.std.specs.Prelude.{IsTrue, IfOk, OnErr, IfSome, IsSomeAnd, Vec, vec_capacity}
 use Rattle.ktm_base.specs.declared.limits.TheConstants.{LEAST_UNITS, MOST_UNITS}
 use Rattle.ktm_base.specs.Disk.{DeviceCalls, DiskState, DiskStatus, IsSafe}
 use Rattle.ktm_base.proofs.offered.Images.{safe_law}
@@ -19,18 +19,17 @@ use Rattle.ktm_journal.specs.Image.{JournalState, JournalAt, IsImage, IsFormatte
 use Rattle.ktm_journal.proofs.offered.GroupSizes.{journal_left}
 use Rattle.ktm_restart.proofs.offered.OneState.{one_held}
 use Rattle.ktm_event.specs.Kept.{EventsState, Holds}
-use Rattle.ktm_forms.specs.Built.{is_built_group, is_built_log, IsBuiltState}
-use Rattle.ktm_forms.proofs.BuiltStates.{built_log, built_own}
 use Rattle.ktm_world.specs.Durable.{Durable, empty_state, stand, events_apply, log_applies}
 use Rattle.ktm_types.specs.Sizes.{area_len, frame_size, log_size}
 use Rattle.ktm_world.specs.Logs.{Group}
 use Rattle.ktm_world.specs.Outcome.{is_full as is_full_in}
-use Rattle.ktm_world.specs.World.{own_group, opened, present}
+use Rattle.ktm_world.specs.World.{in_doubt, own_group, opened, present}
 use Rattle.ktm_world.proofs.offered.Durables.{after_events-events, after_events-image, after_events-units, stand-append, stand-units, log_applies-append}
 use Rattle.ktm_world.specs.Present.{Present}
 use Rattle.ktm_world.proofs.offered.SizeLemmas.{log_size-append}
-use Rattle.ktm_built.specs.Laws.{FreshLaw, StandingLaw}
-use Rattle.ktm_built.specs.Standing.{IsStanding, IsStandingNow, fresh}
+use Rattle.ktm_records.specs.Spelling.{AreRecordedTexts}
+use Rattle.ktm_standing.specs.Laws.{FreshLaw, StandingLaw}
+use Rattle.ktm_standing.specs.Standing.{IsStanding, IsStandingNow, fresh}
 use Rattle.ktm_states.specs.GoodState.{IsGoodState}
 use Rattle.ktm_states.specs.GoodStates.{GoodStatesLaw}
 use Rattle.ktm_states.specs.Grammatical.{GrammarLaw, is_grammatical}
@@ -66,7 +65,6 @@ pub record IsFound (units image : ℕ) (before log : List Group) (state : Durabl
   pub image_is : state.image ≡ image
   pub is : state ≡ stand (base_of units image before) log
   pub least : LEAST_UNITS ≤ units
-  pub built : IsTrue (is_built_log (before ++ log))
   pub applies : IsTrue (log_applies (empty_state units image) (before ++ log))
 
 found_in : (units image : ℕ) (before log : List Group) (state : Durable) (bytes : List ℕ) → StandsFor state bytes → HoldsLog units image (before ++ log) bytes → IsFound units image before log state
@@ -78,7 +76,6 @@ found_in units image before log state bytes stands holds =
       is = stands.comes_to ∙ ap (λ n. stand (empty_state n state.image) stands.log) u ∙ ap (λ n. stand (empty_state units n) stands.log) i
           ∙ ap (λ (gs : List Group). stand (empty_state units image) gs) l ∙ stand-append (empty_state units image) before log;
       least = holds.is.formatted.headed.least;
-      built = holds.built;
       applies = holds.applies;
     }
 
@@ -101,9 +98,13 @@ module _ (state : Durable) (j : JournalState) (most : state.units ≤ MOST_UNITS
   pub few_events : state.events + length (own_group state) < 2 ^ 63
   few_events = omega (arith, len, is.events.events, is.inside, most, frame-counts (own_group state), own_fits j state room)
 
-  -- and for two boots more, and it applies
+  -- and for two boots more
+  pub few_boots : state.boots + 2 < 2 ^ 32
+  few_boots = omega (arith, len, is.events.boots, is.events.events, is.inside, most)
+
+  -- and it applies
   pub own_may : OwnGroupLaw → IsGoodState state → events_apply state (own_group state) ≡ true
-  own_may law good = (law state good (omega (arith, len, is.events.boots, is.events.events, is.inside, most)) few_events).0
+  own_may law good = (law state good few_boots few_events).0
 
 -- the journal has the group of a start more
 pub record HasStart (state : Durable) (old new : OnDisk JournalState) : Type 0 where
@@ -131,7 +132,7 @@ has_start state events old new holds recorded =
     }
 
 -- a memory that showed what is so at the start of this state recorded that
-module _ (state : Durable) (events : EventsState) (old new : OnDisk MemoryState) (most : state.units ≤ MOST_UNITS) (built : IsBuiltState state) (good : IsGoodState state) (is : IsJournalOf state old.it.journal)
+module _ (state : Durable) (events : EventsState) (old new : OnDisk MemoryState) (may : MayStart state) (is : IsJournalOf state old.it.journal)
     (holds : Holds events (own_group state)) (recorded : AreRecorded events old new) where
   abbrev pub left_then : ℕ
   left_then = new.it.journal.log.area.len - new.it.journal.log.end
@@ -146,7 +147,7 @@ module _ (state : Durable) (events : EventsState) (old new : OnDisk MemoryState)
       let len = ap (λ (a : Area). a.len) is.area in
       let area = ap (λ (a : Area). a.len) has_then.same.area in
       let end = has_then.end in
-      law.stands state left_then good built most (omega (arith, len, area, end, is.events.events, is.inside, most, fits)) (omega (arith, len, area, end, is.events.events, is.events.boots, is.inside, most, fits))
+      law.stands state left_then may.good may.texts may.most (omega (arith, len, area, end, is.events.events, is.inside, may.most, fits)) (omega (arith, len, area, end, is.events.events, is.events.boots, is.inside, may.most, fits))
 
   shows_then : Shows old.it (fresh state left_then) → Shows new.it (fresh state left_then)
   shows_then was = subst (λ (m : MemoryState). Shows m (fresh state left_then)) (sym (recorded.grows (own_group state) holds)) (record {
@@ -181,13 +182,6 @@ unwritten_leaves units image before log told holds = IsSomeAnd-map told (HoldsBo
 module _ (units image : ℕ) (before log : List Group) (state : Durable) (is : IsFound units image before log state) where
   abbrev base : Durable
   base = base_of units image before
-
-  -- it is of built events, and so is what the run began with
-  made : IsTrue (is_built_log before) × IsTrue (is_built_log log)
-  made = and_parts _ _ (sym (list_all-append is_built_group before log) ∙ is.built)
-
-  built_base : IsBuiltState base
-  built_base = built_log units image before made.0
 
   applied : IsTrue (log_applies (empty_state units image) before) × IsTrue (log_applies base log)
   applied = and_parts _ _ (sym (log_applies-append (empty_state units image) before log) ∙ is.applies)
@@ -242,42 +236,42 @@ module _ (units image : ℕ) (before log : List Group) (state : Durable) (is : I
       let one = sum_by-cons frame_size (own_group (stand base log)) [] in
       record { events = omega (arith, events, own, left, one, most); boots = omega (arith, boots, own, left, one, most) }
 
-  standing : GoodStatesLaw → StandingLaw → image < 2 ^ 16 → units ≤ MOST_UNITS → is_full_for_own units image before log ≡ false → (is_log_grammatical before ≡ true) × (is_log_grammatical log ≡ true) → IsStanding (opened base (left_after units before) log)
-  standing good law number most fits grammatical =
+  standing : GoodStatesLaw → StandingLaw → image < 2 ^ 16 → units ≤ MOST_UNITS → AreRecordedTexts state → is_full_for_own units image before log ≡ false → (is_log_grammatical before ≡ true) × (is_log_grammatical log ≡ true) → IsStanding (opened base (left_after units before) log)
+  standing good law number most texts fits grammatical =
       let units_are = stand-units (empty_state units image) before in
-      law.restarts base (left_after units before) log (good_base good number grammatical.0) built_base (omega (arith, units_are, most)) (roomy most fits) grammatical.1 made.1 applied.1 fits
+      law.restarts base (left_after units before) log (good_base good number grammatical.0) (omega (arith, units_are, most)) (roomy most fits) grammatical.1 applied.1 (subst AreRecordedTexts is.is texts) fits
 
   -- what is so then is that of the world that was opened
   fresh_is : FreshLaw → (left : ℕ) → left ≡ left_after units before - log_size log - frame_size (own_group state) → fresh state left ≡ present (opened base (left_after units before) log)
   fresh_is law left left_is =
       ap (λ (s : Durable). fresh s left) is.is
       ∙ ap (λ n. fresh (stand base log) n) (left_is ∙ ap (λ (s : Durable). left_after units before - log_size log - frame_size (own_group s)) is.is)
-      ∙ sym (law.opens base (left_after units before) log built_base made.1)
+      ∙ sym (law.opens base (left_after units before) log)
 
   -- of the journal that the group of the restart was added to
   module _ (may : events_apply state (own_group state) ≡ true) (j k : JournalState) (units_are : j.units ≡ state.units) (image_is : j.image ≡ state.image) (old new : Option DiskState)
       (at : IsSomeAnd old (JournalAt j (before ++ log))) where
-    pub started : GoodStatesLaw → StandingLaw → FreshLaw → (is_log_grammatical before ≡ true) × (is_log_grammatical log ≡ true) → state.image < 2 ^ 16 → state.units ≤ MOST_UNITS → (kernel : KernelState) (left count doubts : ℕ) → kernel.journal ≡ k → kernel.now ≡ fresh state left → left ≡ k.log.area.len - k.log.end → count ≡ state.events → doubts ≡ 0
+    pub started : GoodStatesLaw → StandingLaw → FreshLaw → (is_log_grammatical before ≡ true) × (is_log_grammatical log ≡ true) → MayStart state → (kernel : KernelState) (left count doubts : ℕ) → kernel.journal ≡ k → kernel.now ≡ fresh state left → left ≡ k.log.area.len - k.log.end → count ≡ state.events → doubts ≡ length (in_doubt state)
         → (s t : DiskStatus) → HasStart state (on j old s) (on k new t) → Started units image before log kernel count doubts new
-    started good law begins grammatical number most kernel left count doubts journal now left_is count_is none s t has = record {
+    started good law begins grammatical start kernel left count doubts journal now left_is count_is doubts_are s t has = record {
       room = sym (is_full j old units_are at) ∙ has.room;
       stands = record {
         now = now ∙ fresh_is begins left (omega (arith, left_is, ap (λ (a : Area). a.len) has.same.area, has.end, left_found j old units_are at));
-        standing = standing good law (subst (λ (n : ℕ). n < 2 ^ 16) is.image_is number) (subst (λ (n : ℕ). n ≤ 1024) is.units_are most) (sym (is_full j old units_are at) ∙ has.room) grammatical;
+        standing = standing good law (subst (λ (n : ℕ). n < 2 ^ 16) is.image_is start.number) (subst (λ (n : ℕ). n ≤ MOST_UNITS) is.units_are start.most) start.texts (sym (is_full j old units_are at) ∙ has.room) grammatical;
         before = before;
-        began = rw (journal, has.same.units ∙ units_are ∙ is.units_are, has.same.image ∙ image_is ∙ is.image_is) (record { built = made.0; applies = applied.0; base = refl; room = refl });
+        began = rw (journal, has.same.units ∙ units_are ∙ is.units_are, has.same.image ∙ image_is ∙ is.image_is) (record { applies = applied.0; base = refl; room = refl });
         disk = subst (λ i. IsSomeAnd new (JournalAt i (before ++ (log ++ own_group (stand base log) ∷ [])))) (sym journal)
             (subst (λ (gs : List Group). IsSomeAnd new (JournalAt k gs)) (append_assoc before log (own_group (stand base log) ∷ []))
             (subst (λ (s : Durable). IsSomeAnd new (JournalAt k ((before ++ log) ++ own_group s ∷ []))) is.is (has.adds (before ++ log) at)));
       };
       events_are = count_is ∙ ap (λ (s : Durable). s.events) is.is;
-      none_in_doubt = none;
+      in_doubt_are = doubts_are ∙ ap (λ (s : Durable). length (in_doubt s)) is.is;
     }
 
     pub cut_off : ((gs : List Group) → IsSomeAnd old (JournalAt j gs) → IsSomeAnd new (LeavesGroupOrNot j gs (own_group state))) → IsSomeAnd new (LeavesOwnOrNot units image before log)
     cut_off left = IsSomeAnd-map new _ (LeavesOwnOrNot units image before log) (left (before ++ log) at) (λ s either bytes may_be. elim (either bytes may_be) [
-      | inl without ↦ inl (record { is = same (before ++ log) bytes without; built = is.built; applies = is.applies })
-      | inr with_it ↦ inr (record { is = same _ bytes (subst (λ (gs : List Group). IsImage j.units j.image gs bytes) both with_it); built = both_built; applies = both_apply })
+      | inl without ↦ inl (record { is = same (before ++ log) bytes without; applies = is.applies })
+      | inr with_it ↦ inr (record { is = same _ bytes (subst (λ (gs : List Group). IsImage j.units j.image gs bytes) both with_it); applies = both_apply })
     ])
       where
         same : (gs : List Group) (bytes : List ℕ) → IsImage j.units j.image gs bytes → IsImage units image gs bytes
@@ -285,12 +279,6 @@ module _ (units image : ℕ) (before log : List Group) (state : Durable) (is : I
 
         both : (before ++ log) ++ own_group state ∷ [] ≡ before ++ (log ++ own_group (stand base log) ∷ [])
         both = append_assoc before log (own_group state ∷ []) ∙ ap (λ (s : Durable). before ++ (log ++ own_group s ∷ [])) is.is
-
-        both_built : IsTrue (is_built_log (before ++ (log ++ own_group (stand base log) ∷ [])))
-        both_built =
-            list_all-append is_built_group before (log ++ own_group (stand base log) ∷ [])
-            ∙ and_from _ _ made.0 (list_all-append is_built_group log (own_group (stand base log) ∷ [])
-            ∙ and_from _ _ made.1 (and_from _ _ (built_own (stand base log)) refl))
 
         both_apply : IsTrue (log_applies (empty_state units image) (before ++ (log ++ own_group (stand base log) ∷ [])))
         both_apply =
@@ -378,25 +366,25 @@ module _ {Z : Type 0} (most : ℕ) (old mid : OnDisk (Vec ℕ Z)) (loaded : Load
       left = n.journal.log.area.len - n.journal.log.end
 
       stands_here : FreshLaw → IsStandingNow (fresh loaded.state left)
-      stands_here begins = fresh_stands loaded.state events begun_at (on n new.told new.status) is.state.most is.state.built is.state.good its begun.lists.holds recorded begins
+      stands_here begins = fresh_stands loaded.state events begun_at (on n new.told new.status) is.state its begun.lists.holds recorded begins
 
       shown_here : FreshLaw → ContentsLaw → present_of n ≡ fresh loaded.state left
-      shown_here begins contents = shown_fresh loaded.state events begun_at (on n new.told new.status) is.state.most is.state.built is.state.good its begun.lists.holds recorded begins contents (begun.shows left)
+      shown_here begins contents = shown_fresh loaded.state events begun_at (on n new.told new.status) is.state its begun.lists.holds recorded begins contents (begun.shows left)
 
       slots_here : FreshLaw → ContentsLaw → owed_slots (present_of n) ≤ n.tm.slots
       slots_here begins contents = subst (λ (x : Present). owed_slots x ≤ n.tm.slots) (sym (shown_here begins contents))
           (subst (λ (t : TmState). owed_slots (fresh loaded.state left) ≤ t.slots) (ap (λ (a : MemoryState). a.tm) (sym (recorded.grows (own_group loaded.state) begun.lists.holds))) (begun.slots left))
 
-      pub restarted : GoodStatesLaw → OwnGroupLaw → GrammarLaw → StandingLaw → FreshLaw → ContentsLaw → r.events ≡ loaded.state.events → r.in_doubt ≡ 0 → IsStarted old new r
-      restarted good owns grammar law begins contents count_is none =
+      pub restarted : GoodStatesLaw → OwnGroupLaw → GrammarLaw → StandingLaw → FreshLaw → ContentsLaw → r.events ≡ loaded.state.events → r.in_doubt ≡ length (in_doubt loaded.state) → IsStarted old new r
+      restarted good owns grammar law begins contents count_is doubts_are =
           let now : r.kernel.now ≡ fresh loaded.state left = ap (λ (k : KernelState). k.now) kernel ∙ shown_here begins contents in
           record {
             starts = λ units image before log holds.
                 let here = found_here units image before log holds in
                 started units image before log loaded.state here (may owns) m.journal n.journal its.units its.image mid.told new.told
                 (subst (λ j. IsSomeAnd mid.told (JournalAt j (before ++ log))) (sym begun.journal) (at_loaded units image before log holds)) good law begins
-                (found_grammatical units image before log loaded.state here grammar old.told is.knows.spelled holds) is.state.number is.state.most
-                r.kernel left r.events r.in_doubt (ap (λ (k : KernelState). k.journal) kernel) now refl count_is none mid.status new.status has;
+                (found_grammatical units image before log loaded.state here grammar old.told is.knows.spelled holds) is.state
+                r.kernel left r.events r.in_doubt (ap (λ (k : KernelState). k.journal) kernel) now refl count_is doubts_are mid.status new.status has;
             ready = record {
               powered = record {
                 power = λ up. recorded.synced.up;
@@ -428,6 +416,15 @@ module _ {Z : Type 0} (most : ℕ) (old mid : OnDisk (Vec ℕ Z)) (loaded : Load
     pub start_calls : (new : OnDisk MemoryState) (fault : AppendFault) → RecordingLeaves events begun_at new (Err fault) → (let r : Result ℕ RestartFault = Err (unrecorded fault) in DeviceCalls 4 mid.status new.status (restart_went_down r))
     start_calls new AppendFault.Down left = left.calls
     start_calls new AppendFault.Full full = absurd (never_full new full)
+
+-- a bound that is no less
+pub least_ok : {A E : Type 0} (r : Result A E) (f : A → ℕ) (n m : ℕ) → n ≤ m → IfOk r (λ a. m ≤ f a) → IfOk r (λ a. n ≤ f a)
+least_ok (Ok a) f n m less is = omega (arith, less, is)
+least_ok (Err e) f n m less is = is
+
+pub least_err : {A E : Type 0} (r : Result A E) (n m k : ℕ) → n ≤ m → OnErr r (m ≤ k) → OnErr r (n ≤ k)
+least_err (Ok a) n m k less is = is
+least_err (Err e) n m k less is = omega (arith, less, is)
 
 -- the disk went down in the load
 pub unloaded : {Z : Type 0} (most : ℕ) (old new : OnDisk (Vec ℕ Z)) → ReadsInto most old new true → IsUnpowered old new

@@ -17,7 +17,7 @@ use Rattle.ktm_world.specs.Outcome.{Outcome, apply, joined, only_reply}
 use Rattle.ktm_world.specs.Present.{Present}
 use Rattle.ktm_world.specs.TransactionCalls.{aborted_if_due, aborted_in_turn, create_enlistment, create_resource_manager, create_transaction, enlist, get_notification, keep_information, recover_resource_manager, set_information, take_first, tick, with_clock}
 use Rattle.ktm_world.specs.Transactions.{transaction_at}
-use Rattle.ktm_built.specs.Courses.{aside}
+use Rattle.ktm_standing.specs.Courses.{aside}
 use Rattle.ktm_memory.specs.Memory.{MemoryState, Shows, present_of}
 use Rattle.ktm_memory.specs.Opening.{files_outcome}
 use Rattle.ktm_memory.specs.Settled.{labels_outcome, left_to_do}

@@ -1,7 +1,6 @@
 -- A machine that is down, whose disk has the power back, and is started again.
-use Rattle.std.proofs.Common.{◌≡◌, ℕ, ◌+◌, ◌-◌, ◌*◌, ◌≤◌, ◌&&◌, ◌||◌, not, Bool, true, false, List, [], ◌∷◌, ◌++◌, filter, is_none, length, Option, None, Some, Result, Ok, Err, refl, sym, ◌∙◌, ap, subst, arith, inl, inr}
-use Rattle.std.proofs.lemmas.Bool.{and_parts, both_ways, not-true}
-use Rattle.std.specs.List.{list_all}
+use Rattle.std.proofs.Common.{◌≡◌, ℕ, ◌+◌, ◌-◌, ◌*◌, ◌≤◌, ◌||◌, Bool, true, false, List, [], ◌∷◌, ◌++◌, length, Option, None, Some, Result, Ok, Err, refl, sym, ◌∙◌, ap, subst, arith, inl, inr}
+use Rattle.std.proofs.lemmas.Bool.{both_ways}
 use Rattle.std.specs.Prelude.{Contains, IfOk, IfSome, IsSomeAnd, OnErr, Vec}
 use Rattle.ktm_base.specs.declared.fault.NoMemory.{NoMemory}
 use Rattle.ktm_base.specs.declared.refusal.Refusal.TheVariants.{MachineDown, LogFull}
@@ -15,13 +14,11 @@ use Rattle.ktm_restart.proofs.offered.OneState.{not_bad}
 use Rattle.ktm_types.specs.declared.command.Line.TheVariants.{Restart}
 use Rattle.ktm_types.specs.declared.reply.Reply.{Reply}
 use Rattle.ktm_types.specs.declared.reply.Reply.TheVariants.{BadImage, Refused, Restarted}
-use Rattle.ktm_world.specs.Durable.{Durable, Recorded, empty_state, is_held, stand}
+use Rattle.ktm_world.specs.Durable.{Durable, empty_state, stand}
 use Rattle.ktm_world.specs.Outcome.{is_full}
 use Rattle.ktm_types.specs.Sizes.{log_size}
 use Rattle.ktm_world.specs.World.{World, present, own_group, opened, in_doubt, possible_logs, interrupted_restart, found_full, is_full_to_open}
-use Rattle.ktm_forms.specs.Built.{is_built_log, is_built_recorded}
-use Rattle.ktm_forms.proofs.BuiltStates.{built_stand}
-use Rattle.ktm_built.specs.Laws.{StandingLaw}
+use Rattle.ktm_standing.specs.Laws.{StandingLaw}
 use Rattle.ktm_world.specs.Logs.{Group, down, is_up}
 use Rattle.ktm_world.specs.Transcript.{Step, interrupted, found, full, RestartDoes, StartDoes}
 use Rattle.ktm_world.proofs.offered.Durables.{stand-units}
@@ -34,7 +31,6 @@ use Rattle.ktm_kernel.specs.declared.restart.RestartFault.TheVariants.{Down, Bad
 use Rattle.ktm_kernel.specs.Stands.{KernelState, HasFallen, StandsBy, KernelAt, LeavesPossible, DoesLine, FoundAt, PowerLaw, FoundLaw}
 use Rattle.ktm_kernel.proofs.Left.{stands_for}
 use Rattle.ktm_kernel.proofs.Possible.{first_is, Contains-map, in_first, in_second}
-use Rattle.ktm_laws.proofs.offered.PossibleLogs.{contains-passes}
 use Rattle.ktm_kernel.proofs.Ready.{off_ready}
 use Rattle.ktm_kernel.proofs.Worlds.{began_on}
 
@@ -66,14 +62,6 @@ power_law law k old new w off at = (
     fallen : HasFallen k old w
     fallen = subst (λ b. StandsBy b k old w) off at
 
--- of transactions that are built none waits for its superior
-none_held : (ts : List Recorded) → list_all is_built_recorded ts ≡ true → filter (λ (t : Recorded). is_held t.stage) ts ≡ []
-none_held [] built = refl
-none_held (t ∷ ts) built =
-    let parts = and_parts (is_built_recorded t) (list_all is_built_recorded ts) built in
-    let free = and_parts (is_none t.superior) (not (is_held t.stage)) (and_parts (is_none t.superior && not (is_held t.stage)) _ parts.0).0 in
-    rw (not-true _ free.1) (none_held ts parts.1)
-
 -- the run's base and room are those that a restart speaks of
 module _ (law : StandingLaw) (k : KernelState) (told now : Option DiskState) (w : World) (pick : ℕ) (at : FoundAt k told w) where
   abbrev base : Durable
@@ -86,10 +74,6 @@ module _ (law : StandingLaw) (k : KernelState) (told now : Option DiskState) (w 
   off_does : (step : Step) (reply : Reply) (new : World) → StartDoes w step reply new → RestartDoes (is_up w.power) w step reply new
   off_does step reply new does = subst (λ b. RestartDoes b w step reply new) (sym at.off) does
 
-  -- nothing that is built is in doubt after a restart
-  none_back : (log : List Group) → Contains (possible_logs w) log → length (in_doubt (stand w.base log)) ≡ 0
-  none_back log possible = ap (λ (ts : List Recorded). length ts) (none_held (stand w.base log).transactions (built_stand w.base log at.standing.built.base (contains-passes is_built_log (possible_logs w) log at.standing.built.logs possible)))
-
   started : (new : KernelState) (events in_doubt : ℕ) (log : List Group) → Contains (possible_logs w) log → Started k.journal.units k.journal.image at.before log new events in_doubt now
       → DoesLine w (Some (Restart pick)) (Restarted events in_doubt) new now
   started new events doubts log possible starts = (
@@ -97,7 +81,7 @@ module _ (law : StandingLaw) (k : KernelState) (told now : Option DiskState) (w 
     opened w.base w.room log,
     off_does (found log) (Restarted events doubts) (opened w.base w.room log) (
       record { possible = possible; room = full_is log false starts.room },
-      ap (λ n. Restarted n doubts) (starts.events_are ∙ ap (λ (s : Durable). (stand s log).events) (sym at.began.base)) ∙ ap (λ n. Restarted (stand w.base log).events n) (starts.none_in_doubt ∙ sym (none_back log possible)),
+      ap (λ n. Restarted n doubts) (starts.events_are ∙ ap (λ (s : Durable). (stand s log).events) (sym at.began.base)) ∙ ap (λ n. Restarted (stand w.base log).events n) (starts.in_doubt_are ∙ ap (λ (s : Durable). length (in_doubt (stand s log))) (sym at.began.base)),
       refl,
     ),
     subst (λ (s : Durable). KernelAt new now (opened s w.room log)) (sym at.began.base) (subst (λ n. KernelAt new now (opened base n log)) (sym at.began.room) starts.stands),

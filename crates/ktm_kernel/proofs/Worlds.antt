@@ -16,7 +16,6 @@ use Rattle.ktm_types.specs.declared.event.Event.{Event}
 use Rattle.ktm_types.specs.declared.reply.Reply.{Reply}
 use Rattle.ktm_types.specs.declared.reply.Reply.TheVariants.{Refused, Done}
 use Rattle.ktm_types.specs.Values.{IsCommand}
-use Rattle.ktm_forms.specs.Built.{is_built_command}
 use Rattle.ktm_world.specs.Decide.{command_tests, decide, refusal_of}
 use Rattle.ktm_world.specs.Logs.{Group, Power, up, down, is_up, as_groups, prefixes_from, possible_by}
 use Rattle.ktm_world.specs.Outcome.{Outcome, apply, first_refusal, is_full}
@@ -25,12 +24,12 @@ use Rattle.ktm_world.specs.TransactionCalls.{tick}
 use Rattle.ktm_world.specs.Transcript.{Step, answered, interrupted, CallDoes, CrashDoes}
 use Rattle.ktm_world.specs.World.{World, present, extend, decide_tick, power_after, crashed, interrupted_by}
 use Rattle.ktm_world.proofs.offered.Worlds.{step_law, refusal_law}
-use Rattle.ktm_built.specs.Laws.{StandingLaw}
-use Rattle.ktm_built.specs.Standing.{IsStanding}
-use Rattle.ktm_built.proofs.offered.Decided.{decided_law, done_tick, full_log}
+use Rattle.ktm_standing.specs.Laws.{StandingLaw}
+use Rattle.ktm_standing.specs.Standing.{IsStanding}
+use Rattle.ktm_standing.proofs.offered.Decided.{decided_law, done_tick, full_log}
 use Rattle.ktm_kernel.specs.Stands.{KernelState, Began, Stands, HasFallen, StandsBy, KernelAt, LeavesPossible, DoesLine}
 use Rattle.ktm_kernel.specs.Done.{IsDone, IsCutOff, Ends, fallen}
-use Rattle.ktm_kernel.proofs.Left.{both_apply, both_built, log_is_possible, left_up}
+use Rattle.ktm_kernel.proofs.Left.{both_apply, log_is_possible, left_up}
 use Rattle.ktm_kernel.proofs.Possible.{log_possible, groups_possible}
 
 -- what is so is that of the world, on or off
@@ -45,7 +44,7 @@ up_by (down may) k told w is fallen on = let off = sym on ∙ ap (λ x. x.machin
 
 -- what a run began with, for a journal of the same image and a world of the same run
 pub began_on : (j k : JournalState) (before : List Group) (w v : World) → k.units ≡ j.units → k.image ≡ j.image → v.base ≡ w.base → v.room ≡ w.room → Began j before w → Began k before v
-began_on j k before w v units image base room began = rw (units, image) (record { built = began.built; applies = began.applies; base = base ∙ began.base; room = room ∙ began.room })
+began_on j k before w v units image base room began = rw (units, image) (record { applies = began.applies; base = base ∙ began.base; room = room ∙ began.room })
 
 -- ---- the passing of time
 
@@ -69,7 +68,7 @@ tick_says x ms false is = let done = sym (done_tick x ms).says ∙ is in absurd 
 pub tick_not_down : (x : Present) (ms : ℕ) → x.machine.is_up ≡ true → (decide_tick x ms).reply ≢ Refused MachineDown
 tick_not_down x ms on is = tick_says x ms (is_full x.machine.left (tick x ms).events) (ap (λ (o : Outcome). o.reply) (sym (decided_law.time x ms on)) ∙ is)
 
--- ---- outcomes of which the laws of what is built hold
+-- ---- outcomes after which worlds stand
 
 -- the world stands after the outcome, and where the power goes in it; and one that stops the machine records nothing
 pub record GoesOn (w : World) (o : Outcome) : Type 0 where
@@ -77,12 +76,12 @@ pub record GoesOn (w : World) (o : Outcome) : Type 0 where
   pub falls : IsStanding (interrupted_by w o)
   pub stops : o.stops ≡ true → o.events ≡ []
 
--- so it is of the outcome of a built command
-pub call_goes_on : StandingLaw → (process : Pid) (command : Command) → IsCommand command → is_built_command command ≡ true → (w : World) → IsStanding w → GoesOn w (decide (present w) process command)
-call_goes_on law process command is built w standing = record {
-  stands = law.commands w process command is built standing;
-  falls = law.interrupted_commands w process command is built standing;
-  stops = decided_law.stops (present w) process command built;
+-- so it is of the outcome of a command
+pub call_goes_on : StandingLaw → (process : Pid) (command : Command) → IsCommand command → (w : World) → IsStanding w → GoesOn w (decide (present w) process command)
+call_goes_on law process command is w standing = record {
+  stands = law.commands w process command is standing;
+  falls = law.interrupted_commands w process command is standing;
+  stops = decided_law.stops (present w) process command;
 }
 
 -- and of that of the passing of time
@@ -132,7 +131,6 @@ module _ (old new : KernelState) (o : Outcome) (reply : Reply) (before now : Opt
       subst (λ b. Contains (possible_by (power_after b w) (extend w o).kept (extend w o).log) w.log) (sym stops) (log_is_possible w on stands.standing.running.kept),
       record {
         is = subst (λ (l : List Group). IsImage new.journal.units new.journal.image l image) same (what_is_left new.journal ((stands.before ++ w.log) ++ groups) s image at left);
-        built = both_built new.journal stands.before w began w.log stands.standing.built.log;
         applies = both_apply new.journal stands.before w began w.log stands.standing.running.applies;
       },
     ));
@@ -155,13 +153,12 @@ module _ (old new : KernelState) (o : Outcome) (reply : Reply) (before now : Opt
   unfolding groups
   left cut = IsSomeAnd-map now _ (LeavesPossible new.journal stands.before (interrupted_by w o)) (cut.log (stands.before ++ w.log) stands.disk)
       (λ s either image may. elim (either image may) [
-        | inl without ↦ (w.log, kept (log_possible w.log groups), same (record { is = without; built = both_built old.journal stands.before w stands.began w.log stands.standing.built.log; applies = both_apply old.journal stands.before w stands.began w.log stands.standing.running.applies }))
+        | inl without ↦ (w.log, kept (log_possible w.log groups), same (record { is = without; applies = both_apply old.journal stands.before w stands.began w.log stands.standing.running.applies }))
         | inr with_it ↦ (
           w.log ++ groups,
           kept (groups_possible w.log o.events),
           same (record {
             is = subst (λ (l : List Group). IsImage old.journal.units old.journal.image l image) (append_assoc stands.before w.log groups) with_it;
-            built = both_built old.journal stands.before w stands.began (w.log ++ groups) keeps.stands.built.log;
             applies = both_apply old.journal stands.before w stands.began (w.log ++ groups) keeps.stands.running.applies;
           }),
         )

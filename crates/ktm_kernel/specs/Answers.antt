@@ -17,6 +17,7 @@ use Rattle.ktm_world.specs.Outcome.{Outcome}
 use Rattle.ktm_world.specs.World.{World}
 use Rattle.ktm_memory.specs.Recorded.{IsUntouched}
 use Rattle.ktm_kernel.specs.Done.{Ends, TouchesNothing}
+use Rattle.ktm_kernel.specs.Reserved.{KeepsReserved}
 use Rattle.ktm_kernel.specs.Stands.{DoesLine, FoundAt, IsPowered, IsReady, KernelAt, KernelState}
 
 -- ---- while the machine is up
@@ -45,6 +46,8 @@ pub record IsLineAnswered (line : Line) (o : Outcome) (old new : OnDisk KernelSt
   pub ready : IsReady new.it new.told new.status
   pub calls : DeviceCalls 4 old.status new.status new.status.is_down
   pub untouched : TouchesNothing o reply → IsUntouched old new
+  -- while the machine is up, what undecided transactions did to the files stays reserved for them
+  pub reserved : old.it.now.machine.is_up ≡ true → KeepsReserved line old.it.now new.it.now
 
 -- what a call leaves; where memory is wanting the disk is as it was
 abbrev pub CallLeaves : Pid → Command → OnDisk KernelState → OnDisk KernelState → Result Reply NoMemory → Type 0

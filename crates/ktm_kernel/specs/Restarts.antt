@@ -1,5 +1,5 @@
 -- What a restart makes of a disk that holds groups, and what it leaves.
-use Rattle.std.specs.Prelude.{◌≡◌, ◌⊎◌, ℕ, ◌-◌, Bool, true, false, List, [], ◌∷◌, ◌++◌, Option, Some, None, Result, Ok, Err, Vec, vec_capacity, IfSome, IsSomeAnd, ◌+◌, ◌≤◌}
+use Rattle.std.specs.Prelude.{◌≡◌, ◌⊎◌, ℕ, ◌-◌, Bool, true, false, List, [], ◌∷◌, ◌++◌, Option, Some, None, Result, Ok, Err, Vec, length, vec_capacity, IfSome, IsSomeAnd, ◌+◌, ◌≤◌}
 use Rattle.ktm_base.specs.Disk.{DiskState, MayLeave, IsSafe}
 use Rattle.ktm_restart.specs.Logs.{HoldsLog, StandsFor}
 use Rattle.ktm_journal.specs.Image.{left_after}
@@ -14,7 +14,7 @@ use Rattle.ktm_types.specs.declared.reply.Reply.{Reply}
 use Rattle.ktm_types.specs.declared.reply.Reply.TheVariants.{BadImage, Refused}
 use Rattle.ktm_base.specs.declared.refusal.Refusal.TheVariants.{LogFull, MachineDown}
 use Rattle.ktm_log.specs.declared.fault.AppendFault.{AppendFault}
-use Rattle.ktm_world.specs.World.{own_group, opened}
+use Rattle.ktm_world.specs.World.{in_doubt as all_in_doubt, own_group, opened}
 use Rattle.ktm_kernel.specs.declared.restart.RestartFault.{RestartFault}
 use Rattle.ktm_kernel.specs.declared.restart.RestartFault.TheVariants.{Down, Bad, Full, NoMemory}
 use Rattle.ktm_kernel.specs.declared.restart.Restarted.{Restarted}
@@ -32,12 +32,12 @@ base_of units image before = stand (empty_state units image) before
 abbrev pub is_full_for_own : ℕ → ℕ → List Group → List Group → Bool
 is_full_for_own units image before log = is_full (left_after units before - log_size log) (own_group (stand (base_of units image before) log))
 
--- the machine stands for the world that was opened from the log, and how many events were found is told
+-- the machine stands for the world that was opened from the log, and it is told how many events were found and how many transactions are in doubt
 pub record Started (units image : ℕ) (before log : List Group) (kernel : KernelState) (events in_doubt : ℕ) (told : Option DiskState) : Type 0 where
   pub room : is_full_for_own units image before log ≡ false
   pub stands : KernelAt kernel told (opened (base_of units image before) (left_after units before) log)
   pub events_are : events ≡ (stand (base_of units image before) log).events
-  pub none_in_doubt : in_doubt ≡ 0
+  pub in_doubt_are : in_doubt ≡ length (all_in_doubt (stand (base_of units image before) log))
 
 -- each image that a loss of power may leave holds the groups that were there, with that of the restart or without
 abbrev pub LeavesOwnOrNot : ℕ → ℕ → List Group → List Group → DiskState → Type 0

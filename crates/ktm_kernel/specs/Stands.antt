@@ -10,9 +10,8 @@ use Rattle.ktm_types.specs.declared.reply.Reply.{Reply}
 use Rattle.ktm_world.specs.Present.{Present}
 use Rattle.ktm_world.specs.Durable.{empty_state, stand, log_applies}
 use Rattle.ktm_world.specs.World.{World, present, possible_logs, interrupted_restart}
-use Rattle.ktm_forms.specs.Built.{is_built_log}
 use Rattle.ktm_world.specs.Logs.{Group, is_up}
-use Rattle.ktm_built.specs.Standing.{IsStanding, IsStandingNow}
+use Rattle.ktm_standing.specs.Standing.{IsStanding, IsStandingNow}
 use Rattle.ktm_slots.specs.Owed.{owed_slots}
 use Rattle.ktm_world.specs.Transcript.{Does, Step}
 use Rattle.ktm_memory.specs.Memory.{MemoryState, present_of}
@@ -29,7 +28,6 @@ machine_of m = record { now = present_of m; journal = m.journal; slots = m.tm.sl
 
 -- the world's run began with an image of this journal that held these groups
 pub record Began (j : JournalState) (before : List Group) (w : World) : Type 0 where
-  pub built : IsTrue (is_built_log before)
   pub applies : IsTrue (log_applies (empty_state j.units j.image) before)
   pub base : w.base ≡ stand (empty_state j.units j.image) before
   pub room : w.room ≡ left_after j.units before

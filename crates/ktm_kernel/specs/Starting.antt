@@ -5,7 +5,7 @@ use Rattle.ktm_journal.specs.Append.{has_no_room}
 use Rattle.ktm_restart.specs.declared.replay.Loaded.{Loaded}
 use Rattle.ktm_slots.specs.Owed.{owed_slots}
 use Rattle.ktm_world.specs.World.{own_group}
-use Rattle.ktm_built.specs.Standing.{fresh}
+use Rattle.ktm_standing.specs.Standing.{fresh}
 use Rattle.ktm_memory.specs.Memory.{MemoryState, Shows}
 use Rattle.ktm_kernel.specs.declared.restart.RestartFault.{RestartFault}
 use Rattle.ktm_kernel.specs.declared.restart.RestartFault.TheVariants.{Down, Bad, Full, NoMemory}

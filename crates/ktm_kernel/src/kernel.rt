@@ -4,24 +4,24 @@ ghost use Rattle.ktm_base.specs.Disk.{DiskState};
 ghost use Rattle.ktm_base.specs.declared.refusal.Refusal.TheVariants.{MachineDown};
 ghost use Rattle.ktm_types.specs.declared.command.Line.TheVariants.{Crash, Tick};
 ghost use Rattle.ktm_types.specs.declared.reply.Reply.TheVariants.{Refused, Done};
-ghost use Rattle.ktm_forms.specs.Built.{is_built_command};
 ghost use Rattle.ktm_types.specs.Values.{IsCommand};
 ghost use Rattle.ktm_world.specs.World.{World, decide_tick};
 ghost use Rattle.ktm_kernel.specs.Answers.{AnswerLeaves, CallLeaves, IsLineAnswered};
 ghost use Rattle.ktm_kernel.specs.Done.{fallen};
 ghost use Rattle.ktm_log.specs.OnDisk.{on};
-ghost use Rattle.ktm_route.specs.Route.{IsBuiltAsked, decided};
+ghost use Rattle.ktm_route.specs.Route.{CanBeAsked, decided};
 ghost use Rattle.ktm_kernel.specs.Stands.{KernelAt, DoesLine, IsReady};
 ghost use Rattle.ktm_route.specs.Takes.{asked_takes_memory, takes_memory};
 
 use ktm_base::{Disk, NoMemory, Pid, Refusal};
-use ktm_built::law_of_standing;
 use ktm_event::Events;
 use ktm_journal::AppendFault;
+use ktm_laws::law_of_reserved_files;
 use ktm_memory::{Decision, Memory};
 use ktm_route::{Asked, decide};
 use ktm_slots::law_of_slots;
-use ktm_trace::{law_of_contents, law_of_kept};
+use ktm_standing::{law_of_kept, law_of_standing};
+use ktm_trace::law_of_contents;
 use ktm_types::{Command, Reply};
 use std::alloc::Global;
 use std::marker::Model;
@@ -64,9 +64,9 @@ impl Kernel {
         self.memory.fall();
     }
 
-    /// Answers a call of a process. After MACHINE_DOWN and ERROR_LOG_FULL the machine is down. A call that is refused, but
-    /// for MACHINE_DOWN, and one that records nothing make no device call. Where memory is wanting the machine is not used
-    /// again; its disk holds what it held before the call.
+    /// Answers a call of a process, with any command of the grammar. After MACHINE_DOWN and ERROR_LOG_FULL the machine is down.
+    /// A call that is refused, but for MACHINE_DOWN, and one that records nothing make no device call. Where memory is wanting
+    /// the machine is not used again; its disk holds what it held before the call.
     pub fn call<D: Disk>(
         &mut self,
         disk: &mut D,
@@ -75,11 +75,12 @@ impl Kernel {
     ) -> Result<Reply, NoMemory>
         requires ready { IsReady self.old (D.told disk.old) (D.status disk.old) }
         requires command { IsCommand command }
-        requires built { is_built_command command ≡ true }
         ensures leaves { CallLeaves process command (on self.old (D.told disk.old) (D.status disk.old)) (on self.new (D.told disk.new) (D.status disk.new)) result }
         ensures enough { takes_memory self.old.now process command ≡ false → IsOk result }
     {
         law_of_standing();
+        law_of_kept();
+        law_of_reserved_files();
         if !self.is_up() {
             return Ok(Reply::Refused(Refusal::MachineDown));
         }
@@ -94,6 +95,8 @@ impl Kernel {
         ensures { IsLineAnswered (Tick ms) (decide_tick self.old.now ms) (on self.old (D.told disk.old) (D.status disk.old)) (on self.new (D.told disk.new) (D.status disk.new)) result }
     {
         law_of_standing();
+        law_of_kept();
+        law_of_reserved_files();
         if !self.is_up() {
             return Reply::Refused(Refusal::MachineDown);
         }
@@ -107,14 +110,14 @@ impl Kernel {
     fn answer<D: Disk>(&mut self, disk: &mut D, asked: Asked) -> Result<Reply, NoMemory>
         requires up { self.old.now.machine.is_up ≡ true }
         requires ready { IsReady self.old (D.told disk.old) (D.status disk.old) }
-        requires built { IsBuiltAsked asked }
+        requires asked { CanBeAsked asked }
         ensures leaves { AnswerLeaves (decided self.old.now asked) (on self.old (D.told disk.old) (D.status disk.old)) (on self.new (D.told disk.new) (D.status disk.new)) result }
         ensures enough { asked_takes_memory self.old.now asked ≡ false → IsOk result }
     {
         law_of_standing();
         law_of_slots();
         law_of_contents();
-        law_of_kept();
+        ktm_trace::law_of_kept();
         self.events.clear();
         let decided = decide(&mut self.memory, self.alloc, asked, &mut self.events)?;
         let Some(Decision { reply, settlement }) = decided else {

@@ -1,7 +1,7 @@
 // Laws of when a machine stands for a world.
 ghost use Rattle.ktm_kernel.specs.Stands.{LeftLaw, PowerLaw, FoundLaw};
 
-use ktm_built::law_of_standing;
+use ktm_standing::law_of_standing;
 
 /// Of a disk on which a machine stands for a world, each image that a loss of power may leave stands for the state of a
 /// possible log.

@@ -3,15 +3,14 @@ ghost use Rattle.std.specs.Prelude.{◌≡◌, ◌+◌, ◌-◌, ◌*◌, ◌^�
 ghost use Rattle.ktm_base.specs.declared.limits.TheConstants.{MOST_UNITS};
 ghost use Rattle.ktm_event.specs.Kept.{Holds};
 ghost use Rattle.ktm_base.specs.Disk.{DeviceCalls};
-ghost use Rattle.ktm_built.specs.Standing.{fresh};
-ghost use Rattle.ktm_forms.specs.Built.{IsBuiltState};
+ghost use Rattle.ktm_standing.specs.Standing.{fresh};
 ghost use Rattle.ktm_journal.specs.Append.{has_no_room};
 ghost use Rattle.ktm_journal.specs.Image.{IsFormatted, IsHeaded};
 ghost use Rattle.ktm_types.specs.Sizes.{area_len, frame_size};
 ghost use Rattle.ktm_slots.specs.Owed.{owed_slots};
 ghost use Rattle.ktm_states.specs.GoodState.{IsGoodState};
 ghost use Rattle.ktm_world.specs.Logs.{Group};
-ghost use Rattle.ktm_world.specs.World.{World, own_group};
+ghost use Rattle.ktm_world.specs.World.{World, in_doubt as all_in_doubt, own_group};
 ghost use Rattle.ktm_memory.specs.Memory.{IsRoomy, Shows};
 ghost use Rattle.ktm_restart.specs.Loads.{IsJournalOf, MayStart};
 ghost use Rattle.ktm_kernel.specs.Starting.{Begun, IsNotRecorded, IsRecorded, NothingBegins};
@@ -22,15 +21,15 @@ ghost use Rattle.ktm_log.specs.OnDisk.{on};
 ghost use Rattle.ktm_kernel.specs.Stands.{FoundAt, machine_of};
 
 use crate::kernel::Kernel;
-use ktm_back::{law_of_coming_back, start};
+use ktm_back::{Restored, count_in_doubt, law_of_coming_back, law_of_in_doubt, restore, start};
 use ktm_base::{Disk, NoMemory, Refusal};
-use ktm_built::{law_of_fresh, law_of_standing};
 use ktm_event::Events;
 use ktm_journal::{AppendFault, Journal, LoadFault};
 use ktm_memory::Memory;
 use ktm_records::law_of_spelling;
 use ktm_restart::{Durable, DurableParts, Loaded, load};
 use ktm_slots::law_of_slots;
+use ktm_standing::{law_of_fresh, law_of_standing};
 use ktm_states::{law_of_good_states, law_of_grammar, law_of_own_groups};
 use ktm_trace::{Trace, law_of_contents};
 use ktm_types::Reply;
@@ -55,7 +54,7 @@ pub struct Restarted {
     pub kernel: Kernel,
     /// How many events were found, before those that this start recorded.
     pub events: u64,
-    /// How many transactions are in doubt. None is, since none has a superior so far.
+    /// How many transactions are in doubt: each waits for its superior, and holds what it changed and set.
     pub in_doubt: u32,
 }
 
@@ -84,11 +83,20 @@ fn list_start(
     Some(events)
 }
 
-// What a machine holds that starts from this state, before that is recorded.
+// How many transactions are in doubt.
+fn in_doubt(state: &Durable) -> u32
+    requires { IsGoodState state.now }
+    ensures { result ≡ length (all_in_doubt state.now) }
+{
+    count_in_doubt(state.transactions()) as u32
+}
+
+// What a machine holds that starts from this state, before that is recorded: what was recorded, with what the transactions in
+// doubt changed and set.
 fn begin(alloc: Global, journal: Journal, state: Durable) -> Result<Memory, NoMemory>
-    requires built { IsBuiltState state }
     requires good { IsGoodState state }
-    requires boots { state.boots + 1 < 2 ^ 32 }
+    requires most { state.units ≤ MOST_UNITS }
+    requires boots { state.boots + 2 < 2 ^ 32 }
     requires events { state.events + length (own_group state) < 2 ^ 63 }
     ensures journal { IfOk result (λ memory. memory.journal ≡ journal) }
     ensures shows { IfOk result (λ memory. (left : ℕ) → Shows memory (fresh state left)) }
@@ -96,17 +104,47 @@ fn begin(alloc: Global, journal: Journal, state: Durable) -> Result<Memory, NoMe
 {
     law_of_coming_back();
     law_of_slots();
+    law_of_in_doubt();
+    law_of_own_groups();
+    law_of_good_states();
     let mut state = state;
-    let tm = start(
+    let tm = match start(
         alloc,
         state.boots() + 1,
         state.managers(),
         state.transactions(),
-    )?;
+    ) {
+        Ok(tm) => tm,
+        Err(NoMemory) => {
+            drop(state);
+            return Err(NoMemory);
+        }
+    };
     state.begin();
-    let trace = Trace::of(alloc, state.transactions())?;
-    let DurableParts { files, keys, .. } = state.into_parts();
-    Ok(Memory::start(alloc, journal, tm, trace, files, keys))
+    let trace = match Trace::of(alloc, state.transactions()) {
+        Ok(trace) => trace,
+        Err(NoMemory) => {
+            drop(tm);
+            drop(state);
+            return Err(NoMemory);
+        }
+    };
+    let DurableParts {
+        files,
+        keys,
+        transactions,
+        ..
+    } = state.into_parts();
+    match restore(alloc, files, keys, transactions) {
+        Ok(Restored { files, keys }) => {
+            Ok(Memory::start(alloc, journal, tm, trace, files, keys))
+        }
+        Err(NoMemory) => {
+            drop(tm);
+            drop(trace);
+            Err(NoMemory)
+        }
+    }
 }
 
 /// Why a machine did not start.
@@ -156,6 +194,32 @@ struct Starting {
     events: Events,
 }
 
+// What starts from what was loaded, with the list of what it records. The list's buffer is kept where nothing can start.
+fn begin_with(
+    alloc: Global,
+    loaded: Loaded,
+    events: Events,
+    buffer: &mut Vec<u8>,
+) -> Result<Starting, RestartFault>
+    requires may { MayStart loaded.state }
+    requires journal { IsJournalOf loaded.state loaded.journal }
+    requires lists { ListsStart loaded.state loaded.journal.units events }
+    requires room { has_no_room loaded.journal (own_group loaded.state) ≡ false }
+    ensures begun { IfOk result (λ starting. Begun loaded starting.events starting.memory) }
+    ensures capacity { IfOk result (λ starting. events.capacity ≤ starting.events.capacity) }
+    ensures err { OnErr result (events.capacity ≤ vec_capacity buffer.new) }
+    ensures fault { IfErr result (NothingBegins loaded) }
+{
+    let Loaded { journal, state } = loaded;
+    match begin(alloc, journal, state) {
+        Ok(memory) => Ok(Starting { memory, events }),
+        Err(NoMemory) => {
+            *buffer = events.into_buffer();
+            Err(RestartFault::NoMemory)
+        }
+    }
+}
+
 // What starts from what was loaded, whose log was read into the buffer. The buffer is kept where nothing can start.
 fn prepare(alloc: Global, loaded: Loaded, buffer: &mut Vec<u8>) -> Result<Starting, RestartFault>
     requires may { MayStart loaded.state }
@@ -166,15 +230,11 @@ fn prepare(alloc: Global, loaded: Loaded, buffer: &mut Vec<u8>) -> Result<Starti
     ensures err { OnErr result (vec_capacity buffer.old ≤ vec_capacity buffer.new) }
     ensures fault { IfErr result (NothingBegins loaded) }
 {
-    let Loaded { journal, state } = loaded;
-    let Some(events) = list_start(alloc, &journal, &state, buffer) else {
-        return Err(RestartFault::Full);
-    };
-    match begin(alloc, journal, state) {
-        Ok(memory) => Ok(Starting { memory, events }),
-        Err(NoMemory) => {
-            *buffer = events.into_buffer();
-            Err(RestartFault::NoMemory)
+    match list_start(alloc, &loaded.journal, &loaded.state, buffer) {
+        Some(events) => begin_with(alloc, loaded, events, buffer),
+        None => {
+            drop(loaded);
+            Err(RestartFault::Full)
         }
     }
 }
@@ -246,6 +306,7 @@ impl Kernel {
             Err(LoadFault::NoMemory) => return Err(RestartFault::NoMemory),
         };
         let found = loaded.state.events();
+        let in_doubt = in_doubt(&loaded.state);
         let starting = match prepare(alloc, loaded, buffer) {
             Ok(starting) => starting,
             Err(fault) => return Err(fault),
@@ -254,7 +315,7 @@ impl Kernel {
             Ok(kernel) => Ok(Restarted {
                 kernel,
                 events: found,
-                in_doubt: 0,
+                in_doubt,
             }),
             Err(fault) => Err(fault),
         }

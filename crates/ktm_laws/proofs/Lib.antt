@@ -1,7 +1,9 @@
 mod LastVersions
+mod LeftFiles
 mod Notes
 mod OneOutcome
 mod Replies
+mod ReservedFiles
 mod Running
 mod Sayings
 mod SoundWorlds

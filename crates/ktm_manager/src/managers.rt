@@ -1,5 +1,5 @@
 // The resource managers, with a queue for each.
-ghost use Rattle.std.specs.Prelude.{◌≡◌, ◌+◌, ◌≤◌, ◌++◌, ◌∷◌, [], IsOk, MatchOption, OnOk, Some, None, is_some, length, map, option_map, true};
+ghost use Rattle.std.specs.Prelude.{◌≡◌, ◌+◌, ◌≤◌, ◌++◌, ◌∷◌, [], IsOk, MatchOption, OnErr, OnOk, Some, None, is_some, length, map, max, option_map, true};
 ghost use Rattle.std.specs.List.{list_all};
 ghost use Rattle.ktm_world.specs.Durable.{is_before};
 ghost use Rattle.ktm_world.specs.Enlistments.{is_durable_at, manager_at};
@@ -124,9 +124,9 @@ impl Managers {
 
     /// Makes room for so many notifications more.
     pub fn reserve_notes(&mut self, n: usize) -> Result<(), NoMemory>
-        ensures spare { OnOk result (n ≤ self.new.spare) }
+        ensures ok { OnOk result (self.new.spare ≡ max n self.old.spare) }
+        ensures err { OnErr result (self.new.spare ≡ self.old.spare) }
         ensures enough { n ≤ self.old.spare → IsOk result }
-        ensures grows { self.old.spare ≤ self.new.spare }
         ensures managers { self.new.managers ≡ self.old.managers }
         ensures room { self.new.room ≡ self.old.room }
     {

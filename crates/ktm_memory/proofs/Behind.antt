@@ -8,9 +8,9 @@ use Rattle.ktm_types.specs.declared.reply.Reply.TheVariants.{Done}
 use Rattle.ktm_world.specs.Durable.{after_event, empty_state}
 use Rattle.ktm_world.specs.Outcome.{Outcome, apply, and_then, only_reply}
 use Rattle.ktm_world.specs.Present.{Present}
-use Rattle.ktm_built.specs.Courses.{aside}
-use Rattle.ktm_built.specs.Effects.{IsLater}
-use Rattle.ktm_built.proofs.offered.Applied.{apply-reply, apply-then}
+use Rattle.ktm_standing.specs.Courses.{aside}
+use Rattle.ktm_standing.specs.Effects.{IsLater}
+use Rattle.ktm_standing.proofs.offered.Applied.{apply-reply, apply-then}
 use Rattle.ktm_memory.specs.Memory.{MemoryState, Settles, SettlesGood, Shows, TellsWithin, present_of}
 
 -- ---- what memory shows

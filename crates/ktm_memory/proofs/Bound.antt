@@ -12,11 +12,11 @@ use Rattle.ktm_world.specs.Outcome.{apply}
 use Rattle.ktm_world.specs.Present.{Present}
 use Rattle.ktm_world.specs.TransactionCalls.{opened_object}
 use Rattle.ktm_courses.specs.SoundCourse.{IsSoundCourse}
-use Rattle.ktm_built.specs.Effects.{with_files, with_group}
-use Rattle.ktm_built.proofs.offered.Applied.{apply-kept}
-use Rattle.ktm_built.proofs.offered.Decided.{done_close, done_exit}
-use Rattle.ktm_built.proofs.offered.Effects.{effects_law}
-use Rattle.ktm_built.proofs.offered.Handles.{bare_course, close_records, exit_records}
+use Rattle.ktm_standing.specs.Effects.{with_files, with_group}
+use Rattle.ktm_standing.proofs.offered.Applied.{apply-kept}
+use Rattle.ktm_standing.proofs.offered.Decided.{done_close, done_exit}
+use Rattle.ktm_standing.proofs.offered.Effects.{effects_law}
+use Rattle.ktm_standing.proofs.offered.Handles.{bare_course, close_records, exit_records}
 use Rattle.ktm_memory.specs.Opening.{files_outcome}
 use Rattle.ktm_memory.specs.Decided.{IsDone}
 use Rattle.ktm_memory.specs.Settled.{handles_then, labels_outcome}

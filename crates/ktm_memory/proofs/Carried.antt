@@ -5,8 +5,8 @@ use Rattle.std.proofs.Common.{◌≡◌, ◌||◌, ◌++◌, Bool, true, false, 
 use Rattle.std.proofs.lemmas.Bool.{cases_Bool}
 use Rattle.std.specs.List.{list_any}
 use Rattle.ktm_base.specs.declared.id.Id.{Id}
-use Rattle.ktm_built.specs.Courses.{LeadsOn, LogsNext, aside, with_course, with_outcome}
-use Rattle.ktm_built.proofs.offered.Courses.{led_on, released-by}
+use Rattle.ktm_standing.specs.Courses.{LeadsOn, LogsNext, aside, with_course, with_outcome}
+use Rattle.ktm_standing.proofs.offered.Courses.{led_on, released-by}
 use Rattle.ktm_course.specs.Moved.{is_commit, records_files}
 use Rattle.ktm_courses.proofs.offered.Moves.{NoBoots, NoBoots-append, NoBoots-none, NoBoots-one, is_boot}
 use Rattle.ktm_courses.proofs.offered.OutcomesMade.{events-kept}

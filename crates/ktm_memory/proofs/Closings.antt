@@ -20,10 +20,10 @@ use Rattle.ktm_world.specs.Transactions.{is_active, is_undecided, transaction_at
 use Rattle.ktm_world.specs.TransactionCalls.{aborted_by, course_of}
 use Rattle.ktm_steps.proofs.offered.Ways.{if_cases}
 use Rattle.ktm_trace.specs.Contents.{KeptLaw}
-use Rattle.ktm_built.specs.Courses.{aside}
-use Rattle.ktm_built.specs.Effects.{IsLater}
-use Rattle.ktm_built.proofs.offered.Applied.{later-joined, later-reply}
-use Rattle.ktm_built.proofs.offered.Handles.{apply-unbinding, later-close, later-gone, unbinding}
+use Rattle.ktm_standing.specs.Courses.{aside}
+use Rattle.ktm_standing.specs.Effects.{IsLater}
+use Rattle.ktm_standing.proofs.offered.Applied.{later-joined, later-reply}
+use Rattle.ktm_standing.proofs.offered.Handles.{apply-unbinding, later-close, later-gone, unbinding}
 use Rattle.ktm_memory.specs.Memory.{MemoryState, Settles, Shows, TellsWithin}
 use Rattle.ktm_memory.proofs.Behind.{ComesBehind, LooksAside, settles-behind, settles-reply, settles-same, told-rest}
 

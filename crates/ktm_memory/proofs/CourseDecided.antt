@@ -4,10 +4,10 @@ use Rattle.arrayvec.specs.ArrayVec.{ArrayVec}
 use Rattle.std.specs.List.{list_any}
 use Rattle.ktm_base.specs.declared.id.Id.{Id}
 use Rattle.ktm_base.specs.declared.refusal.Refusal.{Refusal}
-use Rattle.ktm_built.proofs.offered.Courses.{arrived-apply, arrived-reply}
-use Rattle.ktm_built.proofs.offered.Rows.{row_leads}
-use Rattle.ktm_built.specs.Courses.{LeadsOn}
-use Rattle.ktm_built.specs.Files.{MayCommitNow}
+use Rattle.ktm_standing.proofs.offered.Courses.{arrived-apply, arrived-reply}
+use Rattle.ktm_standing.proofs.offered.Rows.{row_leads}
+use Rattle.ktm_standing.specs.Courses.{LeadsOn}
+use Rattle.ktm_standing.specs.Files.{MayCommitNow}
 use Rattle.ktm_course.specs.Moved.{is_commit}
 use Rattle.ktm_event.specs.Kept.{EventsState, Holds}
 use Rattle.ktm_event.specs.Spelling.{IsSpellableEvent}

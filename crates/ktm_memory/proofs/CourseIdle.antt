@@ -4,7 +4,7 @@ use Rattle.std.proofs.lemmas.Bool.{or_parts, true≢false}
 use Rattle.std.proofs.lemmas.Bool.Decides.{nat_tests}
 use Rattle.std.specs.List.{list_any}
 use Rattle.ktm_base.specs.declared.id.Id.{Id}
-use Rattle.ktm_built.specs.Effects.{changes_of, settings_of}
+use Rattle.ktm_standing.specs.Effects.{changes_of, settings_of}
 use Rattle.ktm_course.specs.Moved.{is_commit}
 use Rattle.ktm_steps.proofs.offered.Ways.{if_cases}
 use Rattle.ktm_trace.specs.Recordings.{steps_room}

@@ -17,9 +17,9 @@ use Rattle.ktm_world.specs.Outcome.{Outcome, is_full, only_reply}
 use Rattle.ktm_world.specs.Present.{Present}
 use Rattle.ktm_world.specs.TransactionCalls.{create_transaction, get_transaction_information, information_of, tick}
 use Rattle.ktm_world.specs.Uses.{key_room}
-use Rattle.ktm_built.specs.Standing.{IsStandingNow}
-use Rattle.ktm_built.proofs.offered.Applied.{apply-reply}
-use Rattle.ktm_built.proofs.offered.Decided.{done_tick}
+use Rattle.ktm_standing.specs.Standing.{IsStandingNow}
+use Rattle.ktm_standing.proofs.offered.Applied.{apply-reply}
+use Rattle.ktm_standing.proofs.offered.Decided.{done_tick}
 use Rattle.ktm_memory.specs.declared.settlement.Labels.{Labels}
 use Rattle.ktm_memory.specs.declared.settlement.Settlement.TheVariants.{Nothing, Begin, Handles, Pass}
 use Rattle.ktm_memory.proofs.offered.Decided.{decided, quiet_decided}

@@ -23,8 +23,8 @@ use Rattle.ktm_world.specs.Outcome.{apply, first_refusal, is_full, only_reply}
 use Rattle.ktm_world.specs.Keys.{changes_pending as keys_unset}
 use Rattle.ktm_world.specs.Present.{Present}
 use Rattle.ktm_world.specs.Uses.{file_room}
-use Rattle.ktm_built.specs.Files.{MayMake, MayMakePlain}
-use Rattle.ktm_built.proofs.offered.Applied.{apply-reply}
+use Rattle.ktm_standing.specs.Files.{MayMake, MayMakePlain}
+use Rattle.ktm_standing.proofs.offered.Applied.{apply-reply}
 use Rattle.ktm_memory.specs.declared.settlement.Settlement.TheVariants.{Change as PlainChange}
 use Rattle.ktm_memory.specs.Decided.{CanAnswer, Decides, bind_opened}
 use Rattle.ktm_memory.specs.Memory.{CanMakePlain, Held, MayBind, MaySettle, MemoryState, held, now_of, present_of}
@@ -32,7 +32,7 @@ use Rattle.ktm_memory.specs.Routed.{IsActiveCaller, IsFreeLabel, IsReadyCall}
 use Rattle.ktm_memory.proofs.Unlogged.{unlogged}
 use Rattle.ktm_world.specs.Durable.{Recorded}
 use Rattle.ktm_world.specs.Transactions.{same_id}
-use Rattle.ktm_built.specs.Standing.{IsStandingNow}
+use Rattle.ktm_standing.specs.Standing.{IsStandingNow}
 use Rattle.txf_laws.proofs.offered.OwnChange.{with-other}
 use Rattle.ktm_memory.specs.Opening.{files_outcome}
 use Rattle.ktm_memory.specs.Takes.{is_quiet}

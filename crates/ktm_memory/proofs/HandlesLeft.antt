@@ -15,7 +15,7 @@ use Rattle.ktm_world.specs.Present.{Present}
 use Rattle.ktm_world.specs.Transactions.{is_active, transaction_at}
 use Rattle.ktm_world.specs.TransactionCalls.{aborted_by}
 use Rattle.txf_volume.specs.Held.{FilesHeld, files_of}
-use Rattle.ktm_built.proofs.offered.Applied.{apply-kept}
+use Rattle.ktm_standing.proofs.offered.Applied.{apply-kept}
 use Rattle.ktm_memory.specs.Memory.{MemoryState, Settles, Shows}
 
 -- ---- an active transaction

@@ -8,7 +8,7 @@ use Rattle.ktm_world.specs.KeyCalls.{KeyOutcome, KeyRoom, kv_get, kv_get_tests, 
 use Rattle.ktm_world.specs.Keys.{KeysNow, Own, own_settings}
 use Rattle.ktm_world.specs.Outcome.{first_refusal}
 use Rattle.ktm_world.specs.Transactions.{same_id}
-use Rattle.ktm_built.specs.Standing.{IsStandingNow}
+use Rattle.ktm_standing.specs.Standing.{IsStandingNow}
 use Rattle.kv_rm.specs.Calls.{key_outcome, unless_refused}
 use Rattle.kv_rm.specs.declared.call.KvCall.{KvCall}
 use Rattle.kv_rm.specs.declared.call.KvCall.TheVariants.{Set, Unset, Get}

@@ -5,9 +5,9 @@ use Rattle.std.proofs.lemmas.Bool.{false≢true}
 use Rattle.ktm_base.specs.declared.id.Id.{Id}
 use Rattle.ktm_base.specs.declared.id.Label.{Label}
 use Rattle.ktm_base.specs.declared.id.Pid.{Pid}
-use Rattle.ktm_built.specs.Effects.{IsSilent, plain_changes}
-use Rattle.ktm_built.proofs.offered.Applied.{apply-kept, opens_all, served-none}
-use Rattle.ktm_built.proofs.offered.Effects.{effects_law}
+use Rattle.ktm_standing.specs.Effects.{IsSilent, plain_changes}
+use Rattle.ktm_standing.proofs.offered.Applied.{apply-kept, opens_all, served-none}
+use Rattle.ktm_standing.proofs.offered.Effects.{effects_law}
 use Rattle.ktm_object.specs.Table.{HandleTable}
 use Rattle.ktm_tm.specs.TmState.{TmState, id_after, next_id, with_enlisted, with_new}
 use Rattle.ktm_trace.specs.Traces.{traces_of}

@@ -6,7 +6,7 @@ use Rattle.std.specs.Option.{option_map}
 use Rattle.ktm_base.specs.declared.id.Id.{Id}
 use Rattle.ktm_base.specs.declared.id.Label.{Label}
 use Rattle.ktm_base.specs.declared.id.Pid.{Pid}
-use Rattle.ktm_forms.proofs.Ids.{same_id-equal}
+use Rattle.txf_laws.proofs.offered.Tables.{same_id-equal}
 use Rattle.ktm_object.specs.Table.{HandleTable}
 use Rattle.ktm_tm.specs.Recovery.{recover_notes as notes_in}
 use Rattle.ktm_tm.specs.TmState.{TmState}
@@ -24,7 +24,7 @@ use Rattle.ktm_world.specs.Outcome.{Outcome, apply, only_reply, served}
 use Rattle.ktm_world.specs.Present.{Present, Transactions}
 use Rattle.ktm_world.specs.TransactionCalls.{get_notification, note_reply, opened_object, recover_notes, recover_resource_manager, set_information, take_first, recover_all, keep_information}
 use Rattle.txf_laws.proofs.offered.Elements.{find-in}
-use Rattle.ktm_built.proofs.offered.Applied.{apply-kept, opens_all, served-none}
+use Rattle.ktm_standing.proofs.offered.Applied.{apply-kept, opens_all, served-none}
 use Rattle.ktm_memory.specs.Memory.{MemoryState, Settles, Shows, TellsWithin, present_of}
 use Rattle.ktm_memory.proofs.Behind.{settles-same, shows-held}
 

@@ -20,14 +20,13 @@ use Rattle.ktm_world.specs.TransactionCalls.{aborted_by, aborted_if_due, aborted
 use Rattle.ktm_steps.proofs.offered.Staying.{stays-led}
 use Rattle.ktm_steps.proofs.offered.Ways.{if_cases}
 use Rattle.ktm_records.proofs.offered.AgreementOfRollbacks.{rollback-undone}
-use Rattle.ktm_forms.proofs.Ids.{same_id-self}
-use Rattle.txf_laws.proofs.offered.Tables.{same_id-sym}
-use Rattle.ktm_built.specs.Courses.{aside}
-use Rattle.ktm_built.specs.Effects.{rolled_back}
-use Rattle.ktm_built.proofs.offered.Applied.{apply-reply}
-use Rattle.ktm_built.proofs.offered.Courses.{arrived-transactions}
-use Rattle.ktm_built.proofs.offered.Distinct.{AreFound, Rise, rise-changed, rise-first, rise-found, rise-rest}
-use Rattle.ktm_built.proofs.offered.Timeouts.{found-behind_rollback, later-in_turn, later-rollback}
+use Rattle.txf_laws.proofs.offered.Tables.{same_id-from, same_id-sym}
+use Rattle.ktm_standing.specs.Courses.{aside}
+use Rattle.ktm_standing.specs.Effects.{rolled_back}
+use Rattle.ktm_standing.proofs.offered.Applied.{apply-reply}
+use Rattle.ktm_standing.proofs.offered.Courses.{arrived-transactions}
+use Rattle.ktm_standing.proofs.offered.Distinct.{AreFound, Rise, rise-changed, rise-first, rise-found, rise-rest}
+use Rattle.ktm_standing.proofs.offered.Timeouts.{found-behind_rollback, later-in_turn, later-rollback}
 use Rattle.ktm_memory.specs.Memory.{MemoryState, Settles, Shows, TellsWithin}
 use Rattle.ktm_memory.proofs.Behind.{ComesBehind, LooksAside, settles-reply, settles-same}
 
@@ -87,7 +86,7 @@ live_first : (u : Transaction) (us : List Transaction) → ((k : ℕ) (t : Trans
     → list_any (λ v. same_id v.id u.id) us ≡ false → is_live u ≡ true → (i : ℕ) (t : Transaction) → slice_get (u ∷ filter is_live us) i ≡ Some t → IsLiveAt (u ∷ us) i t
 live_first u us rest none live zero t at =
     let is : u ≡ t = cc in
-    let same = same_id-self u.id in
+    let same = same_id-from u.id u.id refl in
     subst (λ (x : Transaction). IsLiveAt (u ∷ us) 0 x) is (record {
       found = rw same refl;
       here = rw live refl;

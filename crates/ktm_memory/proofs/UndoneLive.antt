@@ -15,8 +15,8 @@ use Rattle.ktm_world.specs.Transactions.{is_live}
 use Rattle.ktm_world.specs.Present.{Present}
 use Rattle.ktm_world.specs.TransactionCalls.{is_due, later, may_roll_back, tick}
 use Rattle.ktm_courses.specs.SoundCourse.{IsSoundCourse, is_counted}
-use Rattle.ktm_built.specs.Effects.{undo_of}
-use Rattle.ktm_built.proofs.offered.Undone.{tick_records}
+use Rattle.ktm_standing.specs.Effects.{undo_of}
+use Rattle.ktm_standing.proofs.offered.Undone.{tick_records}
 
 may_live : (t : Transaction) → may_roll_back t ≡ true → is_live t ≡ true
 may_live t = go t.phase

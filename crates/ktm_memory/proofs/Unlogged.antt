@@ -18,9 +18,9 @@ use Rattle.ktm_world.specs.Labels.{holds_of}
 use Rattle.ktm_world.specs.Present.{Present}
 use Rattle.ktm_world.specs.Transactions.{is_active, same_id, transaction_at}
 use Rattle.ktm_records.specs.Kept.{IsKept}
-use Rattle.ktm_built.specs.Standing.{IsStandingNow}
-use Rattle.ktm_built.proofs.offered.Distinct.{AreFound, rise-found}
-use Rattle.ktm_built.proofs.offered.Handles.{bare_course, is_bare}
+use Rattle.ktm_standing.specs.Standing.{IsStandingNow}
+use Rattle.ktm_standing.proofs.offered.Distinct.{AreFound, rise-found}
+use Rattle.ktm_standing.proofs.offered.Handles.{bare_course, is_bare}
 use Rattle.ktm_memory.proofs.offered.Standing.{kept}
 use Rattle.ktm_memory.specs.Memory.{Held, now_of}
 use Rattle.txf_laws.proofs.offered.Tables.{same_id-equal}

@@ -4,7 +4,7 @@ use Rattle.ktm_base.specs.declared.limits.TheConstants.{MOST_UNITS, MOST_LIVE}
 use Rattle.ktm_base.specs.declared.id.Label.{Label}
 use Rattle.ktm_base.specs.declared.id.Pid.{Pid}
 use Rattle.ktm_base.specs.declared.id.Id.{Id}
-use Rattle.ktm_built.specs.Courses.{LeadsOn}
+use Rattle.ktm_standing.specs.Courses.{LeadsOn}
 use Rattle.ktm_course.specs.Moved.{is_commit}
 use Rattle.ktm_types.specs.declared.step.Step.{Step}
 use Rattle.std.specs.List.{list_any}

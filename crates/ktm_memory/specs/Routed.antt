@@ -5,7 +5,7 @@ use Rattle.ktm_base.specs.declared.id.Id.{Id}
 use Rattle.ktm_base.specs.declared.id.Label.{Label}
 use Rattle.ktm_base.specs.declared.id.Pid.{Pid}
 use Rattle.ktm_base.specs.declared.refusal.Refusal.TheVariants.{WaitTimeout}
-use Rattle.ktm_built.specs.Files.{MayCommitNow, MayMake}
+use Rattle.ktm_standing.specs.Files.{MayCommitNow, MayMake}
 use Rattle.ktm_course.specs.Moved.{is_commit}
 use Rattle.ktm_event.specs.Spelling.{IsSpellableEvent}
 use Rattle.ktm_types.specs.declared.input.PhaseInput.{PhaseInput}

@@ -1,7 +1,7 @@
 -- Which calls may take memory, once their labels are known: where it is wanting, they alone may give up.
 use Rattle.std.specs.Prelude.{◌&&◌, ◌||◌, not, Bool, true, false, [], ◌∷◌, Option, Some, None, is_none}
 use Rattle.ktm_base.specs.declared.id.Id.{Id}
-use Rattle.ktm_built.specs.Effects.{changes_of, settings_of}
+use Rattle.ktm_standing.specs.Effects.{changes_of, settings_of}
 use Rattle.ktm_types.specs.declared.input.PhaseInput.{PhaseInput}
 use Rattle.ktm_types.specs.declared.object.Transaction.{Transaction}
 use Rattle.ktm_world.specs.Changes.{has_changes}

@@ -1,7 +1,7 @@
 // A transaction that goes on by steps.
 ghost use Rattle.std.specs.Prelude.{◌≡◌, true, false, None, Some, Option};
 ghost use Rattle.std.specs.List.{list_any};
-ghost use Rattle.ktm_built.specs.Courses.{LogsNext};
+ghost use Rattle.ktm_standing.specs.Courses.{LogsNext};
 ghost use Rattle.ktm_course.specs.Moved.{is_commit};
 ghost use Rattle.ktm_memory.specs.Memory.{CanCommit, CanGoOn, IsReleased, Settles, SettlesWhere, Shows, TellsWithin, course_then, is_known};
 ghost use Rattle.ktm_tm.specs.Courses.{caller_of};

@@ -1,6 +1,6 @@
 // Deciding what a call comes to whose labels are known, and the passing of time.
 ghost use Rattle.std.specs.Prelude.{◌≡◌, ◌+◌, ◌≤◌, ◌∷◌, true, false, None, Some, [], IfOk, IsOk, OnErr, OnOk, is_none, is_some};
-ghost use Rattle.ktm_built.specs.Standing.{IsStandingNow};
+ghost use Rattle.ktm_standing.specs.Standing.{IsStandingNow};
 ghost use Rattle.ktm_event.specs.Kept.{EventsState, Holds};
 ghost use Rattle.ktm_memory.specs.Decided.{Decides, DecidesIf, IsDone};
 ghost use Rattle.ktm_memory.specs.Settled.{labels_outcome};

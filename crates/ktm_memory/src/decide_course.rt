@@ -1,8 +1,8 @@
 // Deciding how a transaction goes on by what comes to it.
 ghost use Rattle.std.specs.Prelude.{◌≡◌, ◌-◌, ◌≤◌, not, true, false, None, [], All, IfOk, IsOk, OnErr, OnOk, length};
 ghost use Rattle.std.specs.List.{list_all, list_any};
-ghost use Rattle.ktm_built.specs.Courses.{commits_at_once};
-ghost use Rattle.ktm_built.specs.Standing.{IsStandingNow};
+ghost use Rattle.ktm_standing.specs.Courses.{commits_at_once};
+ghost use Rattle.ktm_standing.specs.Standing.{IsStandingNow};
 ghost use Rattle.ktm_course.specs.Moved.{is_commit};
 ghost use Rattle.ktm_course.specs.Recorded.{IsBasis, IsCaller, IsEnlisted, IsSuperior};
 ghost use Rattle.ktm_event.specs.Kept.{Holds};

@@ -1,7 +1,7 @@
 // Deciding the calls on files, and the room that files and keys have.
 ghost use Rattle.std.specs.Prelude.{◌≡◌, ◌-◌, ◌≤◌, true, false, None, Some, [], IfOk, IsOk, OnErr, OnOk, is_some};
-ghost use Rattle.ktm_built.specs.Files.{MayMake};
-ghost use Rattle.ktm_built.specs.Standing.{IsStandingNow};
+ghost use Rattle.ktm_standing.specs.Files.{MayMake};
+ghost use Rattle.ktm_standing.specs.Standing.{IsStandingNow};
 ghost use Rattle.ktm_event.specs.Kept.{EventsState, Holds};
 ghost use Rattle.ktm_memory.specs.Decided.{CanAnswer, Decides, DecidesIf, bind_opened};
 ghost use Rattle.ktm_memory.specs.Memory.{IsRoomy, held, present_of};
@@ -19,8 +19,8 @@ use crate::commit::record_plan;
 use crate::memory::Memory;
 use crate::settlement::{Decision, Labels, Settlement};
 use ktm_base::{Id, Label, NoMemory, Pid};
-use ktm_built::law_of_files;
 use ktm_event::Events;
+use ktm_standing::law_of_files;
 use ktm_types::{Object, Reply};
 use kv_rm::Room as KeyRoom;
 use std::alloc::Global;

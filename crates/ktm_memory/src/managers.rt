@@ -3,7 +3,7 @@ ghost use Rattle.std.specs.Prelude.{◌≡◌, ◌+◌, ◌≤◌, ◌-◌, not,
 ghost use Rattle.ktm_base.specs.declared.id.ObjectKind.{ObjectKind};
 ghost use Rattle.ktm_base.specs.Guid.{guid_of};
 ghost use Rattle.ktm_types.specs.declared.reply.Reply.TheVariants.{Notification};
-ghost use Rattle.ktm_built.specs.Standing.{IsStandingNow};
+ghost use Rattle.ktm_standing.specs.Standing.{IsStandingNow};
 ghost use Rattle.ktm_event.specs.Kept.{EventsState, Holds};
 ghost use Rattle.ktm_memory.specs.Decided.{Decides, DecidesIf};
 ghost use Rattle.ktm_memory.specs.Memory.{IsRoomy, held, present_of};

@@ -1,19 +1,14 @@
 // What the machine holds in memory: its layers, of which its journal is one.
 ghost use Rattle.std.specs.Prelude.{◌≡◌, true, false, []};
-ghost use Rattle.ktm_world.specs.Tree.{IsWellFormed};
-ghost use Rattle.txf_tree.specs.TreeState.{tree_of, versions_of};
-ghost use Rattle.txf_volume.specs.Held.{files_begun, files_of, tree_units};
 
-use ktm_base::Bytes;
 use ktm_journal::Journal;
-use ktm_keyed::KeyedList;
 use ktm_object::Handles;
 use ktm_tm::Tm;
 use ktm_trace::Trace;
 use kv_rm::KvRm;
 use std::alloc::Global;
 use std::marker::Model;
-use txf_durable::FilesRead;
+use txf_calls::Volume;
 use txf_volume::Files;
 
 /// The layers of the machine, and whether it is up.
@@ -41,36 +36,35 @@ impl Model for Memory {
 
 impl Memory {
     /// What a machine that starts holds: its journal, what was brought back of transactions and resource managers, what the log
-    /// has of transactions, and the committed files and keys.
+    /// has of transactions, and the files and the keys, with what transactions in doubt changed and set. The next node is the one
+    /// that is recorded.
     pub fn start(
         alloc: Global,
         journal: Journal,
         tm: Tm,
         trace: Trace,
-        committed: FilesRead,
-        store: KeyedList<Bytes>,
+        files: Files,
+        keys: KvRm,
     ) -> Self
-        requires formed { IsWellFormed (tree_of committed.tree) }
-        requires rest { versions_of committed.tree ≡ [] }
-        requires units { committed.units ≡ tree_units (tree_of committed.tree) }
         ensures up { result.is_up ≡ true }
         ensures journal { result.journal ≡ journal }
         ensures tm { result.tm ≡ tm }
         ensures trace { result.trace ≡ trace }
-        ensures files { files_of result.files ≡ files_begun (tree_of committed.tree) committed.next_node }
-        ensures next_node { result.next_node ≡ committed.next_node }
-        ensures keys { result.keys.keys ≡ record { store = store.items; own = [] } }
+        ensures files { result.files ≡ files }
+        ensures keys { result.keys ≡ keys }
+        ensures next_node { result.next_node ≡ files.next_node }
         ensures handles { result.handles.handles ≡ [] }
     {
+        let next_node = files.next_node();
         Memory {
             is_up: true,
             journal,
             handles: Handles::new(alloc),
             tm,
             trace,
-            files: Files::with_tree(alloc, committed.tree, committed.units, committed.next_node),
-            next_node: committed.next_node,
-            keys: KvRm::with_store(alloc, store),
+            files,
+            next_node,
+            keys,
         }
     }
 

@@ -1,7 +1,7 @@
 // What the passing of time records: the transactions whose timeouts are reached, and of which the log has something, roll back.
 ghost use Rattle.std.specs.Prelude.{◌≡◌, ◌+◌, ◌-◌, ◌^◌, ◌≤◌, ◌++◌, ◌∷◌, ◌&&◌, List, [], All, filter, min, sum_by};
 ghost use Rattle.std.specs.List.{flat_map};
-ghost use Rattle.ktm_built.specs.Effects.{undo_of};
+ghost use Rattle.ktm_standing.specs.Effects.{undo_of};
 ghost use Rattle.ktm_event.specs.Kept.{Holds};
 ghost use Rattle.ktm_event.specs.Spelling.{IsSpellableEvent};
 ghost use Rattle.ktm_types.specs.Sizes.{event_size};

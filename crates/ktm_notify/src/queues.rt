@@ -1,5 +1,5 @@
 // The queues of all resource managers, in one table of slots.
-ghost use Rattle.std.specs.Prelude.{◌≡◌, ◌+◌, ◌-◌, ◌*◌, ◌^◌, ◌<◌, ◌≤◌, ◌++◌, ◌∷◌, [], IfNone, OnSome, IsOk, None, OnOk, false, is_some, length, min, true};
+ghost use Rattle.std.specs.Prelude.{◌≡◌, ◌+◌, ◌-◌, ◌*◌, ◌^◌, ◌<◌, ◌≤◌, ◌++◌, ◌∷◌, [], IfNone, OnSome, IsOk, None, OnErr, OnOk, false, is_some, length, max, min, true};
 ghost use Rattle.ktm_notify.specs.Linked.{linked_behind};
 ghost use Rattle.ktm_notify.specs.Queues.{first_note, queue_at, with_note, without_first, KeepsSlots};
 
@@ -135,14 +135,14 @@ impl Queues {
         self.promised
     }
 
-    /// Makes room for so many notifications more, of which that for those before counts.
+    /// Makes room for so many notifications more, of which that for those before counts: no more is promised than is asked for.
     pub fn reserve_notes(&mut self, n: usize) -> Result<(), NoMemory>
-        ensures room { OnOk result (n ≤ self.new.spare) }
+        ensures ok { OnOk result (self.new.spare ≡ max n self.old.spare) }
+        ensures err { OnErr result (self.new.spare ≡ self.old.spare) }
         ensures enough { n ≤ self.old.spare → IsOk result }
         ensures queues { self.new.queues ≡ self.old.queues }
         ensures waiting { self.new.waiting ≡ self.old.waiting }
         ensures sent { self.new.sent ≡ self.old.sent }
-        ensures spare { self.old.spare ≤ self.new.spare }
         ensures room_for_queues { self.new.room ≡ self.old.room }
     {
         if n > self.promised {

@@ -1,12 +1,10 @@
 -- Payloads that are read as groups, one after another.
-use Rattle.std.proofs.Common.{◌≡◌, ℕ, ◌+◌, ◌≤◌, ◌&&◌, IsTrue, None, Some, List, [], ◌∷◌, ◌++◌, length, drop, refl, sym, ◌∙◌, ap, subst, arith, append_assoc, length-drop}
+use Rattle.std.proofs.Common.{◌≡◌, ℕ, ◌+◌, ◌≤◌, IsTrue, None, Some, List, [], ◌∷◌, ◌++◌, length, drop, refl, sym, ◌∙◌, ap, subst, arith, append_assoc, length-drop}
 use Rattle.std.proofs.lemmas.List.{append-nil, drop-drop}
-use Rattle.std.proofs.lemmas.Bool.{and_from, and_parts}
-use Rattle.std.proofs.lemmas.List.Folds.{list_all-append}
+use Rattle.std.proofs.lemmas.Bool.{and_from}
 use Rattle.ktm_log.specs.Log.{end_of, first_payload, payloads_in}
 use Rattle.ktm_log.proofs.Frames.{end_of-push}
 use Rattle.ktm_log.proofs.Payloads.{payloads_first, payloads_none}
-use Rattle.ktm_forms.specs.Built.{is_built_group}
 use Rattle.ktm_world.specs.Logs.{Group}
 use Rattle.ktm_world.specs.Durable.{Durable, empty_state, after_events, events_apply}
 use Rattle.ktm_types.specs.EventGrammar.{IsGroupOf}
@@ -17,7 +15,7 @@ use Rattle.ktm_restart.specs.Payloads.{ComesTo, IsFirstBad}
 use Rattle.ktm_journal.proofs.offered.Images.{groups-push}
 
 comes_to_empty : (units image : ℕ) (state : Durable) → state ≡ empty_state units image → ComesTo units image [] state
-comes_to_empty units image state is = record { log = []; groups = tt; built = refl; applies = refl; is = is }
+comes_to_empty units image state is = record { log = []; groups = tt; applies = refl; is = is }
 
 -- so far the payloads come to this state, and the others are those of the bytes from here on
 pub record Folded (units image : ℕ) (bytes : List ℕ) (at : ℕ) (state : Durable) : Type 0 where
@@ -39,11 +37,10 @@ module _ (units image : ℕ) (bytes : List ℕ) (at : ℕ) (state : Durable) (fo
         ∙ ap (λ (l : List ℕ). folded.before ++ payload ∷ payloads_in l) (drop-drop (length payload + 5) at bytes)
 
     pub folded_more : (new : Durable) → length payload + 6 ≤ length (drop at bytes)
-        → ((events : Group) × IsGroupOf events payload × IsTrue (is_built_group events && events_apply state events) × (new ≡ after_events state events)) → Folded units image bytes (at + (length payload + 5)) new
-    folded_more new fits (events, group, apply, after) =
+        → ((events : Group) × IsGroupOf events payload × IsTrue (events_apply state events) × (new ≡ after_events state events)) → Folded units image bytes (at + (length payload + 5)) new
+    folded_more new fits (events, group, applied, after) =
         let base = empty_state units image in
         let good = folded.good in
-        let (made, applied) = and_parts (is_built_group events) (events_apply state events) apply in
         record {
           inside = omega (arith, folded.inside, length-drop at bytes);
           before = folded.before ++ payload ∷ [];
@@ -51,7 +48,6 @@ module _ (units image : ℕ) (bytes : List ℕ) (at : ℕ) (state : Durable) (fo
           good = record {
             log = good.log ++ events ∷ [];
             groups = groups-push good.log folded.before events payload good.groups group;
-            built = list_all-append is_built_group good.log (events ∷ []) ∙ and_from _ _ good.built (and_from _ _ made refl);
             applies = log_applies-append base good.log (events ∷ []) ∙ and_from _ _ good.applies (and_from _ _ (ap (λ (s : Durable). events_apply s events) (sym good.is) ∙ applied) refl);
             is = after ∙ ap (λ (s : Durable). after_events s events) good.is ∙ sym (stand-append base good.log (events ∷ []));
           };

@@ -1,5 +1,5 @@
--- The log that payloads hold comes to a good state.
-use Rattle.std.proofs.Common.{◌≡◌, ℕ, suc, get_or, ◌≤◌, ◌<◌, ◌^◌, true, List, [], ◌∷◌, refl, sym, subst}
+-- The log that payloads hold comes to a good state, whose keys are texts.
+use Rattle.std.proofs.Common.{◌≡◌, ℕ, suc, get_or, ◌≤◌, ◌<◌, ◌^◌, true, List, [], ◌∷◌, refl, sym, subst, arith}
 use Rattle.std.proofs.lemmas.Bool.{and_from}
 use Rattle.std.specs.List.{list_all}
 use Rattle.ktm_base.specs.declared.limits.TheConstants.{LEAST_UNITS}
@@ -8,7 +8,8 @@ use Rattle.ktm_states.specs.GoodState.{IsGoodState}
 use Rattle.ktm_states.specs.GoodStates.{GoodStatesLaw}
 use Rattle.ktm_states.specs.Grammatical.{GrammarLaw, is_grammatical}
 use Rattle.ktm_log.specs.Log.{payloads_in}
-use Rattle.ktm_world.specs.Durable.{Durable, empty_state}
+use Rattle.ktm_records.specs.Spelling.{AreRecordedTexts, SpellingLaw}
+use Rattle.ktm_world.specs.Durable.{Durable, after_events, empty_state, stand}
 use Rattle.ktm_world.specs.Logs.{Group}
 use Rattle.ktm_restart.specs.Logs.{AreSpelled}
 use Rattle.ktm_restart.specs.Payloads.{ComesTo}
@@ -31,3 +32,15 @@ pub comes_to_good : GrammarLaw → GoodStatesLaw → (units image : ℕ) (bytes 
 comes_to_good grammar good units image bytes state least number are_bytes comes =
     let spelled = groups_spelled comes.log (payloads_in bytes) comes.groups (payload_bytes bytes are_bytes) in
     subst IsGoodState (sym comes.is) (good.3 (empty_state units image) comes.log (good.0 units image least number) (spelled_grammatical grammar comes.log spelled) comes.applies)
+
+-- groups that bytes spell leave recorded texts texts
+texts_stay : SpellingLaw → (s : Durable) (log : List Group) → AreSpelled log → AreRecordedTexts s → AreRecordedTexts (stand s log)
+texts_stay law s [] spelled texts = texts
+texts_stay law s (group ∷ log) spelled texts =
+    let (bytes, are_bytes, is) = spelled.0 in
+    texts_stay law (after_events s group) log spelled.1 (law.groups s group bytes texts is)
+
+pub comes_to_texts : SpellingLaw → (units image : ℕ) (bytes : List ℕ) (state : Durable) → AreBytes bytes → ComesTo units image (payloads_in bytes) state → AreRecordedTexts state
+comes_to_texts law units image bytes state are_bytes comes =
+    let spelled = groups_spelled comes.log (payloads_in bytes) comes.groups (payload_bytes bytes are_bytes) in
+    subst AreRecordedTexts (sym comes.is) (texts_stay law (empty_state units image) comes.log spelled (λ i t inside. absurd (omega arith)))

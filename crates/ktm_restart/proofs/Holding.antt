@@ -1,36 +1,38 @@
--- Where nothing else waits, nothing is held that an event could meet; and the limits as they are tested.
-use Rattle.std.proofs.Common.{◌≡◌, ℕ, ◌+◌, ◌^◌, ◌==◌, ◌&&◌, not, Bool, true, false, List, [], ◌∷◌, Option, Some, None, length, filter, sum_by, nat_le, nat_lt, count_by, is_none, is_some, refl, sym, ◌∙◌, ap, subst, arith, inl, inr}
+-- What changes and settings are tested against, what an event that is taken has been tested for, and the limits.
+use Rattle.std.proofs.Common.{◌≡◌, ℕ, ◌+◌, ◌^◌, ◌==◌, ◌&&◌, ◌||◌, not, Bool, true, false, List, [], ◌∷◌, Option, Some, None, length, filter, sum_by, nat_le, nat_lt, count_by, is_none, is_some, refl, sym, ◌∙◌, ap, subst, arith, inl, inr}
 use Rattle.std.specs.Prelude.{Result, Ok, Err, IfOk}
 use Rattle.std.specs.List.{list_all, list_any}
 use Rattle.std.proofs.Math.Bool.{and-false, and-true}
-use Rattle.std.proofs.lemmas.Bool.{and_left, and_right, and_from, and_parts, cases_Bool, not_from_false, not-true, true≢false}
+use Rattle.std.proofs.lemmas.Bool.{and_left, and_right, and_from, and_parts, cases_Bool, false_from_ne_true, not_from_false, true≢false}
 use Rattle.std.proofs.lemmas.List.Sums.{sum_by-cons}
 use Rattle.ktm_base.specs.declared.limits.TheConstants.{MOST_LIVE}
 use Rattle.ktm_base.specs.declared.id.Id.{Id}
 use Rattle.ktm_types.specs.declared.change.Change.{Change}
 use Rattle.ktm_types.specs.declared.event.Event.{Event}
-use Rattle.ktm_types.specs.declared.event.Event.TheVariants.{Ready, Single}
+use Rattle.ktm_types.specs.declared.event.Event.TheVariants.{Single}
 use Rattle.ktm_types.specs.declared.event.Part.{Part}
 use Rattle.ktm_types.specs.declared.event.Part.TheVariants.{Changes, Settings}
 use Rattle.ktm_world.specs.Changes.{changes_apply, changes_bytes, has_made, is_make, node_of, nodes_made}
-use Rattle.ktm_world.specs.Durable.{Durable, Recorded, acts_of_all, are_recorded_changes, changes_of, enlistments_of, event_applies, fact_applies, fact_of, has_changes_part, has_settings_part, holds_in, is_decided, is_new_in, is_within_limits, others_waiting, part_applies, recorded_at, recorded_changes_apply, recorded_or_new, settings_apply, settings_of, units_waiting, with_committed}
+use Rattle.ktm_world.specs.Durable.{Durable, Recorded, acts_of_all, are_recorded_changes, changes_of, enlistments_of, event_applies, fact_applies, fact_of, has_changes_part, has_settings_part, holds_in, is_decided, is_new_in, is_within_limits, others_waiting, recorded_at, recorded_changes_apply, recorded_or_new, settings_apply, settings_of, units_waiting, with_committed}
 use Rattle.ktm_world.specs.Holds.{Act, holds_by, meets, opens, deletes, moves_file, makes, drops_directory, moves_directory}
 use Rattle.ktm_world.specs.Keys.{OwnSettings, are_good_settings}
-use Rattle.ktm_keyed.specs.declared.keyed.Keyed.{Keyed}
-use Rattle.ktm_keyed.specs.Keyed.{value_at}
+use Rattle.ktm_world.specs.Lawful.{set_both}
 use Rattle.ktm_world.specs.Transactions.{same_id}
 use Rattle.ktm_world.specs.Tree.{Tree}
+use Rattle.txf_durable.specs.Waiting.{is_met}
 use Rattle.txf_laws.specs.Elements.{IsIn}
-use Rattle.txf_laws.proofs.offered.Elements.{IsIn-filter, list_all-from}
-use Rattle.txf_laws.proofs.offered.Tables.{same_id-from}
+use Rattle.txf_laws.proofs.offered.Diamonds.{no_test}
+use Rattle.txf_laws.proofs.offered.Elements.{IsIn-filter, list_all-from, list_any-at, list_any-from}
+use Rattle.txf_reserve.specs.ReserveState.{ReserveState}
 use Rattle.ktm_restart.specs.declared.amounts.Amounts.{Amounts}
 use Rattle.ktm_restart.specs.Replayed.{Takes}
-use Rattle.ktm_restart.specs.Waiting.{committed, fits_in, has_work, limits, may_come, minus, none_waits_but, total, while_waiting}
+use Rattle.ktm_restart.specs.Waiting.{AreHeld, committed, fits_in, limits, minus, others_change, others_set, total, waits_beside, while_waiting}
+use Rattle.ktm_states.proofs.offered.WaitingChanges.{no_changes-left, no_changes_part, recorded_changes_apply-all, recorded_changes_apply-new}
 use Rattle.ktm_restart.proofs.Fitting.{fits-plus}
-use Rattle.ktm_restart.proofs.Keeping.{no-work, none-other-waits, none-waits}
+use Rattle.ktm_restart.proofs.Others.{free-is}
 use Rattle.ktm_restart.proofs.TableSteps.{or-new, or_new}
 
--- ---- nothing is held
+-- ---- changes that no transaction refuses
 
 meets-none : (tree : Tree) (act : Act) → meets (holds_by tree [] []) act ≡ false
 unfolding meets
@@ -54,34 +56,95 @@ spares s t cs none =
     (and_from _ _ (not_from_false _ (any-none (meets (holds_by s.tree [] [])) (acts_of_all s.tree cs) (meets-none s.tree)))
     (not_from_false _ (any-none (λ (change : Change). is_make change && has_made [] (node_of change)) cs (λ change. and-false (is_make change)))))
 
--- no other one waits with work
-abbrev NoneElse : Durable → Option Id → Type 0
-NoneElse s who = (t : Recorded) → IsIn t (others_waiting s who) → has_work t ≡ false
+-- one of the others that wait is one of those that wait beside this one
+is-beside : (s : Durable) (who : Option Id) (t : Recorded) → IsIn t (others_waiting s who) → IsIn t s.transactions × (waits_beside who t ≡ true)
+is-beside s None t there = let in_ts = IsIn-filter (λ (u : Recorded). not (is_decided u.stage)) s.transactions t there in (in_ts.0, and_from _ true in_ts.1 refl)
+is-beside s (Some id) t there = IsIn-filter (λ (u : Recorded). not (is_decided u.stage) && not (same_id u.id id)) s.transactions t there
 
-none-else : (s : Durable) (id : Id) → none_waits_but (Some id) s.transactions ≡ true → NoneElse s (Some id)
-none-else s id none t there =
-    let in_ts = IsIn-filter (λ (u : Recorded). not (is_decided u.stage) && not (same_id u.id id)) s.transactions t there in
-    none-other-waits s.transactions id none t in_ts.0 (λ e. true≢false (sym (same_id-from t.id id e) ∙ not-true _ (and_parts (not (is_decided t.stage)) (not (same_id t.id id)) in_ts.1).1))
+not-right : (a b : Bool) → (a && b) ≡ false → a ≡ true → b ≡ false
+not-right true b none is = none
+not-right false b none is = absurd (true≢false (sym is))
 
-pub none-at-all : (s : Durable) (who : Option Id) → none_waits_but None s.transactions ≡ true → NoneElse s who
-none-at-all s None none t there = none-waits s.transactions none t (IsIn-filter (λ (u : Recorded). not (is_decided u.stage)) s.transactions t there).0
-none-at-all s (Some id) none t there = none-waits s.transactions none t (IsIn-filter (λ (u : Recorded). not (is_decided u.stage) && not (same_id u.id id)) s.transactions t there).0
-
-pub changes-alone : (s : Durable) (who : Option Id) (cs : List Change) → NoneElse s who → recorded_changes_apply s who cs ≡ (changes_apply s.tree cs && list_all (is_new_in s.tree) cs)
+-- where no other one waits with changes, none refuses any
+pub changes-alone : (s : Durable) (who : Option Id) (cs : List Change) → others_change who s.transactions ≡ false → recorded_changes_apply s who cs ≡ (changes_apply s.tree cs && list_all (is_new_in s.tree) cs)
 changes-alone s who cs none =
     ap (λ b. b && changes_apply s.tree cs && list_all (is_new_in s.tree) cs)
     (list_all-from (λ (t : Recorded). not (list_any (meets (holds_in s t)) (acts_of_all s.tree cs)) && not (list_any (λ change. is_make change && has_made (changes_of t) (node_of change)) cs)) (others_waiting s who)
-    (λ t there. spares s t cs (no-work t (none t there)).0))
+    (λ t there.
+    let beside = is-beside s who t there in
+    spares s t cs (no_changes_part t (not-right (waits_beside who t) (has_changes_part t) (no_test (λ (u : Recorded). waits_beside who u && has_changes_part u) t s.transactions none beside.0) beside.1))))
 
--- do settings give the key of this one a value
-abbrev gives_key : OwnSettings → Keyed (Option (List ℕ)) → Bool
-gives_key ds setting = is_some (value_at ds setting.key)
+-- with one left out, none waits with changes either
+pub others-less : (id : Id) (ts : List Recorded) → others_change None ts ≡ false → others_change (Some id) ts ≡ false
+others-less id ts none = false_from_ne_true _ (λ some.
+    let found = list_any-at (λ (t : Recorded). waits_beside (Some id) t && has_changes_part t) ts some in
+    let parts = and_parts (waits_beside (Some id) found.0) (has_changes_part found.0) found.2 in
+    let waits = (and_parts (not (is_decided (found.0).stage)) _ parts.0).0 in
+    true≢false (sym (list_any-from (λ (t : Recorded). waits_beside None t && has_changes_part t) ts found.0 found.1 (and_from _ _ (and_from _ true waits refl) parts.1)) ∙ none))
 
-settings-alone : (s : Durable) (who : Option Id) (ss : OwnSettings) → NoneElse s who → settings_apply s who ss ≡ true
-settings-alone s who ss none =
-    list_all-from (λ (t : Recorded). not (list_any (gives_key (settings_of t)) ss)) (others_waiting s who)
-    (λ t there. subst (λ (ds : OwnSettings). not (list_any (gives_key ds) ss) ≡ true) (sym (no-work t (none t there)).1)
-    (not_from_false _ (any-none (gives_key []) ss (λ setting. refl))))
+-- of changes that apply it is tested what they meet
+pub changes-met : (s : Durable) (r : ReserveState) (who : Option Id) (cs : List Change) → AreHeld r s.tree s.transactions → changes_apply s.tree cs ≡ true → list_all (is_new_in s.tree) cs ≡ true
+    → recorded_changes_apply s who cs ≡ not (is_met r who s.tree cs)
+changes-met s r who cs held all new =
+    free-is s r who cs (λ t there. ((held.kept.each t there).apply, no_changes-left t (held.kept.each t there).changes)) held.kept.rise held.reserves all new
+
+-- changes that do not apply to the files do not apply
+pub none-apply : (s : Durable) (who : Option Id) (cs : List Change) → (changes_apply s.tree cs && list_all (is_new_in s.tree) cs) ≡ false → recorded_changes_apply s who cs ≡ false
+none-apply s who cs none =
+    false_from_ne_true _ (λ apply. true≢false (sym (and_from _ _ (recorded_changes_apply-all s who cs apply) (recorded_changes_apply-new s who cs apply)) ∙ none))
+
+-- a test that refuses no changes which apply, beside that they do
+pub tested-with : (s : Durable) (who : Option Id) (cs : List Change) (test : Bool) → (changes_apply s.tree cs ≡ true → list_all (is_new_in s.tree) cs ≡ true → test ≡ recorded_changes_apply s who cs)
+    → (test && (changes_apply s.tree cs && list_all (is_new_in s.tree) cs)) ≡ recorded_changes_apply s who cs
+tested-with s who cs test is = elim (cases_Bool (changes_apply s.tree cs && list_all (is_new_in s.tree) cs)) [
+  | inl both ↦ let parts = and_parts (changes_apply s.tree cs) (list_all (is_new_in s.tree) cs) both in rw both (and-true test ∙ is parts.0 parts.1)
+  | inr not_both ↦
+      rw not_both (and-false test ∙ sym (none-apply s who cs not_both))
+]
+
+-- changes that are tried are tested whole
+pub tried-with : (s : Durable) (who : Option Id) (cs : List Change) → (recorded_changes_apply s who cs && (changes_apply s.tree cs && list_all (is_new_in s.tree) cs)) ≡ recorded_changes_apply s who cs
+tried-with s who cs = tested-with s who cs (recorded_changes_apply s who cs) (λ all new. refl)
+
+-- the same, where a test may want memory
+pub met-ok : {E : Type 0} (r : Result Bool E) (apply met : Bool) → IfOk r (λ m. m ≡ met) → apply ≡ not met → IfOk r (λ m. apply ≡ not m)
+met-ok (Ok m) apply met is e = e ∙ ap not (sym is)
+met-ok (Err fault) apply met is e = tt
+
+pub free-ok : {E : Type 0} (r : Result Bool E) (s : Durable) (who : Option Id) (cs : List Change) → IfOk r (λ a. a ≡ recorded_changes_apply s who cs)
+    → IfOk r (λ free. (free && (changes_apply s.tree cs && list_all (is_new_in s.tree) cs)) ≡ recorded_changes_apply s who cs)
+free-ok (Ok a) s who cs is = ap (λ b. b && (changes_apply s.tree cs && list_all (is_new_in s.tree) cs)) is ∙ tried-with s who cs
+free-ok (Err fault) s who cs is = tt
+
+-- changes that pass the test, where they are made, apply
+pub made-ok : {E : Type 0} (r : Result Bool E) (s : Durable) (who : Option Id) (cs : List Change) (free : Bool) → free ≡ true → (free && (changes_apply s.tree cs && list_all (is_new_in s.tree) cs)) ≡ recorded_changes_apply s who cs
+    → IfOk r (λ a. a ≡ (changes_apply s.tree cs && list_all (is_new_in s.tree) cs)) → IfOk r (λ a. a ≡ recorded_changes_apply s who cs)
+made-ok (Ok a) s who cs free is tested made = made ∙ ap (λ b. b && (changes_apply s.tree cs && list_all (is_new_in s.tree) cs)) (sym is) ∙ tested
+made-ok (Err fault) s who cs free is tested made = tt
+
+-- and so do those that apply to the files alone
+pub tested-apply : (s : Durable) (who : Option Id) (cs : List Change) (free : Bool) → free ≡ true → (free && (changes_apply s.tree cs && list_all (is_new_in s.tree) cs)) ≡ recorded_changes_apply s who cs
+    → changes_apply s.tree cs ≡ true → list_all (is_new_in s.tree) cs ≡ true → recorded_changes_apply s who cs ≡ true
+tested-apply s who cs free is tested all new = sym tested ∙ (λ i. is i && (all i && new i))
+
+-- ---- settings that no transaction refuses
+
+among-others : (keep keep' test : Recorded → Bool) (ts : List Recorded) → ((t : Recorded) → keep' t ≡ keep t) → not (list_any (λ t. keep' t && test t) ts) ≡ list_all (λ t. not (test t)) (filter keep ts)
+among-others keep keep' test [] same = refl
+among-others keep keep' test (t ∷ ts) same = elim (cases_Bool (keep t)) [
+  | inl is ↦ rw (same t, is) (not-or (test t) (list_any (λ u. keep' u && test u) ts) ∙ ap (λ b. not (test t) && b) (among-others keep keep' test ts same))
+  | inr other ↦ rw (same t, other) (among-others keep keep' test ts same)
+]
+  where
+    not-or : (a b : Bool) → not (a || b) ≡ (not a && not b)
+    not-or true b = refl
+    not-or false b = refl
+
+pub settings-tested : (s : Durable) (who : Option Id) (ss : OwnSettings) → not (others_set who ss s.transactions) ≡ settings_apply s who ss
+settings-tested s None ss =
+    among-others (λ t. not (is_decided t.stage)) (waits_beside None) (λ t. set_both ss (settings_of t)) s.transactions (λ t. and-true (not (is_decided t.stage)))
+settings-tested s (Some id) ss =
+    among-others (λ t. not (is_decided t.stage) && not (same_id t.id id)) (waits_beside (Some id)) (λ t. set_both ss (settings_of t)) s.transactions (λ t. refl)
 
 -- ---- an event that is taken
 
@@ -115,51 +178,33 @@ new-settings ts id none = ap (λ (t : Recorded). not (has_settings_part t)) (or-
     go (Some t) is = absurd (true≢false (sym is))
 
 -- the one part of a transaction, where the transaction is of the present boot and nothing of it is recorded
-single-changes : (s : Durable) (id : Id) (cs : List Change) → none_waits_but None s.transactions ≡ true → (id.boot == s.boots && is_none (recorded_at s.transactions id)) ≡ true
-    → (are_recorded_changes cs && (changes_apply s.tree cs && list_all (is_new_in s.tree) cs)) ≡ fact_applies s (Single id (Changes cs))
-single-changes s id cs none may =
+single-changes : (s : Durable) (id : Id) (cs : List Change) → (id.boot == s.boots && is_none (recorded_at s.transactions id)) ≡ true
+    → (are_recorded_changes cs && recorded_changes_apply s (Some id) cs) ≡ fact_applies s (Single id (Changes cs))
+single-changes s id cs may =
     let new = new-changes s.transactions id (and_parts (id.boot == s.boots) (is_none (recorded_at s.transactions id)) may).1 in
-    ap (λ b. are_recorded_changes cs && b) (sym (changes-alone s (Some id) cs (none-at-all s (Some id) none)))
-    ∙ ap (λ b. (b && are_recorded_changes cs) && recorded_changes_apply s (Some id) cs) (sym new)
+    ap (λ b. (b && are_recorded_changes cs) && recorded_changes_apply s (Some id) cs) (sym new)
     ∙ ap (λ b. b && true && (not (has_changes_part (recorded_or_new s.transactions id)) && are_recorded_changes cs && recorded_changes_apply s (Some id) cs)) (sym may)
 
-single-settings : (s : Durable) (id : Id) (ss : OwnSettings) → none_waits_but None s.transactions ≡ true → (id.boot == s.boots && is_none (recorded_at s.transactions id)) ≡ true
-    → are_good_settings ss ≡ fact_applies s (Single id (Settings ss))
-single-settings s id ss none may =
+single-settings : (s : Durable) (id : Id) (ss : OwnSettings) → (id.boot == s.boots && is_none (recorded_at s.transactions id)) ≡ true
+    → (are_good_settings ss && settings_apply s (Some id) ss) ≡ fact_applies s (Single id (Settings ss))
+single-settings s id ss may =
     let new = new-settings s.transactions id (and_parts (id.boot == s.boots) (is_none (recorded_at s.transactions id)) may).1 in
-    sym (and-true (are_good_settings ss))
-    ∙ ap (λ b. are_good_settings ss && b) (sym (settings-alone s (Some id) ss (none-at-all s (Some id) none)))
-    ∙ ap (λ b. (b && are_good_settings ss) && settings_apply s (Some id) ss) (sym new)
+    ap (λ b. (b && are_good_settings ss) && settings_apply s (Some id) ss) (sym new)
     ∙ ap (λ b. b && true && (not (has_settings_part (recorded_or_new s.transactions id)) && are_good_settings ss && settings_apply s (Some id) ss)) (sym may)
 
-pub takes-changes : {E : Type 0} (r : Result Bool E) (s s' : Durable) (id : Id) (part : Part) (cs : List Change) → Changes cs ≡ part → none_waits_but None s.transactions ≡ true
-    → (id.boot == s.boots && is_none (recorded_at s.transactions id)) ≡ true → IfOk r (λ a. a ≡ (are_recorded_changes cs && (changes_apply s.tree cs && list_all (is_new_in s.tree) cs)))
+pub takes-changes : {E : Type 0} (r : Result Bool E) (s s' : Durable) (id : Id) (part : Part) (cs : List Change) → Changes cs ≡ part
+    → (id.boot == s.boots && is_none (recorded_at s.transactions id)) ≡ true → IfOk r (λ a. a ≡ (are_recorded_changes cs && recorded_changes_apply s (Some id) cs))
     → (r ≡ Ok true → s' ≡ with_committed s cs []) → IfOk r (λ taken. Takes s (Single id part) taken s')
-takes-changes r s s' id part cs is none may applies after =
+takes-changes r s s' id part cs is may applies after =
     subst (λ (p : Part). IfOk r (λ taken. Takes s (Single id p) taken s')) is
-    (takes-ok r s s' (Single id (Changes cs)) (are_recorded_changes cs && (changes_apply s.tree cs && list_all (is_new_in s.tree) cs)) (single-changes s id cs none may) applies after)
+    (takes-ok r s s' (Single id (Changes cs)) (are_recorded_changes cs && recorded_changes_apply s (Some id) cs) (single-changes s id cs may) applies after)
 
-pub takes-settings : {E : Type 0} (r : Result Bool E) (s s' : Durable) (id : Id) (part : Part) (ss : OwnSettings) → Settings ss ≡ part → none_waits_but None s.transactions ≡ true
-    → (id.boot == s.boots && is_none (recorded_at s.transactions id)) ≡ true → IfOk r (λ a. a ≡ are_good_settings ss)
+pub takes-settings : {E : Type 0} (r : Result Bool E) (s s' : Durable) (id : Id) (part : Part) (ss : OwnSettings) → Settings ss ≡ part
+    → (id.boot == s.boots && is_none (recorded_at s.transactions id)) ≡ true → IfOk r (λ a. a ≡ (are_good_settings ss && settings_apply s (Some id) ss))
     → (r ≡ Ok true → s' ≡ with_committed s [] ss) → IfOk r (λ taken. Takes s (Single id part) taken s')
-takes-settings r s s' id part ss is none may applies after =
-    subst (λ (p : Part). IfOk r (λ taken. Takes s (Single id p) taken s')) is (takes-ok r s s' (Single id (Settings ss)) (are_good_settings ss) (single-settings s id ss none may) applies after)
-
--- ---- a part that is to wait
-
-pub wait-changes : (s : Durable) (id : Id) (part : Part) (cs : List Change) → Changes cs ≡ part → may_come s (Ready id part) ≡ true
-    → (not (has_changes_part (recorded_or_new s.transactions id)) && are_recorded_changes cs && (changes_apply s.tree cs && list_all (is_new_in s.tree) cs)) ≡ part_applies s id part
-wait-changes s id part cs is come =
-    let come' = subst (λ (p : Part). may_come s (Ready id p) ≡ true) (sym is) come in
-    ap (λ b. not (has_changes_part (recorded_or_new s.transactions id)) && are_recorded_changes cs && b) (sym (changes-alone s (Some id) cs (none-else s id come')))
-    ∙ ap (part_applies s id) is
-
-pub wait-settings : (s : Durable) (id : Id) (part : Part) (ss : OwnSettings) → Settings ss ≡ part → may_come s (Ready id part) ≡ true
-    → (not (has_settings_part (recorded_or_new s.transactions id)) && are_good_settings ss) ≡ part_applies s id part
-wait-settings s id part ss is come =
-    let come' = subst (λ (p : Part). may_come s (Ready id p) ≡ true) (sym is) come in
-    let tests = not (has_settings_part (recorded_or_new s.transactions id)) && are_good_settings ss in
-    sym (and-true tests) ∙ ap (λ b. tests && b) (sym (settings-alone s (Some id) ss (none-else s id come'))) ∙ ap (part_applies s id) is
+takes-settings r s s' id part ss is may applies after =
+    subst (λ (p : Part). IfOk r (λ taken. Takes s (Single id p) taken s')) is
+    (takes-ok r s s' (Single id (Settings ss)) (are_good_settings ss && settings_apply s (Some id) ss) (single-settings s id ss may) applies after)
 
 -- ---- the limits
 
@@ -249,3 +294,8 @@ rest-fits s room all is some =
 pub event-tested : (s : Durable) (event : Event) → fact_applies s event ≡ true → nat_lt (s.events + 1) (2 ^ 63) ≡ true → is_within_limits (fact_of s event) ≡ event_applies s event
 event-tested s event fact left =
     sym (ap (λ b. b && is_within_limits (fact_of s event) && nat_lt (s.events + 1) (2 ^ 63)) fact ∙ ap (λ b. is_within_limits (fact_of s event) && b) left ∙ and-true (is_within_limits (fact_of s event)))
+
+-- and do not depend on how many events there were
+pub limits-counted : (s : Durable) (events : ℕ) → is_within_limits (record s { events = events }) ≡ is_within_limits s
+unfolding is_within_limits
+limits-counted s events = refl

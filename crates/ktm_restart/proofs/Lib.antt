@@ -2,13 +2,14 @@ mod Past
 mod OneOfKind
 mod OwnDones
 mod Placing
-mod Coming
 mod Fitting
 mod GoodLogs
 mod Spelled
 mod Folds
 mod Holding
 mod Keeping
+mod Others
+mod Reserving
 mod LogLoads
 mod Replays
 mod BehindHeader

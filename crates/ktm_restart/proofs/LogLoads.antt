@@ -7,8 +7,6 @@ use Rattle.ktm_log.specs.Log.{BeginsWith, IsLog, IsBadLog, area_bytes, end_of}
 use Rattle.ktm_log.proofs.Frames.{begins-split}
 use Rattle.ktm_log.proofs.Steps.{IfSome-both}
 use Rattle.ktm_event.proofs.LeastSizes.{events_size-least}
-use Rattle.ktm_forms.specs.Built.{IsBuiltState}
-use Rattle.ktm_forms.proofs.BuiltStates.{built_log}
 use Rattle.ktm_world.specs.Logs.{Group}
 use Rattle.ktm_world.specs.Durable.{Durable, empty_state, stand}
 use Rattle.ktm_types.specs.Sizes.{frame_size, log_size}
@@ -27,9 +25,6 @@ log_size-least [] = omega arith
 log_size-least (group ∷ log) = omega (arith, events_size-least group, log_size-least log, sum_by-cons frame_size group log)
 
 module _ (units image : ℕ) (payloads : List (List ℕ)) (state : Durable) (comes : ComesTo units image payloads state) where
-  pub comes_to_built : IsBuiltState state
-  comes_to_built = subst IsBuiltState (sym comes.is) (built_log units image comes.log comes.built)
-
   pub comes_to_units : state.units ≡ units
   comes_to_units = ap (λ (s : Durable). s.units) comes.is ∙ stand-units (empty_state units image) comes.log
 
@@ -54,7 +49,6 @@ module _ (units image : ℕ) where
   stands payloads state bytes comes formatted log =
       let holds : HoldsLog units image comes.log bytes = record {
         is = record { formatted = formatted; payloads = payloads; groups = comes.groups; frames = log };
-        built = comes.built;
         applies = comes.applies;
       } in
       let units_are = sym (comes_to_units units image payloads state comes) in
@@ -77,7 +71,6 @@ module _ (units image : ℕ) where
           formatted = formatted;
           payloads = first.before;
           groups = first.good.groups;
-          built = first.good.built;
           applies = first.good.applies;
           frames = frames;
           bad = inr (first.payload, frame, subst (λ (s : Durable). IsBadPayload s first.payload) first.good.is first.bad);
@@ -95,7 +88,6 @@ module _ (units image : ℕ) where
           formatted = formatted;
           payloads = payloads;
           groups = comes.groups;
-          built = comes.built;
           applies = comes.applies;
           frames = bad.frames;
           bad = inl bad.gate;

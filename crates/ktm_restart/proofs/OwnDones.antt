@@ -1,7 +1,7 @@
 -- The events that a restart records by itself of the transactions, one after another.
 use Rattle.std.proofs.Common.{◌≡◌, ℕ, ◌+◌, ◌<◌, ◌&&◌, ◌||◌, not, Bool, true, false, List, [], ◌∷◌, ◌++◌, Option, Some, None, length, get_or, drop, map, filter, refl, sym, ◌∙◌, ap, subst, inl, inr}
 use Rattle.std.specs.List.{list_any, flat_map}
-use Rattle.std.proofs.lemmas.Bool.{and_left, and_right, cases_Bool, false_from_ne_true, false≢true, or_parts}
+use Rattle.std.proofs.lemmas.Bool.{and_from, and_left, and_right, cases_Bool, false_from_ne_true, false≢true, or_parts}
 use Rattle.std.proofs.lemmas.List.{drop_more}
 use Rattle.ktm_base.specs.declared.id.Id.{Id}
 use Rattle.ktm_types.specs.declared.event.DonePart.{DonePart}
@@ -17,6 +17,7 @@ use Rattle.ktm_world.specs.Durable.{Durable, Recorded, after_event, after_events
 use Rattle.ktm_world.specs.Transactions.{same_id}
 use Rattle.ktm_world.specs.World.{done_if, own_events}
 use Rattle.txf_laws.specs.Elements.{IsIn}
+use Rattle.txf_laws.proofs.offered.Elements.{list_any-from}
 use Rattle.txf_laws.proofs.offered.Tables.{Rises, before_other, is_before-then, recorded_at-found, rises-first, rises-rest, same_id-equal, same_id-from}
 use Rattle.ktm_restart.specs.Table.{finished_in}
 use Rattle.ktm_restart.proofs.TableSteps.{none-other}
@@ -144,16 +145,29 @@ own-later t u ts before = elim (cases_Bool (is_open u)) [
     behind : is_before u.id t.id ≡ false
     behind = false_from_ne_true _ (λ after. before_other t.id t.id (is_before-then t.id u.id t.id before after) refl)
 
--- the first event is one of these
-own-from : (ts : List Recorded) (id : Id) (done : DonePart) (rest : List Event) → flat_map own_events ts ≡ Done id done ∷ rest → (t : Recorded) × IsIn t ts × (t.id ≡ id)
+-- the first event is one of these, whose participant is not done
+own-from : (ts : List Recorded) (id : Id) (done : DonePart) (rest : List Event) → flat_map own_events ts ≡ Done id done ∷ rest → (t : Recorded) × IsIn t ts × (t.id ≡ id) × (has_undone done t ≡ true)
 own-from [] id done rest is = absurd (cc)
 own-from (t ∷ ts) id done rest is = elim (cases_Bool (has_undone Files t)) [
-  | inl files ↦ let e = rw files at is in let same : t.id ≡ id = cc in (t, inl refl, same)
+  | inl files ↦
+      let e = rw files at is in
+      let same : t.id ≡ id = cc in
+      let kind : Files ≡ done = cc in
+      (t, inl refl, same, subst (λ (d : DonePart). has_undone d t ≡ true) kind files)
   | inr no_files ↦ elim (cases_Bool (has_undone Keys t)) [
-    | inl keys ↦ let e = rw (no_files, keys) at is in let same : t.id ≡ id = cc in (t, inl refl, same)
-    | inr no_keys ↦ let later = own-from ts id done rest (rw (no_files, no_keys) at is) in (later.0, inr later.1, later.2)
+    | inl keys ↦
+        let e = rw (no_files, keys) at is in
+        let same : t.id ≡ id = cc in
+        let kind : Keys ≡ done = cc in
+        (t, inl refl, same, subst (λ (d : DonePart). has_undone d t ≡ true) kind keys)
+    | inr no_keys ↦ let later = own-from ts id done rest (rw (no_files, no_keys) at is) in (later.0, inr later.1, later.2, later.3)
   ]
 ]
+
+pub own-undone : (ts : List Recorded) (id : Id) (done : DonePart) (rest : List Event) → flat_map own_events ts ≡ Done id done ∷ rest → list_any (λ t. same_id t.id id && has_undone done t) ts ≡ true
+own-undone ts id done rest is =
+    let from = own-from ts id done rest is in
+    list_any-from (λ (t : Recorded). same_id t.id id && has_undone done t) ts from.0 from.1 (and_from _ _ (same_id-from (from.0).id id from.2) from.3)
 
 module _ (t : Recorded) (ts : List Recorded) (rises : Rises (t ∷ ts)) where
   found-first : recorded_at (t ∷ ts) t.id ≡ Some t

@@ -12,11 +12,12 @@ use Rattle.ktm_journal.specs.Image.{IsFormatted, JournalState, log_area}
 use Rattle.ktm_journal.specs.Open.{EndsTorn, IsOpened, log_reads}
 use Rattle.ktm_log.specs.Log.{BeginsWith, IsBadLog, IsLog, area_bytes, payloads_in}
 use Rattle.ktm_log.specs.OnDisk.{OnDisk, WasRead}
+use Rattle.ktm_records.specs.Spelling.{AreRecordedTexts}
 use Rattle.ktm_states.specs.GoodState.{IsGoodState}
 use Rattle.ktm_world.specs.Durable.{Durable}
 use Rattle.ktm_restart.specs.Payloads.{ComesTo, IsFirstBad}
 use Rattle.ktm_restart.specs.Loads.{FaultLeaves, IsBadImage, IsLoaded, IsReplayed, KnowsLog}
-use Rattle.ktm_restart.proofs.LogLoads.{bad_payload_told, comes_to_built, comes_to_events, comes_to_image, comes_to_keys, comes_to_units, counted_told, image_told, stands_told, torn_told}
+use Rattle.ktm_restart.proofs.LogLoads.{bad_payload_told, comes_to_events, comes_to_image, comes_to_keys, comes_to_units, counted_told, image_told, stands_told, torn_told}
 use Rattle.ktm_restart.proofs.Spelled.{spelled_told}
 
 -- the disk has an image with this header
@@ -24,13 +25,14 @@ module _ {Z : Type 0} (header : Header) (old new : OnDisk (Vec ℕ Z)) (formatte
   abbrev payloads : List (List ℕ)
   payloads = payloads_in new.it.items
 
-  pub replayed : (state : Durable) (journal : JournalState) → IsOpened header old new journal → AreBytes new.it.items → ComesTo header.units header.image payloads state → IsGoodState state
+  pub replayed : (state : Durable) (journal : JournalState) → IsOpened header old new journal → AreBytes new.it.items → ComesTo header.units header.image payloads state → IsGoodState state → AreRecordedTexts state
       → IsReplayed header state old new journal
-  replayed state journal opened all comes good = record {
+  replayed state journal opened all comes good texts = record {
     of_image = opened.of_image;
     end_is = opened.end_is;
     comes = comes;
     good = good;
+    texts = texts;
     stands = stands_told header.units header.image old.told formatted payloads state comes opened.log;
     knows = record {
       at = image_told header.units header.image old.told new.told journal opened.at;
@@ -81,8 +83,8 @@ module _ {Z : Type 0} (header : Header) (old new : OnDisk (Vec ℕ Z)) (formatte
           most = omega (arith, units);
           number = omega (arith, image);
           keys = comes_to_keys header.units header.image payloads state comes;
-          built = comes_to_built header.units header.image payloads state comes;
           good = replayed.good;
+          texts = replayed.texts;
         };
         journal = record {
           units = replayed.of_image.units ∙ sym units;

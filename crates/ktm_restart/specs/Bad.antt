@@ -1,7 +1,6 @@
 -- Bytes that are no image that stands for a state, and where it shows.
-use Rattle.std.specs.Prelude.{◌≡◌, ◌⊎◌, ℕ, ◌+◌, ◌&&◌, false, IsTrue, List, drop}
+use Rattle.std.specs.Prelude.{◌≡◌, ◌⊎◌, ℕ, ◌+◌, false, IsTrue, List, drop}
 use Rattle.ktm_log.specs.Log.{IsFrame, IsTorn, BeginsWith, area_bytes, end_of}
-use Rattle.ktm_forms.specs.Built.{is_built_group, is_built_log}
 use Rattle.ktm_world.specs.Logs.{Group}
 use Rattle.ktm_world.specs.Durable.{Durable, empty_state, stand, events_apply, log_applies}
 use Rattle.ktm_types.specs.EventGrammar.{IsGroupOf}
@@ -9,16 +8,15 @@ use Rattle.ktm_types.specs.Sizes.{log_size}
 use Rattle.ktm_journal.specs.Image.{IsFormatted, HoldGroups, log_area}
 use Rattle.ktm_journal.specs.Bad.{IsUnformattedAt}
 
--- a payload that is no group that is built and applies to the state
+-- a payload that is no group that applies to the state
 abbrev pub IsBadPayload : Durable → List ℕ → Type 0
-IsBadPayload state payload = (events : Group) → IsGroupOf events payload → (is_built_group events && events_apply state events) ≡ false
+IsBadPayload state payload = (events : Group) → IsGroupOf events payload → events_apply state events ≡ false
 
--- behind these groups, which are built and apply, stands an open gate whose frame is cut short, or whose payload is bad
+-- behind these groups, which apply, stands an open gate whose frame is cut short, or whose payload is bad
 pub record IsBadFrame (units image : ℕ) (log : List Group) (bytes : List ℕ) : Type 0 where
   pub formatted : IsFormatted units image bytes
   pub payloads : List (List ℕ)
   pub groups : HoldGroups log payloads
-  pub built : IsTrue (is_built_log log)
   pub applies : IsTrue (log_applies (empty_state units image) log)
   pub frames : BeginsWith payloads (area_bytes (log_area units) bytes)
   pub bad : IsTorn (drop (end_of payloads) (area_bytes (log_area units) bytes))

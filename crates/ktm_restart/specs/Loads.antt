@@ -2,7 +2,6 @@
 use Rattle.std.specs.Prelude.{◌≡◌, ℕ, ◌^◌, ◌<◌, ◌≤◌, true, false, List, length, Result, Ok, Err, Vec, vec_capacity, IfSome, IsSomeAnd, Option}
 use Rattle.ktm_base.specs.declared.limits.TheConstants.{LEAST_UNITS, MOST_UNITS}
 use Rattle.ktm_base.specs.Disk.{DiskState, IsSafe}
-use Rattle.ktm_forms.specs.Built.{IsBuiltState}
 use Rattle.ktm_journal.specs.declared.fault.LoadFault.{LoadFault}
 use Rattle.ktm_journal.specs.declared.fault.LoadFault.TheVariants.{Down, Bad, NoMemory}
 use Rattle.ktm_journal.specs.declared.header.Header.{Header}
@@ -10,6 +9,7 @@ use Rattle.ktm_journal.specs.Image.{IsFormatted, JournalAt, JournalState, log_ar
 use Rattle.ktm_journal.specs.Open.{IsOfImage, log_reads}
 use Rattle.ktm_log.specs.Log.{end_of, payloads_in}
 use Rattle.ktm_log.specs.OnDisk.{OnDisk, ReadsInto, WasRead}
+use Rattle.ktm_records.specs.Spelling.{AreRecordedTexts}
 use Rattle.ktm_states.specs.GoodState.{IsGoodState}
 use Rattle.ktm_world.specs.Durable.{Durable}
 use Rattle.ktm_world.specs.Logs.{Group}
@@ -29,6 +29,7 @@ pub record IsReplayed {Z : Type 0} (header : Header) (state : Durable) (old new 
   pub end_is : journal.log.end ≡ end_of (payloads_in new.it.items)
   pub comes : ComesTo header.units header.image (payloads_in new.it.items) state
   pub good : IsGoodState state
+  pub texts : AreRecordedTexts state
   pub stands : IfSome old.told (λ s. StandsFor state s.seen)
   pub knows : KnowsLog header.units header.image old.told new.told journal
   pub read : WasRead (log_reads header.units) old new
@@ -39,8 +40,8 @@ pub record MayStart (state : Durable) : Type 0 where
   pub most : state.units ≤ MOST_UNITS
   pub number : state.image < 2 ^ 16
   pub keys : length state.keys ≤ state.units
-  pub built : IsBuiltState state
   pub good : IsGoodState state
+  pub texts : AreRecordedTexts state
 
 -- the journal is that of the state's image, has its events in its log, and has counted them
 pub record IsJournalOf (state : Durable) (journal : JournalState) : Type 0 where

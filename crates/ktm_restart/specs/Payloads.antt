@@ -1,17 +1,15 @@
 -- What the payloads of a log come to.
 use Rattle.std.specs.Prelude.{◌≡◌, ℕ, ◌+◌, IsTrue, List, ◌∷◌, ◌++◌}
 use Rattle.ktm_log.specs.Log.{end_of}
-use Rattle.ktm_forms.specs.Built.{is_built_log}
 use Rattle.ktm_world.specs.Logs.{Group}
 use Rattle.ktm_world.specs.Durable.{Durable, empty_state, stand, log_applies}
 use Rattle.ktm_journal.specs.Image.{HoldGroups, log_area}
 use Rattle.ktm_restart.specs.Bad.{IsBadPayload}
 
--- the payloads are built groups that apply one after another, and they come to this state
+-- the payloads are groups that apply one after another, and they come to this state
 pub record ComesTo (units image : ℕ) (payloads : List (List ℕ)) (state : Durable) : Type 0 where
   pub log : List Group
   pub groups : HoldGroups log payloads
-  pub built : IsTrue (is_built_log log)
   pub applies : IsTrue (log_applies (empty_state units image) log)
   pub is : state ≡ stand (empty_state units image) log
 

@@ -1,5 +1,5 @@
 -- The state of an image while its log is read, and the memory that is there for it. No public clause cites this module.
-use Rattle.std.specs.Prelude.{◌≡◌, ℕ, ◌<◌, ◌≤◌, Bool, true, false, List, length, Option}
+use Rattle.std.specs.Prelude.{◌≡◌, ℕ, ◌<◌, ◌≤◌, Bool, true, false, List, length, Option, None}
 use Rattle.ktm_types.specs.declared.change.Change.{Change}
 use Rattle.ktm_types.specs.declared.event.Event.{Event}
 use Rattle.ktm_types.specs.declared.event.Event.TheVariants.{MadeRm, Plain, Ready, Single, Held, Decide}
@@ -7,6 +7,7 @@ use Rattle.ktm_types.specs.declared.event.Part.{Part}
 use Rattle.ktm_types.specs.declared.event.Part.TheVariants.{Changes, Settings}
 use Rattle.ktm_world.specs.Durable.{Durable, Recorded, event_applies, fact_applies, fact_of, recorded_at}
 use Rattle.ktm_restart.specs.Table.{changes_at, settings_at}
+use Rattle.ktm_restart.specs.Waiting.{others_change}
 use Rattle.txf_durable.specs.Numbers.{FileNumbersState}
 use Rattle.txf_durable.specs.State.{CanMake, CanMakeAll}
 use Rattle.txf_tree.specs.TreeState.{TreeState}
@@ -22,8 +23,10 @@ pub record ReplayedState : Type 0 where
   -- the files that a transaction writes, while its changes are tested
   pub written : FileNumbersState
 
--- the memory is there that the changes of a transaction take
+-- the memory is there that the changes of a transaction take; where another one waits with changes, over which they are tried, more may be
+-- wanted
 pub record CanChange (s : ReplayedState) (changes : List Change) : Type 0 where
+  pub alone : others_change None s.state.transactions ≡ false
   pub written : length changes ≤ s.written.room
   pub files : CanMakeAll s.files changes
 

@@ -1,56 +1,70 @@
 -- What waits, and how much it takes beside what is committed. No public clause cites this module.
-use Rattle.std.specs.Prelude.{◌≡◌, ℕ, ◌+◌, ◌-◌, ◌*◌, ◌&&◌, ◌||◌, not, Bool, true, false, List, length, sum_by, count_by, nat_le, nat_lt, is_some, is_none, Option, None, Some, if◌then◌else◌}
-use Rattle.std.specs.List.{list_all}
+use Rattle.std.specs.Prelude.{◌≡◌, ℕ, ◌+◌, ◌-◌, ◌*◌, ◌&&◌, not, Bool, true, false, List, [], length, sum_by, count_by, nat_le, nat_lt, is_some, is_none, Option, if◌then◌else◌}
+use Rattle.std.specs.List.{list_all, list_any}
 use Rattle.ktm_base.specs.declared.id.Id.{Id}
 use Rattle.ktm_base.specs.declared.limits.TheConstants.{MOST_LIVE, UNIT_BYTES}
 use Rattle.ktm_types.specs.declared.change.Change.{Change}
 use Rattle.ktm_types.specs.declared.change.Change.TheVariants.{Put, Cut}
-use Rattle.ktm_types.specs.declared.event.Event.{Event}
-use Rattle.ktm_types.specs.declared.event.Event.TheVariants.{Plain, Ready, Single}
-use Rattle.ktm_types.specs.declared.event.Part.TheVariants.{Changes, Settings}
-use Rattle.ktm_states.specs.GoodState.{has_one_part_each}
-use Rattle.ktm_world.specs.Changes.{bytes_in, changed_all, changes_apply, changes_bytes, has_changes, nodes_made}
+use Rattle.ktm_states.specs.GoodState.{are_kept_changes, are_kept_settings, has_one_part_each}
+use Rattle.ktm_world.specs.Changes.{bytes_in, changed_all, changes_apply, changes_bytes, nodes_made}
 use Rattle.ktm_world.specs.Committed.{written_files}
-use Rattle.ktm_world.specs.Durable.{Durable, Recorded, are_recorded_changes, changes_of, enlistments_of, is_decided, is_new_in, settings_of}
-use Rattle.ktm_world.specs.Keys.{Store}
+use Rattle.ktm_world.specs.Durable.{Recorded, changes_of, enlistments_of, has_changes_part, is_decided, is_new_in, recorded_at, settings_of}
+use Rattle.ktm_world.specs.Holds.{holds_by}
+use Rattle.ktm_world.specs.Keys.{OwnSettings, Store}
+use Rattle.ktm_world.specs.Lawful.{set_both}
 use Rattle.ktm_world.specs.Transactions.{is_of}
 use Rattle.ktm_world.specs.Tree.{Tree, bytes_of, bytes_or_none, units_of}
 use Rattle.ktm_restart.specs.declared.amounts.Amounts.{Amounts}
-use Rattle.ktm_restart.specs.Table.{IsByRisingId}
+use Rattle.ktm_restart.specs.Table.{IsByRisingId, changes_at}
 use Rattle.txf_laws.specs.Elements.{IsIn}
+use Rattle.txf_laws.specs.Footprint.{footprint, AreFootprintsApart}
+use Rattle.txf_reserve.specs.ReserveState.{IsSameHold, ReserveState, holds_in}
 
 -- ---- what waits
 
--- has the transaction changes or settings that wait
-abbrev pub has_work : Recorded → Bool
-has_work t = has_changes (changes_of t) || nat_lt 0 (length (settings_of t))
+-- does the transaction wait, and is it another than this one
+abbrev pub waits_beside : Option Id → Recorded → Bool
+waits_beside who t = not (is_decided t.stage) && not (is_of t.id who)
 
--- does no transaction but this one have changes or settings that wait
-abbrev pub none_waits_but : Option Id → List Recorded → Bool
-none_waits_but who ts = list_all (λ t. is_of t.id who || not (has_work t)) ts
+-- does another transaction wait with changes
+abbrev pub others_change : Option Id → List Recorded → Bool
+others_change who ts = list_any (λ t. waits_beside who t && has_changes_part t) ts
 
--- may the event come: what would have to be tested against the holds of others comes only while no other transaction has changes or
--- settings that wait
-abbrev pub may_come : Durable → Event → Bool
-may_come s (Plain change) = none_waits_but None s.transactions
-may_come s (Ready transaction (Changes changes)) = none_waits_but (Some transaction) s.transactions
-may_come s (Ready transaction (Settings settings)) = none_waits_but (Some transaction) s.transactions
-may_come s (Single transaction part) = none_waits_but None s.transactions
-may_come s _ = true
+-- does another transaction wait that sets one of the keys of these settings
+abbrev pub others_set : Option Id → OwnSettings → List Recorded → Bool
+others_set who settings ts = list_any (λ t. waits_beside who t && set_both settings (settings_of t)) ts
 
--- a transaction has one part of each kind at most; its changes, if it has any, have the form in which they are recorded, apply to the
--- files, and make no node that is there
+-- a transaction has one part of each kind at most, and no changes and no settings once it is decided; before that they have the form in
+-- which they are recorded, the changes apply to the files, and they make no node that is there
 pub record IsKept (tree : Tree) (t : Recorded) : Type 0 where
   pub parts : has_one_part_each t ≡ true
-  pub form : has_changes (changes_of t) ≡ true → are_recorded_changes (changes_of t) ≡ true
+  pub changes : are_kept_changes t ≡ true
+  pub settings : are_kept_settings t ≡ true
   pub apply : changes_apply tree (changes_of t) ≡ true
   pub new : list_all (is_new_in tree) (changes_of t) ≡ true
 
--- so is each, they are by rising Id, and at most one has changes or settings that wait
+-- what two transactions change is apart
+abbrev pub AreBeside : Tree → Recorded → Recorded → Type 0
+AreBeside tree t u = AreFootprintsApart (footprint tree (changes_of t)) (footprint tree (changes_of u))
+
+-- each transaction is kept, they are by rising Id, and what each two of them change is apart
 pub record AreKept (tree : Tree) (ts : List Recorded) : Type 0 where
   pub rise : IsByRisingId ts
   pub each : (t : Recorded) → IsIn t ts → IsKept tree t
-  pub alone : (t u : Recorded) → IsIn t ts → IsIn u ts → (t.id ≡ u.id → ⊥) → has_work t ≡ true → has_work u ≡ true → ⊥
+  pub beside : (t u : Recorded) → IsIn t ts → IsIn u ts → (t.id ≡ u.id → ⊥) → AreBeside tree t u
+
+-- changes are apart from those of each transaction
+abbrev pub AreSpared : Tree → List Recorded → List Change → Type 0
+AreSpared tree ts changes = (u : Recorded) → IsIn u ts → AreFootprintsApart (footprint tree changes) (footprint tree (changes_of u))
+
+-- each transaction holds of the files what its changes hold
+abbrev pub Reserves : ReserveState → Tree → List Recorded → Type 0
+Reserves r tree ts = (id : Id) → IsSameHold (holds_in r id) (holds_by tree (changes_at (recorded_at ts id)) [])
+
+-- each transaction is kept, and holds what its changes hold
+pub record AreHeld (r : ReserveState) (tree : Tree) (ts : List Recorded) : Type 0 where
+  pub kept : AreKept tree ts
+  pub reserves : Reserves r tree ts
 
 -- ---- how much
 

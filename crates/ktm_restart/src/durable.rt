@@ -1,11 +1,10 @@
 // The durable state in memory, as its users see it.
-ghost use Rattle.std.specs.Prelude.{◌≡◌, ◌&&◌, ℕ, ◌+◌, ◌-◌, ◌^◌, ◌<◌, ◌≤◌, List, [], ◌∷◌, ◌++◌, Ok, false, true, All, IfOk, IsOk, length, min, sum_by};
+ghost use Rattle.std.specs.Prelude.{◌≡◌, ℕ, ◌+◌, ◌-◌, ◌^◌, ◌<◌, ◌≤◌, List, [], ◌∷◌, ◌++◌, Ok, true, All, IfOk, IsOk, length, min, sum_by};
 ghost use Rattle.ktm_event.specs.Kept.{Holds};
 ghost use Rattle.ktm_event.specs.Spelling.{IsSpellableEvent};
 ghost use Rattle.ktm_types.specs.declared.event.Event.{Event as Recording};
 ghost use Rattle.ktm_types.specs.declared.event.Event.TheVariants.{Boot};
 ghost use Rattle.ktm_types.specs.Sizes.{event_size};
-ghost use Rattle.ktm_forms.specs.Built.{is_built_group};
 ghost use Rattle.ktm_world.specs.Durable.{after_events, empty_state, events_apply};
 ghost use Rattle.ktm_world.specs.Tree.{bytes_or_none, units_of};
 ghost use Rattle.ktm_world.specs.World.{own_group};
@@ -36,7 +35,6 @@ pub struct DurableParts {
 }
 
 /// What the groups of an image's log stand for. They are applied in place: neither a change nor a key or a value is copied.
-/// Between groups no changes and no settings wait.
 #[derive(Drop)]
 pub struct Durable {
     replayed: Replayed,
@@ -48,11 +46,6 @@ impl Model for Durable {
     ghost Value = { Durable };
 
     ghost view = { λ s. s.replayed.state };
-
-    ghost use Rattle.std.specs.Prelude.{◌≡◌, None, true};
-    ghost use Rattle.ktm_restart.specs.Waiting.{none_waits_but};
-
-    ghost invariant = { λ s. none_waits_but None s.replayed.state.transactions ≡ true };
 }
 
 impl Durable {
@@ -152,24 +145,13 @@ impl Durable {
         self.replayed.begin();
     }
 
-    /// Applies a group of events. It answers false where the group is not built or does not apply; the state is then of no use,
-    /// as it is where memory is wanted. A group that is not built wants none, nor does a boot.
+    /// Applies a group of events. It answers false where the group does not apply; the state is then of no use, as it is where
+    /// memory is wanted. A boot wants none.
     pub fn apply_group(&mut self, events: Vec<Event>) -> Result<bool, NoMemory>
-        ensures applies { IfOk result (λ applied. applied ≡ (is_built_group events.items && events_apply self.old events.items)) }
+        ensures applies { IfOk result (λ applied. applied ≡ events_apply self.old events.items) }
         ensures after { result ≡ Ok true → self.new ≡ after_events self.old events.items }
-        ensures refused { is_built_group events.items ≡ false → IsOk result }
         ensures boots { (boot : ℕ) → events.items ≡ Boot boot ∷ [] → IsOk result }
     {
-        match self.replayed.apply_group(events) {
-            Ok(true) => Ok(true),
-            Ok(false) => {
-                self.replayed.forget_transactions();
-                Ok(false)
-            }
-            Err(NoMemory) => {
-                self.replayed.forget_transactions();
-                Err(NoMemory)
-            }
-        }
+        self.replayed.apply_group(events)
     }
 }

@@ -3,6 +3,7 @@
 #![tactic(auto)]
 
 mod amounts;
+mod beside;
 mod durable;
 mod laws;
 mod managers;

@@ -3,13 +3,22 @@ ghost use Rattle.std.specs.Prelude.{◌≡◌, ◌<◌, ◌≤◌, ◌&&◌, ◌
 ghost use Rattle.std.specs.List.{flat_map, list_any, position};
 ghost use Rattle.std.specs.Option.{option_copied};
 ghost use Rattle.ktm_types.specs.declared.recorded.RecordedPart.{RecordedPart as Recording};
-ghost use Rattle.ktm_world.specs.Durable.{changes_in, is_decided, is_held, is_part_of, parts_done, settings_in};
+ghost use Rattle.ktm_world.specs.Durable.{changes_in, is_decided, is_held, is_part_of, is_ready, parts_done, settings_in};
 ghost use Rattle.ktm_restart.specs.Work.{without_changes, without_settings};
 
 use ktm_base::Items;
 use ktm_types::{Change, DonePart, Part, RecordedPart, Setting, Stage};
 use std::alloc::Global;
 use std::mem::replace;
+
+pub(crate) fn is_ready(stage: Stage) -> bool
+    ensures { result ≡ is_ready stage }
+{
+    match stage {
+        Stage::Ready => true,
+        Stage::Held | Stage::Decided => false,
+    }
+}
 
 pub(crate) fn is_held(stage: Stage) -> bool
     ensures { result ≡ is_held stage }

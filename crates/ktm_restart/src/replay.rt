@@ -1,12 +1,12 @@
 // Reading an image, and what its log comes to.
-ghost use Rattle.std.specs.Prelude.{IsErrOf, ◌≡◌, ◌&&◌, ℕ, ◌+◌, ◌*◌, ◌≤◌, Ok, IfOk, IfSome, IsSomeAnd, OnOk, IsTrue, false, true};
+ghost use Rattle.std.specs.Prelude.{IsErrOf, ◌≡◌, ℕ, ◌+◌, ◌*◌, ◌≤◌, Ok, IfOk, IfSome, IsSomeAnd, OnOk, IsTrue, false, true};
 ghost use Rattle.ktm_base.specs.declared.limits.TheConstants.{LEAST_UNITS, MOST_UNITS};
 ghost use Rattle.ktm_base.specs.Bytes.{AreBytes};
 ghost use Rattle.ktm_log.specs.Log.{payloads_in};
 ghost use Rattle.ktm_log.specs.OnDisk.{on};
 ghost use Rattle.ktm_world.specs.Durable.{after_events, empty_state, events_apply};
-ghost use Rattle.ktm_forms.specs.Built.{is_built_group};
 ghost use Rattle.ktm_world.specs.Logs.{Group};
+ghost use Rattle.ktm_records.specs.Spelling.{AreRecordedTexts};
 ghost use Rattle.ktm_states.specs.GoodState.{IsGoodState};
 ghost use Rattle.ktm_types.specs.EventGrammar.{IsGroupOf};
 ghost use Rattle.ktm_journal.specs.Image.{IsFormatted, IsHeaded};
@@ -21,6 +21,7 @@ use ktm_base::{Disk, NoMemory};
 use ktm_event::{EventFault, read_group};
 use ktm_journal::{Header, Journal, LoadFault};
 use ktm_log::{first_payload, frame_len};
+use ktm_records::law_of_spelling;
 use ktm_states::{law_of_good_states, law_of_grammar};
 use std::alloc::Global;
 
@@ -31,9 +32,9 @@ pub struct Loaded {
     pub state: Durable,
 }
 
-// Makes of the state what a payload says, if it is a built group that applies.
+// Makes of the state what a payload says, if it is a group that applies.
 fn apply(alloc: Global, state: &mut Durable, payload: &[u8]) -> Result<bool, NoMemory>
-    ensures good { result ≡ Ok true → (events : Group) × IsGroupOf events payload.now × IsTrue (is_built_group events && events_apply state.old events) × (state.new ≡ after_events state.old events) }
+    ensures good { result ≡ Ok true → (events : Group) × IsGroupOf events payload.now × IsTrue (events_apply state.old events) × (state.new ≡ after_events state.old events) }
     ensures bad { result ≡ Ok false → IsBadPayload state.old payload.now }
 {
     match read_group(alloc, payload) {
@@ -50,6 +51,7 @@ fn replay(alloc: Global, header: Header, bytes: &[u8], state: &mut Durable) -> R
     requires empty { state.old ≡ empty_state header.units header.image }
     ensures good { OnOk result (ComesTo header.units header.image (payloads_in bytes.now) state.new) }
     ensures sound { OnOk result (IsGoodState state.new) }
+    ensures texts { OnOk result (AreRecordedTexts state.new) }
     ensures read { AreBytes bytes.now }
     ensures bad { (offset : ℕ) → IsErrOf result (LoadFault.Bad offset) → IsFirstBad header.units header.image (payloads_in bytes.now) offset }
     ensures up { load_went_down result ≡ false }
@@ -64,6 +66,7 @@ fn replay(alloc: Global, header: Header, bytes: &[u8], state: &mut Durable) -> R
     }
     law_of_grammar();
     law_of_good_states();
+    law_of_spelling();
     Ok(())
 }
 
@@ -116,7 +119,10 @@ fn load_log<D: Disk>(
             journal.count_from(state.events());
             Ok(Loaded { journal, state })
         }
-        Err(fault) => Err(fault),
+        Err(fault) => {
+            drop(state);
+            Err(fault)
+        }
     }
 }
 

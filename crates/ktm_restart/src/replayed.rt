@@ -1,34 +1,39 @@
 // The durable state in memory while a log is read, and what each event makes of it.
-ghost use Rattle.std.specs.Prelude.{◌≡◌, ◌&&◌, ◌+◌, ◌^◌, ◌<◌, ◌≤◌, [], ◌∷◌, Ok, None, Some, not, false, true, IfOk, IsOk, OnOk, is_none, length, nat_eq, nat_le, nat_lt, sum_by};
-ghost use Rattle.std.specs.List.{flat_map, list_all};
+ghost use Rattle.std.specs.Prelude.{◌≡◌, ◌&&◌, ◌+◌, ◌^◌, ◌<◌, ◌≤◌, [], ◌∷◌, Ok, None, Some, not, false, true, IfOk, IsOk, OnErr, OnOk, is_none, if◌then◌else◌, length, nat_eq, nat_le, nat_lt, sum_by};
+ghost use Rattle.std.specs.List.{flat_map, list_all, list_any};
 ghost use Rattle.ktm_types.specs.declared.event.Event.{Event as Recording};
 ghost use Rattle.ktm_types.specs.declared.event.Event.TheVariants.{Boot, MadeRm, Plain, Ready, Single, Held, Decide, Undo, Done};
+ghost use Rattle.ktm_base.specs.declared.id.Id.{Id as Number};
 ghost use Rattle.ktm_base.specs.declared.limits.TheConstants.{MOST_LIVE};
-ghost use Rattle.ktm_forms.specs.Built.{is_built_group};
 ghost use Rattle.ktm_world.specs.Changes.{changes_apply, changed_all, has_changes};
-ghost use Rattle.ktm_world.specs.Durable.{after_event, after_events, are_recorded_changes, empty_state, event_applies, events_apply, fact_of, has_changes_part, has_settings_part, is_new_enlistment, is_new_in, is_within_limits, may_get_ready, next_after_all, part_applies, recorded_at, recorded_or_new, with_committed, with_part};
+ghost use Rattle.ktm_world.specs.Durable.{after_event, after_events, are_recorded_changes, empty_state, event_applies, events_apply, fact_of, has_changes_part, has_settings_part, has_undone, is_new_enlistment, is_new_in, is_ready, is_within_limits, may_get_ready, next_after_all, part_applies, recorded_at, recorded_changes_apply, recorded_or_new, settings_apply, stage_passes, with_committed, with_part};
+ghost use Rattle.ktm_world.specs.Holds.{holds_by};
 ghost use Rattle.ktm_world.specs.Keys.{are_good_settings, stored_all};
-ghost use Rattle.ktm_world.specs.Tree.{bytes_or_none, units_of};
+ghost use Rattle.ktm_world.specs.Transactions.{same_id};
+ghost use Rattle.ktm_world.specs.Tree.{IsWellFormed, bytes_or_none, units_of};
 ghost use Rattle.ktm_world.specs.World.{own_events, own_group};
 ghost use Rattle.ktm_restart.specs.Replayed.{CanChange, CanCommit, CanTake, CanTakePart, Takes};
-ghost use Rattle.ktm_restart.specs.Waiting.{committed, may_come, none_waits_but, passes_units};
+ghost use Rattle.ktm_restart.specs.Waiting.{AreKept, AreSpared, committed, others_change, passes_units};
 ghost use Rattle.txf_durable.specs.State.{CanMake, CanMakeAll};
+ghost use Rattle.txf_reserve.specs.ReserveState.{IsSameHold, holds_in};
 ghost use Rattle.txf_tree.specs.TreeState.{tree_of, versions_of};
 
 use crate::amounts::{Amounts, have_room, limits, without};
+use crate::beside::{others_change, others_set};
 use crate::durable::DurableParts;
 use crate::managers::Managers;
 use crate::own::first_own;
-use crate::parts::changes_in;
+use crate::parts::{changes_in, is_ready};
 use crate::table::Table;
 use ktm_base::{Bytes, Id, MOST_INFORMATION_BYTES, MOST_LIVE, NoMemory, UNIT_BYTES};
-use ktm_forms::is_built_group;
 use ktm_keyed::KeyedList;
 use ktm_types::{Change, DonePart, Event, Part, Setting, Superior};
 use ktm_world::{Recorded, are_good_settings, make_all};
 use std::alloc::Global;
 use std::marker::Model;
-use txf_durable::{DurableFiles, FileNumbers, are_recorded_changes};
+use std::mem::replace;
+use txf_durable::{DurableFiles, FileNumbers, Waiting, are_recorded_changes};
+use txf_laws::law_of_lists;
 use txf_tree::bytes_in;
 
 /// The most events that an image may ever record.
@@ -47,6 +52,8 @@ pub(crate) struct Replayed {
     managers: Managers,
     // The changes and the settings that wait are in the parts of their transactions, as they came.
     transactions: Table,
+    // What these changes hold of the files.
+    waiting: Waiting,
     // The files that a transaction writes, while its changes are tested.
     written: FileNumbers,
 }
@@ -75,9 +82,9 @@ impl Model for Replayed {
       written = s.written;
     } };
 
-    ghost use Rattle.ktm_restart.specs.Waiting.{AreKept};
+    ghost use Rattle.ktm_restart.specs.Waiting.{AreHeld};
 
-    ghost invariant = { λ s. AreKept (tree_of s.files.tree) s.transactions.transactions };
+    ghost invariant = { λ s. AreHeld s.waiting (tree_of s.files.tree) s.transactions.transactions };
 }
 
 // Would the change leave its file longer than all units of the image together: it is then refused before memory is taken for
@@ -97,6 +104,66 @@ fn passes_units(units: u32, change: &Change) -> bool
     }
 }
 
+// A transaction that is ready, and neither held nor decided, holds nothing from now on.
+fn release_if_ready(waiting: &mut Waiting, transaction: &Recorded)
+    ensures { (id : Number) → IsSameHold (holds_in waiting.new id) (if same_id transaction.now.id id && is_ready transaction.now.stage then holds_by [] [] [] else holds_in waiting.old id) }
+{
+    if is_ready(transaction.stage) {
+        waiting.release(transaction.id);
+    }
+}
+
+// Those of the transactions that are ready hold nothing from now on.
+fn release_ready(waiting: &mut Waiting, transactions: &[Recorded])
+    ensures { (id : Number) → IsSameHold (holds_in waiting.new id) (if list_any (λ t. same_id t.id id && is_ready t.stage) transactions.now then holds_by [] [] [] else holds_in waiting.old id) }
+{
+    for t in transactions {
+        release_if_ready(waiting, t);
+    }
+}
+
+// A transaction that had these changes holds nothing from now on.
+fn release_changes(waiting: &mut Waiting, transaction: Id, changes: &[Change])
+    requires { changes.now ≡ [] → IsSameHold (holds_in waiting.old transaction) (holds_by [] [] []) }
+    ensures { (id : Number) → IsSameHold (holds_in waiting.new id) (if same_id id transaction then holds_by [] [] [] else holds_in waiting.old id) }
+{
+    if !changes.is_empty() {
+        waiting.release(transaction);
+    }
+}
+
+// What waits is forgotten.
+fn forget(alloc: Global, waiting: &mut Waiting, transactions: &mut Table)
+    ensures waiting { (id : Number) → IsSameHold (holds_in waiting.new id) (holds_by [] [] []) }
+    ensures transactions { transactions.new.transactions ≡ [] }
+{
+    drop(replace(waiting, Waiting::new(alloc)));
+    transactions.clear();
+}
+
+// A transaction, which holds nothing, holds what its changes hold, or still nothing, where memory is wanted.
+fn hold_changes(
+    waiting: &mut Waiting,
+    files: &DurableFiles,
+    transaction: Id,
+    changes: &[Change],
+) -> Result<(), NoMemory>
+    requires recorded { has_changes changes.now ≡ true → are_recorded_changes changes.now ≡ true }
+    requires apply { changes_apply (tree_of files.now.tree) changes.now ≡ true }
+    requires none { has_changes changes.now ≡ true → IsSameHold (holds_in waiting.old transaction) (holds_by [] [] []) }
+    ensures ok { OnOk result ((id : Number) → IsSameHold (holds_in waiting.new id) (if has_changes changes.now && same_id id transaction then holds_by (tree_of files.now.tree) changes.now [] else holds_in waiting.old id)) }
+    ensures err { OnErr result ((id : Number) → IsSameHold (holds_in waiting.new id) (holds_in waiting.old id)) }
+{
+    if changes.is_empty() {
+        return Ok(());
+    }
+    if let Err(NoMemory) = waiting.hold(files, transaction, changes) {
+        waiting.release(transaction);
+        return Err(NoMemory);
+    }
+    Ok(())
+}
+
 impl Replayed {
     // The state of an image that was just formatted.
     pub(crate) fn empty(alloc: Global, units: u32, image: u16) -> Self
@@ -112,6 +179,7 @@ impl Replayed {
             keys: KeyedList::new(alloc),
             managers: Managers::new(alloc),
             transactions: Table::new(alloc),
+            waiting: Waiting::new(alloc),
             written: FileNumbers::new(alloc),
         }
     }
@@ -166,8 +234,10 @@ impl Replayed {
             keys,
             managers,
             transactions,
+            waiting,
             ..
         } = self;
+        drop(waiting);
         DurableParts {
             files: files.into_parts(),
             keys,
@@ -218,6 +288,7 @@ impl Replayed {
         ensures { self.new.state ≡ fact_of self.old.state (Boot boot) }
     {
         self.boots = boot;
+        release_ready(&mut self.waiting, self.transactions.as_slice());
         self.transactions.forget_ready();
     }
 
@@ -244,9 +315,33 @@ impl Replayed {
         Ok(true)
     }
 
+    // What waits is kept, and the files are well formed.
+    fn law_of_kept(&self)
+        ensures kept { AreKept self.now.state.tree self.now.state.transactions }
+        ensures formed { IsWellFormed self.now.state.tree }
+    {
+        self.files.law_of_forms();
+    }
+
+    // Does another transaction wait with changes.
+    fn others_change(&self, who: Option<Id>) -> bool
+        ensures { result ≡ others_change who self.now.state.transactions }
+    {
+        others_change(self.transactions.as_slice(), who)
+    }
+
+    // Does a change, if it applies, meet nothing that a transaction holds.
+    fn is_free(&self, change: &Change) -> bool
+        ensures { (result && (changes_apply self.now.state.tree (change.now ∷ []) && list_all (is_new_in self.now.state.tree) (change.now ∷ []))) ≡ recorded_changes_apply self.now.state None (change.now ∷ []) }
+    {
+        if !self.others_change(None) {
+            return true;
+        }
+        self.files.tree().applies(change) && !self.waiting.meets_one(&self.files, change)
+    }
+
     // A plain call changed the files. One that would leave its file too long is refused before memory is taken for it.
     fn change_plainly(&mut self, change: Change) -> Result<bool, NoMemory>
-        requires { none_waits_but None self.old.state.transactions ≡ true }
         ensures takes { IfOk result (λ taken. Takes self.old.state (Plain change) taken self.new.state) }
         ensures enough { CanMake self.old.files change → IsOk result }
     {
@@ -258,12 +353,62 @@ impl Replayed {
 
     // Commits one change, if it applies.
     fn commit_change(&mut self, change: Change) -> Result<bool, NoMemory>
-        requires { none_waits_but None self.old.state.transactions ≡ true }
+        ensures applies { IfOk result (λ applied. applied ≡ recorded_changes_apply self.old.state None (change ∷ [])) }
+        ensures after { result ≡ Ok true → self.new.state ≡ with_committed self.old.state (change ∷ []) [] }
+        ensures enough { CanMake self.old.files change → IsOk result }
+    {
+        if !self.is_free(&change) {
+            return Ok(false);
+        }
+        self.law_of_kept();
+        self.make_one(change)
+    }
+
+    // Makes a change that meets nothing, if it applies. Where it is not made, the files are of no use, and what waits is forgotten.
+    fn make_one(&mut self, change: Change) -> Result<bool, NoMemory>
+        requires { changes_apply self.old.state.tree (change ∷ []) ≡ true → list_all (is_new_in self.old.state.tree) (change ∷ []) ≡ true
+            → AreSpared self.old.state.tree self.old.state.transactions (change ∷ []) }
         ensures applies { IfOk result (λ applied. applied ≡ (changes_apply self.old.state.tree (change ∷ []) && list_all (is_new_in self.old.state.tree) (change ∷ []))) }
         ensures after { result ≡ Ok true → self.new.state ≡ with_committed self.old.state (change ∷ []) [] }
         ensures enough { CanMake self.old.files change → IsOk result }
     {
-        self.files.commit_one(change)
+        law_of_lists();
+        self.law_of_kept();
+        match self.files.commit_one(change) {
+            Ok(true) => Ok(true),
+            Ok(false) => {
+                forget(self.alloc, &mut self.waiting, &mut self.transactions);
+                Ok(false)
+            }
+            Err(NoMemory) => {
+                forget(self.alloc, &mut self.waiting, &mut self.transactions);
+                Err(NoMemory)
+            }
+        }
+    }
+
+    // Makes changes that meet nothing in the same way.
+    fn make_all(&mut self, changes: Vec<Change>) -> Result<bool, NoMemory>
+        requires { changes_apply self.old.state.tree changes.items ≡ true → list_all (is_new_in self.old.state.tree) changes.items ≡ true
+            → AreSpared self.old.state.tree self.old.state.transactions changes.items }
+        ensures applies { IfOk result (λ applied. applied ≡ (changes_apply self.old.state.tree changes.items && list_all (is_new_in self.old.state.tree) changes.items)) }
+        ensures after { result ≡ Ok true → self.new.state ≡ with_committed self.old.state changes.items [] }
+        ensures keys { result ≡ Ok true → self.new.keys ≡ self.old.keys }
+        ensures enough { CanMakeAll self.old.files changes.items → IsOk result }
+    {
+        law_of_lists();
+        self.law_of_kept();
+        match self.files.commit(changes) {
+            Ok(true) => Ok(true),
+            Ok(false) => {
+                forget(self.alloc, &mut self.waiting, &mut self.transactions);
+                Ok(false)
+            }
+            Err(NoMemory) => {
+                forget(self.alloc, &mut self.waiting, &mut self.transactions);
+                Err(NoMemory)
+            }
+        }
     }
 
     // Takes the memory for the numbers of the files that so many changes write.
@@ -294,26 +439,74 @@ impl Replayed {
         transaction.boot == self.boots && self.transactions.get(transaction).is_none()
     }
 
+    // Do changes that apply meet what another transaction holds.
+    fn meet_others(&self, who: Option<Id>, changes: &[Change]) -> Result<bool, NoMemory>
+        requires recorded { are_recorded_changes changes.now ≡ true }
+        requires apply { changes_apply self.now.state.tree changes.now ≡ true }
+        requires new { list_all (is_new_in self.now.state.tree) changes.now ≡ true }
+        ensures { IfOk result (λ met. recorded_changes_apply self.now.state who changes.now ≡ not met) }
+    {
+        if !self.others_change(who) {
+            return Ok(false);
+        }
+        self.waiting.meets(&self.files, who, changes)
+    }
+
+    // Would recorded changes apply beside what others hold. None is made.
+    fn would_apply(&self, who: Option<Id>, changes: &[Change]) -> Result<bool, NoMemory>
+        requires { are_recorded_changes changes.now ≡ true }
+        ensures { IfOk result (λ apply. apply ≡ recorded_changes_apply self.now.state who changes.now) }
+    {
+        if !self.files.would_apply(self.alloc, changes)? {
+            return Ok(false);
+        }
+        Ok(!self.meet_others(who, changes)?)
+    }
+
+    // Do recorded changes, if they apply, meet nothing that another transaction holds. While none waits with changes, they are not tried.
+    fn are_free(&self, who: Option<Id>, changes: &[Change]) -> Result<bool, NoMemory>
+        requires { are_recorded_changes changes.now ≡ true }
+        ensures free { IfOk result (λ free. (free && (changes_apply self.now.state.tree changes.now && list_all (is_new_in self.now.state.tree) changes.now)) ≡ recorded_changes_apply self.now.state who changes.now) }
+        ensures enough { others_change who self.now.state.transactions ≡ false → IsOk result }
+    {
+        if !self.others_change(who) {
+            return Ok(true);
+        }
+        self.would_apply(who, changes)
+    }
+
     // Commits changes, if they have the form in which they are recorded, and apply.
-    fn commit_changes(&mut self, changes: Vec<Change>) -> Result<bool, NoMemory>
-        requires { none_waits_but None self.old.state.transactions ≡ true }
-        ensures applies { IfOk result (λ applied. applied ≡ (are_recorded_changes changes.items && (changes_apply self.old.state.tree changes.items && list_all (is_new_in self.old.state.tree) changes.items))) }
+    fn commit_changes(&mut self, transaction: Id, changes: Vec<Change>) -> Result<bool, NoMemory>
+        requires { recorded_at self.old.state.transactions transaction ≡ None }
+        ensures applies { IfOk result (λ applied. applied ≡ (are_recorded_changes changes.items && recorded_changes_apply self.old.state (Some transaction) changes.items)) }
         ensures after { result ≡ Ok true → self.new.state ≡ with_committed self.old.state changes.items [] }
         ensures enough { CanChange self.old changes.items → IsOk result }
     {
         if !self.are_recorded(&changes)? {
             return Ok(false);
         }
-        self.files.commit(changes)
+        if !self.are_free(Some(transaction), &changes)? {
+            return Ok(false);
+        }
+        self.law_of_kept();
+        self.make_all(changes)
     }
 
-    // Commits settings, if they are good ones.
-    fn commit_settings(&mut self, settings: Vec<Setting>) -> Result<bool, NoMemory>
-        ensures applies { IfOk result (λ applied. applied ≡ are_good_settings settings.items) }
+    // Are settings good ones, and does no other transaction set or unset one of their keys.
+    fn settings_apply(&self, who: Option<Id>, settings: &[Setting]) -> bool
+        ensures { result ≡ (are_good_settings settings.now && settings_apply self.now.state who settings.now) }
+    {
+        self.law_of_kept();
+        are_good_settings(settings) && !others_set(self.transactions.as_slice(), who, settings)
+    }
+
+    // Commits settings, if they are good ones that no other transaction sets.
+    fn commit_settings(&mut self, transaction: Id, settings: Vec<Setting>) -> Result<bool, NoMemory>
+        ensures applies { IfOk result (λ applied. applied ≡ (are_good_settings settings.items && settings_apply self.old.state (Some transaction) settings.items)) }
         ensures after { result ≡ Ok true → self.new.state ≡ with_committed self.old.state [] settings.items }
         ensures enough { length settings.items ≤ self.old.keys → IsOk result }
     {
-        if !are_good_settings(&settings) {
+        if !self.settings_apply(Some(transaction), &settings) {
             return Ok(false);
         }
         self.keys.reserve(settings.len())?;
@@ -323,7 +516,6 @@ impl Replayed {
 
     // A transaction commits its one part.
     fn commit_part(&mut self, transaction: Id, part: Part) -> Result<bool, NoMemory>
-        requires { none_waits_but None self.old.state.transactions ≡ true }
         ensures takes { IfOk result (λ taken. Takes self.old.state (Single transaction part) taken self.new.state) }
         ensures enough { CanTakePart self.old part → IsOk result }
     {
@@ -331,8 +523,8 @@ impl Replayed {
             return Ok(false);
         }
         match part {
-            Part::Changes(changes) => self.commit_changes(changes.into_vec()),
-            Part::Settings(settings) => self.commit_settings(settings.into_vec()),
+            Part::Changes(changes) => self.commit_changes(transaction, changes.into_vec()),
+            Part::Settings(settings) => self.commit_settings(transaction, settings.into_vec()),
             Part::Enlistment { .. } => Ok(false),
         }
     }
@@ -356,8 +548,7 @@ impl Replayed {
 
     // May the changes wait: they are the first of their transaction, have the form in which they are recorded, and apply.
     fn may_wait(&mut self, transaction: Id, changes: &[Change]) -> Result<bool, NoMemory>
-        ensures may { IfOk result (λ may. may ≡ (not (has_changes_part (recorded_or_new self.old.state.transactions transaction)) && are_recorded_changes changes.now
-            && (changes_apply self.old.state.tree changes.now && list_all (is_new_in self.old.state.tree) changes.now))) }
+        ensures may { IfOk result (λ may. may ≡ (not (has_changes_part (recorded_or_new self.old.state.transactions transaction)) && are_recorded_changes changes.now && recorded_changes_apply self.old.state (Some transaction) changes.now)) }
         ensures state { self.new.state ≡ self.old.state }
     {
         if self.transactions.has_part_of(transaction, DonePart::Files)
@@ -365,19 +556,19 @@ impl Replayed {
         {
             return Ok(false);
         }
-        self.files.would_apply(self.alloc, changes)
+        self.would_apply(Some(transaction), changes)
     }
 
-    // May the settings wait: they are the first of their transaction, and good ones.
+    // May the settings wait: they are the first of their transaction, and good ones that no other sets.
     fn may_set(&self, transaction: Id, settings: &[Setting]) -> bool
-        ensures { result ≡ (not (has_settings_part (recorded_or_new self.now.state.transactions transaction)) && are_good_settings settings.now) }
+        ensures { result ≡ (not (has_settings_part (recorded_or_new self.now.state.transactions transaction)) && are_good_settings settings.now && settings_apply self.now.state (Some transaction) settings.now) }
     {
-        !self.transactions.has_part_of(transaction, DonePart::Keys) && are_good_settings(settings)
+        !self.transactions.has_part_of(transaction, DonePart::Keys)
+            && self.settings_apply(Some(transaction), settings)
     }
 
     // Does a part of a transaction apply.
     fn part_applies(&mut self, transaction: Id, part: &Part) -> Result<bool, NoMemory>
-        requires { may_come self.old.state (Ready transaction part.now) ≡ true }
         ensures applies { IfOk result (λ applies. applies ≡ part_applies self.old.state transaction part.now) }
         ensures state { self.new.state ≡ self.old.state }
     {
@@ -392,20 +583,28 @@ impl Replayed {
         }
     }
 
-    // The transaction has one part more, whose changes apply. For want of memory the transaction is lost.
+    // The transaction, which is ready, has one part more that applies. For want of memory it may be lost.
     fn add_part(&mut self, transaction: Id, part: Part) -> Result<(), NoMemory>
-        requires come { may_come self.old.state (Ready transaction part) ≡ true }
+        requires ready { may_get_ready self.old.state transaction ≡ true }
         requires applies { part_applies self.old.state transaction part ≡ true }
         ensures { OnOk result (self.new.state ≡ with_part self.old.state transaction part) }
     {
+        hold_changes(
+            &mut self.waiting,
+            &self.files,
+            transaction,
+            changes_in(&part),
+        )?;
         self.files.give_numbers(changes_in(&part));
-        self.transactions.add_part(self.alloc, transaction, part)?;
+        if let Err(NoMemory) = self.transactions.add_part(self.alloc, transaction, part) {
+            self.waiting.release(transaction);
+            return Err(NoMemory);
+        }
         Ok(())
     }
 
     // A participant of a transaction is prepared.
     fn get_ready(&mut self, transaction: Id, part: Part) -> Result<bool, NoMemory>
-        requires { may_come self.old.state (Ready transaction part) ≡ true }
         ensures { IfOk result (λ taken. Takes self.old.state (Ready transaction part) taken self.new.state) }
     {
         if !self.may_get_ready(transaction) || !self.part_applies(transaction, &part)? {
@@ -428,7 +627,10 @@ impl Replayed {
         {
             return Ok(false);
         }
-        self.transactions.hold(self.alloc, transaction, superior)?;
+        if let Err(NoMemory) = self.transactions.hold(self.alloc, transaction, superior) {
+            self.waiting.release(transaction);
+            return Err(NoMemory);
+        }
         Ok(true)
     }
 
@@ -436,12 +638,12 @@ impl Replayed {
     fn commit(&mut self, changes: Vec<Change>, settings: Vec<Setting>) -> Result<bool, NoMemory>
         requires apply { changes_apply self.old.state.tree changes.items ≡ true }
         requires new { list_all (is_new_in self.old.state.tree) changes.items ≡ true }
-        requires waits { has_changes changes.items ≡ true → none_waits_but None self.old.state.transactions ≡ true }
+        requires spared { AreSpared self.old.state.tree self.old.state.transactions changes.items }
         ensures after { IfOk result (λ all. (all ≡ true) × (self.new.state ≡ with_committed self.old.state changes.items settings.items)) }
         ensures enough { CanMakeAll self.old.files changes.items → length settings.items ≤ self.old.keys → IsOk result }
     {
         self.keys.reserve(settings.len())?;
-        if !self.files.commit(changes)? {
+        if !self.make_all(changes)? {
             return Ok(false);
         }
         make_all(&mut self.keys, settings);
@@ -457,6 +659,7 @@ impl Replayed {
             return Ok(false);
         }
         let (changes, settings) = self.transactions.decide(self.alloc, transaction);
+        release_changes(&mut self.waiting, transaction, &changes);
         self.commit(changes, settings)
     }
 
@@ -468,11 +671,13 @@ impl Replayed {
             return false;
         }
         self.transactions.forget(transaction);
+        self.waiting.release(transaction);
         true
     }
 
-    // A participant of a transaction is done.
+    // A participant of a decided transaction is done, which it was not.
     fn finish_part(&mut self, transaction: Id, done: DonePart)
+        requires { stage_passes self.old.state transaction (has_undone done) ≡ true }
         ensures { self.new.state ≡ fact_of self.old.state (Done transaction done) }
     {
         self.transactions.finish(transaction, done);
@@ -491,7 +696,6 @@ impl Replayed {
 
     // Makes of the state what an event makes of it, if it applies but for the limits, and does not count it.
     fn take(&mut self, event: Event) -> Result<bool, NoMemory>
-        requires { may_come self.old.state event ≡ true }
         ensures takes { IfOk result (λ taken. Takes self.old.state event taken self.new.state) }
         ensures enough { CanTake self.old event → IsOk result }
     {
@@ -529,9 +733,8 @@ impl Replayed {
     }
 
     /// Applies an event. It answers false where the event does not apply; the state is then of no use, as it is where memory is
-    /// wanted. An event that is tested against what other transactions hold comes only while these hold nothing.
+    /// wanted.
     pub(crate) fn apply(&mut self, event: Event) -> Result<bool, NoMemory>
-        requires { may_come self.old.state event ≡ true }
         ensures applies { IfOk result (λ applied. applied ≡ event_applies self.old.state event) }
         ensures after { result ≡ Ok true → self.new.state ≡ after_event self.old.state event }
         ensures enough { CanTake self.old event → IsOk result }
@@ -543,20 +746,13 @@ impl Replayed {
         Ok(self.is_within())
     }
 
-    /// Applies a group of events, one after another, before which nothing waits. It answers false where the group is not built
-    /// or does not apply; the state is then of no use, as it is where memory is wanted. A group that is not built wants none.
+    /// Applies a group of events, one after another. It answers false where the group does not apply; the state is then of no
+    /// use, as it is where memory is wanted.
     pub(crate) fn apply_group(&mut self, events: Vec<Event>) -> Result<bool, NoMemory>
-        requires { none_waits_but None self.old.state.transactions ≡ true }
-        ensures applies { IfOk result (λ applied. applied ≡ (is_built_group events.items && events_apply self.old.state events.items)) }
+        ensures applies { IfOk result (λ applied. applied ≡ events_apply self.old.state events.items) }
         ensures after { result ≡ Ok true → self.new.state ≡ after_events self.old.state events.items }
-        ensures rest { result ≡ Ok true → none_waits_but None self.new.state.transactions ≡ true }
         ensures enough { (event : Recording) → events.items ≡ event ∷ [] → CanTake self.old event → IsOk result }
-        ensures refused { is_built_group events.items ≡ false → IsOk result }
     {
-        let _ = &self.alloc;
-        if !is_built_group(&events) {
-            return Ok(false);
-        }
         for event in events {
             if !self.apply(event)? {
                 return Ok(false);
@@ -572,7 +768,6 @@ impl Replayed {
         ensures none { result ≡ false → flat_map own_events self.new.state.transactions ≡ [] }
         ensures after { after_events self.new.state (flat_map own_events self.new.state.transactions) ≡ after_events self.old.state (flat_map own_events self.old.state.transactions) }
         ensures events { self.new.state.events + length (flat_map own_events self.new.state.transactions) ≡ self.old.state.events + length (flat_map own_events self.old.state.transactions) }
-        ensures rest { none_waits_but None self.old.state.transactions ≡ true → none_waits_but None self.new.state.transactions ≡ true }
     {
         let Some((transaction, done)) = first_own(self.transactions.as_slice()) else {
             return false;
@@ -586,18 +781,10 @@ impl Replayed {
     pub(crate) fn begin(&mut self)
         requires boots { self.old.state.boots + 1 < 2 ^ 32 }
         requires events { self.old.state.events + length (own_group self.old.state) < 2 ^ 63 }
-        ensures after { self.new.state ≡ after_events self.old.state (own_group self.old.state) }
-        ensures rest { none_waits_but None self.old.state.transactions ≡ true → none_waits_but None self.new.state.transactions ≡ true }
+        ensures { self.new.state ≡ after_events self.old.state (own_group self.old.state) }
     {
         self.start(self.boots + 1);
         self.count();
         while self.finish_first() {}
-    }
-
-    /// Forgets all transactions that are not over.
-    pub(crate) fn forget_transactions(&mut self)
-        ensures { self.new.state.transactions ≡ [] }
-    {
-        self.transactions.clear();
     }
 }

@@ -11,7 +11,7 @@ ghost use Rattle.ktm_restart.specs.Table.{IsByRisingId, changes_at, decided_in, 
 use crate::managers::is_before;
 use crate::parts::{
     finish, has_part, has_part_of, has_undone_part, has_undone_part_of, is_decided, is_held,
-    take_changes, take_settings,
+    is_ready, take_changes, take_settings,
 };
 use ktm_base::{Id, NoMemory};
 use ktm_types::{Change, DonePart, Part, RecordedPart, Setting, Stage, Superior};
@@ -39,15 +39,6 @@ impl Model for Table {
     ghost use Rattle.ktm_restart.specs.Table.{IsByRisingId};
 
     ghost invariant = { λ t. IsByRisingId t.items.items };
-}
-
-fn is_ready(stage: Stage) -> bool
-    ensures { result ≡ is_ready stage }
-{
-    match stage {
-        Stage::Ready => true,
-        Stage::Held | Stage::Decided => false,
-    }
 }
 
 // The index of the transaction with this Id.

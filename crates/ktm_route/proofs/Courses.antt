@@ -6,9 +6,9 @@ use Rattle.ktm_base.specs.declared.id.Id.{Id}
 use Rattle.ktm_base.specs.declared.id.Label.{Label}
 use Rattle.ktm_base.specs.declared.id.Pid.{Pid}
 use Rattle.ktm_base.specs.declared.refusal.Refusal.TheVariants.{LogFull, TransactionAlreadyAborted, TransactionAlreadyCommitted}
-use Rattle.ktm_built.specs.Laws.{FilesLaw, SpelledLaw}
-use Rattle.ktm_built.specs.Standing.{IsStandingNow}
-use Rattle.ktm_built.proofs.offered.Named.{named_law}
+use Rattle.ktm_standing.specs.Laws.{FilesLaw, SpelledLaw}
+use Rattle.ktm_standing.specs.Standing.{IsStandingNow}
+use Rattle.ktm_standing.proofs.offered.Named.{named_law}
 use Rattle.ktm_course.specs.Moved.{is_commit}
 use Rattle.ktm_event.specs.Spelling.{IsSpellableEvent}
 use Rattle.ktm_memory.specs.Routed.{IsReadyCourse, course_to, outcome_of, reply_to}

@@ -10,7 +10,7 @@ use Rattle.ktm_base.specs.declared.id.Label.{Label}
 use Rattle.ktm_base.specs.declared.id.Pid.{Pid}
 use Rattle.ktm_base.specs.declared.limits.TheConstants.{MOST_INFORMATION_BYTES}
 use Rattle.ktm_base.specs.declared.refusal.Refusal.{Refusal}
-use Rattle.ktm_base.specs.declared.refusal.Refusal.TheVariants.{EnlistmentNotFound, InvalidHandle, InvalidParameter, TransactionRequestNotValid, TransactionSuperiorExists}
+use Rattle.ktm_base.specs.declared.refusal.Refusal.TheVariants.{EnlistmentNotFound, EnlistmentNotSuperior, InvalidHandle, InvalidParameter, TransactionRequestNotValid, TransactionSuperiorExists}
 use Rattle.ktm_types.specs.Values.{IsCommand}
 use Rattle.ktm_types.specs.declared.command.Command.{Command}
 use Rattle.ktm_types.specs.declared.command.Command.TheVariants.{CommitComplete, CreateEnlistment, GetEnlistmentRecoveryInformation, OpenEnlistment, PrePrepareComplete, PrepareComplete, ReadOnlyEnlistment, RecoverEnlistment, RollbackComplete, RollbackEnlistment, SetEnlistmentRecoveryInformation, SinglePhaseReject}
@@ -50,14 +50,15 @@ use Rattle.ktm_courses.proofs.offered.Calls.{enlistment-named, transaction_at-fo
 use Rattle.ktm_courses.proofs.offered.EnlistmentAnswers.{answer_in, is-aborting, is-committing, is-pre_preparing, is-preparing, phase-owing}
 use Rattle.ktm_courses.proofs.offered.Moves.{find-found, same-by_id}
 use Rattle.ktm_courses.proofs.offered.Outcomes.{known-in}
-use Rattle.ktm_phase.specs.Calls.{CallsLaw, ComesTo, Names, refusal_in, reply_call}
+use Rattle.ktm_phase.specs.Calls.{CallsLaw, ComesTo, Names, refusal_in, reply_call, superior_call}
 use Rattle.ktm_phase.specs.Coming.{ComingLaw, IsOwedIn, is_asked_in}
-use Rattle.ktm_phase.specs.Replies.{allows, if_allowed, input_of, may_recover as may_recover_in, may_set_information, recovered, replied}
+use Rattle.ktm_phase.specs.Replies.{allows, commanded, if_allowed, input_by, input_of, lets, may_recover as may_recover_in, may_set_information, recovered, replied}
 use Rattle.ktm_phase.specs.declared.enlistment.Vote.{Vote}
-use Rattle.ktm_built.specs.Laws.{FilesLaw, SpelledLaw}
-use Rattle.ktm_built.specs.Standing.{IsStandingNow}
-use Rattle.ktm_built.proofs.offered.Found.{found_again}
-use Rattle.ktm_built.proofs.offered.Named.{named_law}
+use Rattle.ktm_phase.specs.declared.superior.SuperiorCall.{SuperiorCall}
+use Rattle.ktm_standing.specs.Laws.{FilesLaw, SpelledLaw}
+use Rattle.ktm_standing.specs.Standing.{IsStandingNow}
+use Rattle.ktm_standing.proofs.offered.Found.{found_again}
+use Rattle.ktm_standing.proofs.offered.Named.{named_law}
 use Rattle.ktm_memory.specs.Routed.{IsReadyCourse, course_to, reply_to}
 use Rattle.ktm_memory.specs.Takes.{routed_takes_memory}
 use Rattle.ktm_memory.specs.declared.routed.Routed.TheVariants.{Course, Enlist, Handles, Inform, Tell}
@@ -285,6 +286,11 @@ allowed_input : (b : Bool) (a input : PhaseInput) → if_allowed b a ≡ Ok inpu
 allowed_input true a input same = cc
 allowed_input false a input same = absurd (cc)
 
+-- and so it is where only a superior may call
+commanded_input : (above b : Bool) (a input : PhaseInput) → (if above then if_allowed b a else Err EnlistmentNotSuperior) ≡ Ok input → input ≡ a
+commanded_input true b a input same = allowed_input b a input same
+commanded_input false b a input same = absurd (cc)
+
 -- it is done, where nobody asked to commit
 done_by : (input : PhaseInput) (c : Going) → (input ≡ PhaseInput.CommitTransaction → ⊥) → Done ≡ reply_to input c
 done_by PhaseInput.CommitTransaction c unasked = absurd (unasked refl)
@@ -398,6 +404,23 @@ module _ (x : Present) (process : Pid) (up : x.machine.is_up ≡ true) where
       -- and one that is not is refused
       pub reply_refused : (vote : Vote) (refusal : Refusal) → replied t.phase e vote ≡ Err refusal → with_room x process (reply_call vote label) ≡ only_reply x (Refused refusal)
       reply_refused vote refusal is = refused_by (reply_call vote label) (replied t.phase e vote) refusal (calls.replies x process label e t vote names) is
+
+      -- so is a call of a superior
+      command_plainly : (call : SuperiorCall) → IsPlainly x process (superior_call call label) t (Some e.id) (input_by call)
+      command_plainly SuperiorCall.PrePrepare = record { early = refl; takes = refl; unasked = λ same. absurd (cc) }
+      command_plainly SuperiorCall.Prepare = record { early = refl; takes = refl; unasked = λ same. absurd (cc) }
+      command_plainly SuperiorCall.Commit = record { early = refl; takes = refl; unasked = λ same. absurd (cc) }
+
+      -- one that is allowed is the course of its transaction
+      pub commands : (call : SuperiorCall) (input : PhaseInput) → IsCommand (superior_call call label) → commanded t.phase e call ≡ Ok input → IsRouted x process (superior_call call label) (Course t (Some e.id) input)
+      commands call input is came =
+          goes files spelled (superior_call call label) is input (commanded t.phase e call) (calls.superiors x process label e t call names) came
+          (coming.superiors t.phase (told_outcome t.outcome) e call input (known-in t.phase t (stands-now x t (Some e) sound is_in).outcome) came)
+          (subst (IsPlainly x process (superior_call call label) t (Some e.id)) (sym (commanded_input (is_superior e) (lets t.phase call) (input_by call) input came)) (command_plainly call))
+
+      -- and one that is not is refused
+      pub command_refused : (call : SuperiorCall) (refusal : Refusal) → commanded t.phase e call ≡ Err refusal → with_room x process (superior_call call label) ≡ only_reply x (Refused refusal)
+      command_refused call refusal is = refused_by (superior_call call label) (commanded t.phase e call) refusal (calls.superiors x process label e t call names) is
 
       -- so is a recovery
       recovery_plainly : (above : Bool) → IsPlainly x process (RecoverEnlistment label) t (Some e.id) (if above then PhaseInput.RecoverSuperior else PhaseInput.Recover)

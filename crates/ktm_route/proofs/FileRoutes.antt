@@ -25,8 +25,8 @@ use Rattle.ktm_world.specs.Present.{Present}
 use Rattle.ktm_world.specs.TransactionCalls.{bound_test}
 use Rattle.ktm_world.specs.Uses.{file_room}
 use Rattle.ktm_records.specs.FileCallsMade.{file_call, in_caller, on_open}
-use Rattle.ktm_built.specs.Laws.{FilesLaw}
-use Rattle.ktm_built.specs.Standing.{IsStandingNow}
+use Rattle.ktm_standing.specs.Laws.{FilesLaw}
+use Rattle.ktm_standing.specs.Standing.{IsStandingNow}
 use Rattle.txf_calls.specs.Calls.{file_effect, file_outcome, file_tests, takes_memory as decision_takes_memory, unless_refused}
 use Rattle.txf_calls.specs.Fits.{MayBeUsed}
 use Rattle.txf_opens.specs.Acts.{open_of}

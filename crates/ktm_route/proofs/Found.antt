@@ -17,8 +17,8 @@ use Rattle.ktm_world.specs.Present.{Present}
 use Rattle.ktm_world.specs.TransactionCalls.{enlistment_with}
 use Rattle.ktm_world.specs.Transactions.{is_live, same_id}
 use Rattle.ktm_courses.specs.SoundCourse.{IsSoundCourse}
-use Rattle.ktm_built.specs.Laws.{LeadsTo}
-use Rattle.ktm_built.proofs.offered.Guids.{guid_law}
+use Rattle.ktm_standing.specs.Laws.{LeadsTo}
+use Rattle.ktm_standing.proofs.offered.Guids.{guid_law}
 use Rattle.ktm_route.specs.Route.{live_of}
 use Rattle.txf_laws.specs.Elements.{each_pair}
 use Rattle.txf_laws.proofs.offered.Tables.{before_other, same_id-equal, same_id-from, same_id-sym}

@@ -17,7 +17,7 @@ use Rattle.ktm_world.specs.Labels.{holds_of, is_bound, manager_named}
 use Rattle.ktm_world.specs.Outcome.{first_refusal, only_reply, refuse_or}
 use Rattle.ktm_world.specs.Present.{Present}
 use Rattle.ktm_world.specs.TransactionCalls.{create_resource_manager_tests, get_notification, handle_test, has_empty_queue, manager_with, no_manager_left, open_resource_manager, open_resource_manager_tests, open_to_manager, opened_object, quota_test, recover_resource_manager}
-use Rattle.ktm_built.proofs.offered.Named.{named_law}
+use Rattle.ktm_standing.proofs.offered.Named.{named_law}
 use Rattle.ktm_memory.specs.declared.routed.Routed.TheVariants.{Handles, MakeManager, Recover, Take}
 use Rattle.ktm_memory.specs.declared.settlement.Labels.TheVariants.{Bind}
 use Rattle.ktm_route.specs.Route.{IsRouted}

@@ -25,7 +25,7 @@ use Rattle.ktm_world.specs.HandleCalls.{duplicate_handle, duplicate_handle_tests
 use Rattle.ktm_world.specs.Handles.{object_at}
 use Rattle.ktm_world.specs.Transactions.{is_active}
 use Rattle.txf_laws.proofs.offered.Elements.{not-not}
-use Rattle.ktm_built.proofs.offered.Named.{named_law}
+use Rattle.ktm_standing.proofs.offered.Named.{named_law}
 use Rattle.ktm_owned.proofs.offered.KeysKept.{not_refused}
 use Rattle.ktm_memory.proofs.offered.Tests.{test_passes, test_refuses}
 use Rattle.ktm_memory.specs.Routed.{IsActiveCaller}

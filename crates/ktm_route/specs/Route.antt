@@ -10,7 +10,6 @@ use Rattle.ktm_types.specs.declared.object.Object.{Object}
 use Rattle.ktm_types.specs.declared.options.EnlistmentKind.{EnlistmentKind}
 use Rattle.ktm_world.specs.Enlistments.{Enlistment, is_durable_at, is_live_enlistment, superior_of}
 use Rattle.ktm_types.specs.declared.reply.Reply.TheVariants.{Refused}
-use Rattle.ktm_forms.specs.Built.{is_built_command}
 use Rattle.ktm_world.specs.Decide.{with_room}
 use Rattle.ktm_world.specs.Labels.{file_number, holds_of, invalid_handle, is_dead}
 use Rattle.ktm_world.specs.Outcome.{Outcome, first_refusal, only_reply, refuse_or, within_log}
@@ -101,7 +100,7 @@ asked_outcome x (Tick ms) = refuse_or x (first_refusal ((not x.machine.is_up, Ma
 abbrev pub decided : Present → Asked → Outcome
 decided x asked = within_log x (asked_outcome x asked)
 
--- is it built, and can it be asked
-abbrev pub IsBuiltAsked : Asked → Type 0
-IsBuiltAsked (Call process command) = IsCommand command × (is_built_command command ≡ true)
-IsBuiltAsked (Tick ms) = Unit {0}
+-- can it be asked: a call stands in a line
+abbrev pub CanBeAsked : Asked → Type 0
+CanBeAsked (Call process command) = IsCommand command
+CanBeAsked (Tick ms) = Unit {0}

@@ -1,11 +1,10 @@
 // Deciding what is asked.
 ghost use Rattle.std.specs.Prelude.{◌≡◌, ◌+◌, ◌≤◌, true, false, [], IfOk, IsOk, OnErr, is_some};
-ghost use Rattle.ktm_built.specs.Standing.{IsStandingNow};
+ghost use Rattle.ktm_standing.specs.Standing.{IsStandingNow};
 ghost use Rattle.ktm_event.specs.Kept.{Holds};
-ghost use Rattle.ktm_forms.specs.Built.{is_built_command};
 ghost use Rattle.ktm_memory.specs.Decided.{DecidesIf};
 ghost use Rattle.ktm_memory.specs.Memory.{IsRoomy, held, present_of};
-ghost use Rattle.ktm_route.specs.Route.{IsBuiltAsked, asked_outcome};
+ghost use Rattle.ktm_route.specs.Route.{CanBeAsked, asked_outcome};
 ghost use Rattle.ktm_route.specs.Takes.{asked_takes_memory, takes_memory};
 ghost use Rattle.ktm_slots.specs.Slots.{granted_in};
 ghost use Rattle.ktm_types.specs.Values.{IsCommand};
@@ -37,7 +36,6 @@ fn decide_call(
 ) -> Result<Option<Decision>, NoMemory>
     requires up { memory.old.is_up ≡ true }
     requires command { IsCommand command }
-    requires built { is_built_command command ≡ true }
     requires standing { IsStandingNow (present_of memory.old) }
     requires empty { Holds events.old [] }
     requires roomy { IsRoomy memory.old.journal events.old }
@@ -62,7 +60,7 @@ pub fn decide(
     events: &mut Events,
 ) -> Result<Option<Decision>, NoMemory>
     requires up { memory.old.is_up ≡ true }
-    requires built { IsBuiltAsked asked }
+    requires asked { CanBeAsked asked }
     requires standing { IsStandingNow (present_of memory.old) }
     requires empty { Holds events.old [] }
     requires roomy { IsRoomy memory.old.journal events.old }

@@ -1,8 +1,8 @@
 // Calls on enlistments, once their labels are known.
 ghost use Rattle.std.specs.Prelude.{◌≡◌, true, None, MatchOption};
-ghost use Rattle.ktm_built.specs.Standing.{IsStandingNow};
+ghost use Rattle.ktm_standing.specs.Standing.{IsStandingNow};
 ghost use Rattle.ktm_memory.specs.Memory.{present_of};
-ghost use Rattle.ktm_phase.specs.Calls.{Names, reply_call};
+ghost use Rattle.ktm_phase.specs.Calls.{Names, reply_call, superior_call};
 ghost use Rattle.ktm_route.specs.Route.{Routes, is_reply, kind_tests};
 ghost use Rattle.ktm_types.specs.Values.{IsCommand};
 ghost use Rattle.ktm_types.specs.declared.command.Command.TheVariants.{CreateEnlistment, GetEnlistmentRecoveryInformation, OpenEnlistment, RecoverEnlistment, SetEnlistmentRecoveryInformation};
@@ -11,9 +11,9 @@ ghost use Rattle.ktm_world.specs.Outcome.{first_refusal};
 
 use crate::labels::{active, enlistment_named, enlistment_with_guid, manager_named, object_at};
 use ktm_base::{Bytes, Id, Label, MOST_INFORMATION_BYTES, Pid, Refusal};
-use ktm_built::{law_of_files, law_of_spelled};
 use ktm_memory::{Labels, Memory, Routed};
-use ktm_phase::{Enlistment, Vote, law_of_calls, law_of_coming};
+use ktm_phase::{Enlistment, SuperiorCall, Vote, law_of_calls, law_of_coming};
+use ktm_standing::{law_of_files, law_of_spelled};
 use ktm_types::{Command, EnlistmentKind, Object, Transaction};
 use uuid::Uuid;
 
@@ -177,6 +177,35 @@ pub(crate) fn route_reply(
             to_reply(memory, process, enlistment, Vote::Rollback)
         }
         _ => unreachable!(),
+    }
+}
+
+// A call of a superior, where its transaction allows it.
+pub(crate) fn to_lead(
+    memory: &Memory,
+    process: Pid,
+    label: Label,
+    call: SuperiorCall,
+) -> Result<Routed, Refusal>
+    requires up { memory.now.is_up ≡ true }
+    requires command { IsCommand (superior_call call label) }
+    requires standing { IsStandingNow (present_of memory.now) }
+    ensures { Routes (present_of memory.now) process (superior_call call label) result }
+{
+    law_of_calls();
+    law_of_coming();
+    law_of_files();
+    law_of_spelled();
+    let Some((e, transaction)) = with_transaction(memory, process, label) else {
+        return Err(Refusal::InvalidHandle);
+    };
+    match call.step(e, transaction.phase) {
+        Ok(input) => Ok(Routed::Course {
+            transaction,
+            caller: Some(e.id),
+            input,
+        }),
+        Err(refusal) => Err(refusal),
     }
 }
 

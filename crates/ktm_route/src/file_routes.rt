@@ -1,7 +1,7 @@
 // Calls on files, once their labels are known.
 ghost use Rattle.std.specs.Prelude.{◌≡◌, true, Some, None, IfOk, IfErr, is_some};
 ghost use Rattle.ktm_base.specs.declared.refusal.Refusal.TheVariants.{InvalidParameter};
-ghost use Rattle.ktm_built.specs.Standing.{IsStandingNow};
+ghost use Rattle.ktm_standing.specs.Standing.{IsStandingNow};
 ghost use Rattle.ktm_memory.specs.Memory.{present_of};
 ghost use Rattle.ktm_route.specs.Route.{Routes, is_on_open_file, is_on_path, is_transacted};
 ghost use Rattle.ktm_memory.specs.declared.routed.Routed.TheVariants.{Files as OfFiles};
@@ -13,8 +13,8 @@ ghost use Rattle.ktm_world.specs.Outcome.{first_refusal};
 
 use crate::labels::{active, object_at, open_file};
 use ktm_base::{Id, Label, Pid, Refusal};
-use ktm_built::law_of_files;
 use ktm_memory::{Memory, Routed};
+use ktm_standing::law_of_files;
 use ktm_types::Command;
 use txf_calls::FileCall;
 

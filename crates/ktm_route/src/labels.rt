@@ -2,7 +2,7 @@
 ghost use Rattle.std.specs.Prelude.{◌≡◌, ◌∷◌, ◌&&◌, [], Some, None, IfOk, IfErr};
 ghost use Rattle.std.specs.Option.{option_and_then, option_copied, option_map};
 ghost use Rattle.ktm_base.specs.declared.refusal.Refusal.TheVariants.{HandleNoLongerValid};
-ghost use Rattle.ktm_built.specs.Standing.{IsStandingNow};
+ghost use Rattle.ktm_standing.specs.Standing.{IsStandingNow};
 ghost use Rattle.ktm_memory.specs.Memory.{present_of};
 ghost use Rattle.ktm_route.specs.Route.{live_of, source_tests};
 ghost use Rattle.ktm_world.specs.Handles.{object_at, transaction_id};

@@ -1,6 +1,6 @@
 // Calls on resource managers, once their labels are known.
 ghost use Rattle.std.specs.Prelude.{◌≡◌, true};
-ghost use Rattle.ktm_built.specs.Standing.{IsStandingNow};
+ghost use Rattle.ktm_standing.specs.Standing.{IsStandingNow};
 ghost use Rattle.ktm_memory.specs.Memory.{present_of};
 ghost use Rattle.ktm_route.specs.Route.{Routes};
 ghost use Rattle.ktm_types.specs.declared.command.Command.TheVariants.{CreateResourceManager, GetNotificationResourceManager, OpenResourceManager, RecoverResourceManager};

@@ -1,14 +1,13 @@
 // From labels to objects.
 ghost use Rattle.std.specs.Prelude.{◌≡◌, true, Some};
-ghost use Rattle.ktm_built.specs.Standing.{IsStandingNow};
+ghost use Rattle.ktm_standing.specs.Standing.{IsStandingNow};
 ghost use Rattle.ktm_memory.specs.Memory.{present_of};
 ghost use Rattle.ktm_route.specs.Route.{Routes};
 ghost use Rattle.ktm_types.specs.Values.{IsCommand};
 ghost use Rattle.ktm_types.specs.declared.command.Command.TheVariants.{CloseHandle, CommitTransaction, CreateTransaction, DuplicateHandle, GetTransactionInformation, OpenTransaction, RollbackTransaction};
-ghost use Rattle.ktm_forms.specs.Built.{is_built_command};
 
 use crate::enlistment_routes::{
-    route_reply, to_be_told, to_enlist, to_inform, to_open_enlistment, to_recover,
+    route_reply, to_be_told, to_enlist, to_inform, to_lead, to_open_enlistment, to_recover,
 };
 use crate::file_routes::{route_open, route_path, route_transacted};
 use crate::labels::{active, viewer};
@@ -18,6 +17,7 @@ use crate::transaction_routes::{
 };
 use ktm_base::{Pid, Refusal};
 use ktm_memory::{Labels, Memory, Routed};
+use ktm_phase::SuperiorCall;
 use ktm_types::Command;
 use kv_rm::KvCall;
 
@@ -25,7 +25,6 @@ use kv_rm::KvCall;
 pub(crate) fn route(memory: &Memory, process: Pid, command: Command) -> Result<Routed, Refusal>
     requires up { memory.now.is_up ≡ true }
     requires command { IsCommand command }
-    requires built { is_built_command command ≡ true }
     requires standing { IsStandingNow (present_of memory.now) }
     ensures { Routes (present_of memory.now) process command result }
 {
@@ -84,6 +83,15 @@ pub(crate) fn route(memory: &Memory, process: Pid, command: Command) -> Result<R
         | Command::RollbackComplete { .. }
         | Command::SinglePhaseReject { .. }
         | Command::RollbackEnlistment { .. } => route_reply(memory, process, command),
+        Command::PrePrepareEnlistment { enlistment } => {
+            to_lead(memory, process, enlistment, SuperiorCall::PrePrepare)
+        }
+        Command::PrepareEnlistment { enlistment } => {
+            to_lead(memory, process, enlistment, SuperiorCall::Prepare)
+        }
+        Command::CommitEnlistment { enlistment } => {
+            to_lead(memory, process, enlistment, SuperiorCall::Commit)
+        }
         Command::KvSet {
             transaction,
             key,
@@ -133,6 +141,5 @@ pub(crate) fn route(memory: &Memory, process: Pid, command: Command) -> Result<R
         | Command::RemoveDirectoryTransacted { .. }
         | Command::MoveFileTransacted { .. }
         | Command::FindFilesTransacted { .. } => { route_transacted(memory, process, command) }
-        _ => unreachable!(),
     }
 }

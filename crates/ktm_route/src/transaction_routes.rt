@@ -1,7 +1,7 @@
 // Calls on transactions and handles, once their labels are known.
 ghost use Rattle.std.specs.Prelude.{◌≡◌, true, Some, None};
 ghost use Rattle.ktm_base.specs.declared.refusal.Refusal.TheVariants.{InvalidParameter};
-ghost use Rattle.ktm_built.specs.Standing.{IsStandingNow};
+ghost use Rattle.ktm_standing.specs.Standing.{IsStandingNow};
 ghost use Rattle.ktm_memory.specs.Memory.{present_of};
 ghost use Rattle.ktm_route.specs.Route.{Routes};
 ghost use Rattle.ktm_types.specs.Values.{IsCommand};
@@ -9,8 +9,8 @@ ghost use Rattle.ktm_types.specs.declared.command.Command.TheVariants.{CloseHand
 
 use crate::labels::{active, named, object_at, source_refusal, with_guid};
 use ktm_base::{Label, Pid, Refusal};
-use ktm_built::{law_of_files, law_of_spelled};
 use ktm_memory::{Labels, Memory, Routed};
+use ktm_standing::{law_of_files, law_of_spelled};
 use ktm_tm::rollback_refusal;
 use ktm_types::{Object, PhaseInput};
 use uuid::Uuid;

@@ -23,8 +23,8 @@ pub has_reply-of : (line kept : List ℕ) → kept ≡ kept_of line → has_repl
 has_reply-of line kept is = sym (has_reply-kept line) ∙ ap has_reply (sym is)
 
 pub Means-kept : (line : List ℕ) (meant : Option Line) → Means (kept_of line) meant → Means line meant
-Means-kept line (Some x) h = let short = h.0.short in (h.0, h.1, h.2 ∙ kept_whole 140001 line (subst (λ (l : List ℕ). length l < 140001) h.2 (omega arith)))
-Means-kept line None h = λ x is built e. h x is built (e ∙ sym (kept_whole 140001 line (subst (λ (l : List ℕ). length (take 140001 l) < 140001) e (short x is))))
+Means-kept line (Some x) h = let short = h.0.short in (h.0, h.1 ∙ kept_whole 140001 line (subst (λ (l : List ℕ). length l < 140001) h.1 (omega arith)))
+Means-kept line None h = λ x is e. h x is (e ∙ sym (kept_whole 140001 line (subst (λ (l : List ℕ). length (take 140001 l) < 140001) e (short x is))))
   where
     short : (x : Line) → IsLine x → length (take 140001 (spelling x)) < 140001
     short x is = let brief = is.short in omega (arith, length-take {A = ℕ})

@@ -5,7 +5,6 @@ use Rattle.std.specs.Io.KnownBytes.{Appends, IsAtEnd}
 use Rattle.ktm_base.specs.declared.limits.TheConstants.{MOST_LINE_BYTES}
 use Rattle.ktm_reply.specs.Spelling.{reply_spelling}
 use Rattle.ktm_script.specs.Spelling.{IsLine, spelling}
-use Rattle.ktm_forms.specs.Built.{is_built}
 use Rattle.ktm_types.specs.declared.command.Line.{Line}
 use Rattle.ktm_types.specs.declared.reply.Reply.{Reply}
 
@@ -46,10 +45,10 @@ abbrev pub has_reply : List ℕ → Bool
 has_reply [] = false
 has_reply (byte ∷ bytes) = not (byte == number_sign)
 
--- the bytes spell this line, which is built, or no line that is built
+-- the bytes spell this line, or no line
 abbrev pub Means : List ℕ → Option Line → Type 0
-Means bytes (Some line) = IsLine line × (is_built line ≡ true) × (spelling line ≡ bytes)
-Means bytes None = (line : Line) → IsLine line → is_built line ≡ true → ¬ (spelling line ≡ bytes)
+Means bytes (Some line) = IsLine line × (spelling line ≡ bytes)
+Means bytes None = (line : Line) → IsLine line → ¬ (spelling line ≡ bytes)
 
 -- each of the first means its own of the second
 abbrev pub MeanAll : List (List ℕ) → List (Option Line) → Type 0

@@ -4,31 +4,16 @@ ghost use Rattle.ktm_kernel.specs.Stands.{KernelAt, IsReady};
 ghost use Rattle.ktm_log.specs.OnDisk.{on};
 ghost use Rattle.ktm_run.specs.Progress.{Answers, Unanswered};
 ghost use Rattle.ktm_run.specs.Script.{Means};
-ghost use Rattle.ktm_forms.specs.Built.{is_built_command};
 ghost use Rattle.ktm_types.specs.Values.{IsCommand};
 ghost use Rattle.ktm_world.specs.World.{World};
 ghost use Rattle.ktm_types.specs.declared.command.Line.{Line};
 ghost use Rattle.ktm_types.specs.declared.command.Line.TheVariants.{Cut, Crash, Restart, Process, Tick};
 
 use ktm_base::{Down, NoMemory, Pid, PowerDisk, Refusal};
-use ktm_forms::is_built;
 use ktm_kernel::{Kernel, law_of_power};
 use ktm_script::{LineFault, read_line};
 use ktm_types::{Command, Line, Reply};
 use std::alloc::Global;
-
-// The line that the bytes spell, where it is built.
-fn built_line(alloc: Global, line: &[u8]) -> Result<Line, LineFault>
-    ensures ok { IfOk result (λ x. Means line.now (Some x)) }
-    ensures bad { result ≡ Err LineFault.BadLine → Means line.now None }
-{
-    let line = read_line(alloc, line)?;
-    if is_built(&line) {
-        Ok(line)
-    } else {
-        Err(LineFault::BadLine)
-    }
-}
 
 // A process calls the system.
 fn call<D: PowerDisk>(
@@ -39,7 +24,6 @@ fn call<D: PowerDisk>(
 ) -> Result<Reply, NoMemory>
     requires ready { IsReady kernel.old (D.told disk.old) (D.status disk.old) }
     requires command { IsCommand command }
-    requires built { is_built_command command ≡ true }
     ensures does { IfOk result (λ reply. Answers (on kernel.old (D.told disk.old) (D.status disk.old)) (on kernel.new (D.told disk.new) (D.status disk.new)) (Some (Process process command)) reply) }
     ensures ready { OnOk result (IsReady kernel.new (D.told disk.new) (D.status disk.new)) }
     ensures no_memory { OnErr result ((line : List ℕ) (w : World) → KernelAt kernel.old (D.told disk.old) w → Unanswered w (on kernel.old (D.told disk.old) (D.status disk.old)) (on kernel.new (D.told disk.new) (D.status disk.new)) line) }
@@ -119,7 +103,7 @@ pub fn answer<D: PowerDisk>(
     ensures ready { OnOk result (IsReady kernel.new (D.told disk.new) (D.status disk.new)) }
     ensures no_memory { OnErr result ((w : World) → KernelAt kernel.old (D.told disk.old) w → Unanswered w (on kernel.old (D.told disk.old) (D.status disk.old)) (on kernel.new (D.told disk.new) (D.status disk.new)) line.now) }
 {
-    let meant = match built_line(alloc, line) {
+    let meant = match read_line(alloc, line) {
         Ok(meant) => meant,
         Err(LineFault::BadLine) => return Ok(Reply::Refused(Refusal::BadLine)),
         Err(LineFault::NoMemory) => return Err(NoMemory),

@@ -2,7 +2,7 @@
 //
 // A table has three parts: the script, whose last line records something; what is seen behind it; and what is seen after a
 // restart, where a line has two replies, one where the last line of the script was lost, and one where it was done. The first
-// of these lines is `events`, and its replies how many events are found.
+// of these lines is `events`, and its replies how many events are found, and how many transactions in doubt, where any are.
 use crate::run::{Outcome, first_difference, follow, run_small, small_image};
 use crate::transcript::Transcript;
 use ktm_base::NoMemory;
@@ -38,15 +38,16 @@ fn add_seen(
     }
 }
 
-// Adds a restart, after which so many events are found.
+// Adds a restart, which finds so many events, and so many transactions in doubt, where any are.
 fn add_restart(
     alloc: Global,
     transcript: &mut Transcript,
     pick: u64,
-    events: &str,
+    counts: &str,
 ) -> Result<(), NoMemory> {
+    let (events, in_doubt) = counts.split_once(' ').unwrap_or((counts, "0"));
     let line = format!(in alloc; "restart {pick}")?;
-    let reply = format!(in alloc; "restarted events={events} indoubt=0")?;
+    let reply = format!(in alloc; "restarted events={events} indoubt={in_doubt}")?;
     transcript.add(&line, &reply)
 }
 

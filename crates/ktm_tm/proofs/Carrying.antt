@@ -1,6 +1,6 @@
 -- Steps that are carried out one after another.
-use Rattle.std.proofs.Common.{true≢false, ◌≡◌, ◌⊎◌, inl, inr, ℕ, ◌+◌, ◌≤◌, Bool, true, false, List, [], ◌∷◌, ◌++◌, length, map, Option, Some, None, refl, sym, ◌∙◌, ap, subst, arith, length-append}
-use Rattle.std.specs.Prelude.{is_some, if◌then◌else◌}
+use Rattle.std.proofs.Common.{true≢false, ◌≡◌, inl, inr, ℕ, zero, suc, ◌≤◌, Bool, true, List, [], ◌∷◌, ◌++◌, length, map, Option, Some, None, refl, sym, ◌∙◌, ap, arith, length-append}
+use Rattle.std.specs.Prelude.{is_some}
 use Rattle.std.specs.List.{list_all, list_any}
 use Rattle.std.proofs.lemmas.Bool.{and_from, and_parts, cases_Bool}
 use Rattle.ktm_base.specs.declared.id.Id.{Id}
@@ -17,26 +17,29 @@ use Rattle.ktm_manager.specs.Managers.{ManagersState}
 use Rattle.ktm_manager.proofs.offered.Served.{served_nothing, served_twice, there_served}
 use Rattle.ktm_world.specs.Transactions.{same_id}
 use Rattle.ktm_tm.specs.declared.steps.Going.{Going}
+use Rattle.ktm_tm.specs.Listed.{AreRecoveredBehind}
 use Rattle.ktm_tm.specs.Steps.{After, after, after_all, only, with_answer, Carries, Leaves}
 
--- ---- enlistments keep their Ids and those of their resource managers
+-- ---- enlistments keep their Ids and those of their resource managers, and stay recovered
 
--- the change keeps both
+-- the change keeps all three
 pub record Keeps (f : Enlistment → Enlistment) : Type 0 where
   pub id : (e : Enlistment) → (f e).id ≡ e.id
   pub manager : (e : Enlistment) → (f e).manager ≡ e.manager
+  pub recovered : (e : Enlistment) → e.is_recovered ≡ true → (f e).is_recovered ≡ true
 
 asked_keeps : (owed : Option Owed) → Keeps (asked owed)
-asked_keeps None = record { id = λ e. refl; manager = λ e. refl }
-asked_keeps (Some owed) = record { id = λ e. refl; manager = λ e. refl }
+asked_keeps None = record { id = λ e. refl; manager = λ e. refl; recovered = λ e is. is }
+asked_keeps (Some owed) = record { id = λ e. refl; manager = λ e. refl; recovered = λ e is. is }
 
 answered_keeps : (answer : Answered) → Keeps (answered answer)
-answered_keeps Answered.PrePrepared = record { id = λ e. refl; manager = λ e. refl }
-answered_keeps Answered.Prepared = record { id = λ e. refl; manager = λ e. refl }
-answered_keeps Answered.ReadOnly = record { id = λ e. refl; manager = λ e. refl }
-answered_keeps Answered.Finished = record { id = λ e. refl; manager = λ e. refl }
-answered_keeps Answered.Recovered = record { id = λ e. refl; manager = λ e. refl }
+answered_keeps Answered.PrePrepared = record { id = λ e. refl; manager = λ e. refl; recovered = λ e is. is }
+answered_keeps Answered.Prepared = record { id = λ e. refl; manager = λ e. refl; recovered = λ e is. is }
+answered_keeps Answered.ReadOnly = record { id = λ e. refl; manager = λ e. refl; recovered = λ e is. is }
+answered_keeps Answered.Finished = record { id = λ e. refl; manager = λ e. refl; recovered = λ e is. is }
+answered_keeps Answered.Recovered = record { id = λ e. refl; manager = λ e. refl; recovered = λ e is. refl }
 
+-- a test of both Ids comes out the same after the change
 pub changed_test : (test : Id → Id → Bool) (meant : Enlistment → Bool) (f : Enlistment → Enlistment) → Keeps f → (es : List Enlistment)
     → list_all (λ e. test e.id e.manager) (with_enlistments meant f es) ≡ list_all (λ e. test e.id e.manager) es
 changed_test test meant f keeps [] = refl
@@ -45,29 +48,50 @@ changed_test test meant f keeps (e ∷ es) = elim (cases_Bool (meant e)) [
   | inr other ↦ rw (other, changed_test test meant f keeps es) refl
 ]
 
-answer_test : (test : Id → Id → Bool) (caller : Option Id) (answer : Answered) (es : List Enlistment) → list_all (λ e. test e.id e.manager) (with_answer caller answer es) ≡ list_all (λ e. test e.id e.manager) es
-answer_test test None answer es = refl
-answer_test test (Some id) answer es = changed_test test (has_id id) (answered answer) (answered_keeps answer) es
+-- and those that are recovered are so after it
+pub changed_recovered : (meant : Enlistment → Bool) (f : Enlistment → Enlistment) → Keeps f → (back : ℕ) (es : List Enlistment) → AreRecoveredBehind back es → AreRecoveredBehind back (with_enlistments meant f es)
+changed_recovered meant f keeps zero [] all = refl
+changed_recovered meant f keeps zero (e ∷ es) all =
+    let parts = and_parts e.is_recovered (list_all (λ (d : Enlistment). d.is_recovered) es) all in
+    and_from _ _ (elim (cases_Bool (meant e)) [ inl is ↦ rw is (keeps.recovered e parts.0) | inr other ↦ rw other parts.0 ]) (changed_recovered meant f keeps zero es parts.1)
+changed_recovered meant f keeps (suc back) [] none = absurd none
+changed_recovered meant f keeps (suc back) (e ∷ es) rest = changed_recovered meant f keeps back es rest
 
--- so a test of both comes out the same after a step
+-- what is kept by such changes is kept by steps
+module _ (Holds : List Enlistment → Type 0) (kept : (meant : Enlistment → Bool) (f : Enlistment → Enlistment) → Keeps f → (es : List Enlistment) → Holds es → Holds (with_enlistments meant f es)) where
+  after_answer : (caller : Option Id) (answer : Answered) (es : List Enlistment) → Holds es → Holds (with_answer caller answer es)
+  after_answer None answer es holds = holds
+  after_answer (Some id) answer es holds = kept (has_id id) (answered answer) (answered_keeps answer) es holds
+
+  after_step : (g : Going) (step : Step) (t : Transaction) (es : List Enlistment) → Holds es → Holds (after g step t es).enlistments
+  after_step g (Step.Record fact) t es holds = holds
+  after_step g Step.Commit t es holds = holds
+  after_step g (Step.Tell who kind) t es holds = kept (is_one_of t.id g.caller who) (asked None) (asked_keeps None) es holds
+  after_step g (Step.Ask who kind owed) t es holds = kept (is_one_of t.id g.caller who) (asked (Some owed)) (asked_keeps (Some owed)) es holds
+  after_step g (Step.Change answer) t es holds = after_answer g.caller answer es holds
+  after_step g (Step.Enter phase) t es holds = holds
+  after_step g (Step.Decide outcome) t es holds = holds
+  after_step g (Step.End outcome) t es holds = kept _ (asked None) (asked_keeps None) es holds
+  after_step g (Step.EndWhereFinished outcome) t es holds = elim (cases_Bool (list_any (is_unfinished t.id) es)) [
+    | inl is ↦ rw is holds
+    | inr none ↦ rw none (kept _ (asked None) (asked_keeps None) es holds)
+  ]
+
+  after_steps : (g : Going) (steps : List Step) (t : Transaction) (es : List Enlistment) → Holds es → Holds (after_all g steps t es).enlistments
+  after_steps g [] t es holds = holds
+  after_steps g (step ∷ steps) t es holds = after_steps g steps (after g step t es).transaction (after g step t es).enlistments (after_step g step t es holds)
+
+-- so a test of both Ids comes out the same after a step
 pub after_test : (test : Id → Id → Bool) (g : Going) (step : Step) (t : Transaction) (es : List Enlistment) → list_all (λ e. test e.id e.manager) (after g step t es).enlistments ≡ list_all (λ e. test e.id e.manager) es
-after_test test g (Step.Record fact) t es = refl
-after_test test g Step.Commit t es = refl
-after_test test g (Step.Tell who kind) t es = changed_test test (is_one_of t.id g.caller who) (asked None) (asked_keeps None) es
-after_test test g (Step.Ask who kind owed) t es = changed_test test (is_one_of t.id g.caller who) (asked (Some owed)) (asked_keeps (Some owed)) es
-after_test test g (Step.Change answer) t es = answer_test test g.caller answer es
-after_test test g (Step.Enter phase) t es = refl
-after_test test g (Step.Decide outcome) t es = refl
-after_test test g (Step.End outcome) t es = changed_test test _ (asked None) (asked_keeps None) es
-after_test test g (Step.EndWhereFinished outcome) t es = elim (cases_Bool (list_any (is_unfinished t.id) es)) [
-  | inl is ↦ rw is refl
-  | inr none ↦ rw none (changed_test test _ (asked None) (asked_keeps None) es)
-]
+after_test test g step t es = after_step (λ l. list_all (λ e. test e.id e.manager) l ≡ list_all (λ e. test e.id e.manager) es) (λ meant f keeps l is. changed_test test meant f keeps l ∙ is) g step t es refl
 
 -- and after all steps
 pub after_all_test : (test : Id → Id → Bool) (g : Going) (steps : List Step) (t : Transaction) (es : List Enlistment) → list_all (λ e. test e.id e.manager) (after_all g steps t es).enlistments ≡ list_all (λ e. test e.id e.manager) es
-after_all_test test g [] t es = refl
-after_all_test test g (step ∷ steps) t es = after_all_test test g steps (after g step t es).transaction (after g step t es).enlistments ∙ after_test test g step t es
+after_all_test test g steps t es = after_steps (λ l. list_all (λ e. test e.id e.manager) l ≡ list_all (λ e. test e.id e.manager) es) (λ meant f keeps l is. changed_test test meant f keeps l ∙ is) g steps t es refl
+
+-- after which those that are recovered are so
+pub after_all_recovered : (g : Going) (steps : List Step) (t : Transaction) (back : ℕ) (es : List Enlistment) → AreRecoveredBehind back es → AreRecoveredBehind back (after_all g steps t es).enlistments
+after_all_recovered g steps t back es = after_steps (AreRecoveredBehind back) (λ meant f keeps. changed_recovered meant f keeps back) g steps t es
 
 -- the managers of all are there while these are served
 pub there_all : (took : Option Id) (sent : List Sent) (ms : List Manager) (es : List Enlistment) → list_all (has_manager (map (served took sent) ms)) es ≡ list_all (has_manager ms) es

@@ -1,5 +1,5 @@
 -- The transactions as they are kept, with one more or with one changed.
-use Rattle.std.proofs.Common.{◌≡◌, ℕ, ◌+◌, ◌-◌, ◌<◌, ◌≤◌, true, false, List, [], ◌∷◌, ◌++◌, length, get_or, set, refl, sym, ◌∙◌, ap, arith, length-append, length-set}
+use Rattle.std.proofs.Common.{◌≡◌, ℕ, ◌+◌, ◌-◌, ◌<◌, ◌≤◌, true, false, List, [], ◌∷◌, ◌++◌, length, get_or, set, sym, ◌∙◌, ap, arith, length-append, length-set}
 use Rattle.std.specs.Prelude.{if◌then◌else◌}
 use Rattle.std.specs.List.{list_all}
 use Rattle.ktm_base.specs.declared.id.Id.{Id}
@@ -9,7 +9,7 @@ use Rattle.ktm_types.specs.declared.object.TransactionOutcome.TheVariants.{Undet
 use Rattle.ktm_world.specs.Durable.{is_before}
 use Rattle.ktm_world.specs.Present.{Transactions}
 use Rattle.ktm_world.specs.Transactions.{is_live}
-use Rattle.ktm_tm.specs.Listed.{AreKept, AreListed, live_places, with_number}
+use Rattle.ktm_tm.specs.Listed.{AreKept, AreListed, with_number}
 use Rattle.ktm_tm.specs.TmState.{next_id, with_new}
 use Rattle.ktm_tm.proofs.LiveNumbers.{arrived, places_push}
 use Rattle.ktm_tm.proofs.Numbers.{listed_back, listed_push, listed_set}

@@ -1,5 +1,6 @@
 mod Carrying
 mod Keeping
+mod LiveCounts
 mod LiveNumbers
 mod Next
 mod Numbers

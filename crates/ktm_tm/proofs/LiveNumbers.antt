@@ -1,17 +1,13 @@
 -- The places of the live transactions, which rise.
-use Rattle.std.proofs.Common.{◌≡◌, ℕ, ◌+◌, ◌-◌, ◌<◌, ◌≤◌, ◌==◌, ◌&&◌, zero, suc, Bool, true, false, List, [], ◌∷◌, ◌++◌, length, get_or, set, nat_lt, map, Some, None, refl, sym, ◌∙◌, ap, arith, subst, nat_cmp, lt-ltb, ltb-false, ltb-true, eq-eqb, ne_eqb}
-use Rattle.std.proofs.lemmas.List.{length-map, map-append}
-use Rattle.std.specs.Prelude.{count_by, if◌then◌else◌, Ok, Err, filter, find, option_and_then, option_map, slice_get, Option}
+use Rattle.std.proofs.Common.{◌≡◌, ℕ, ◌+◌, ◌-◌, ◌<◌, ◌≤◌, zero, suc, Bool, true, false, List, [], ◌∷◌, ◌++◌, length, get_or, set, nat_lt, Some, None, refl, sym, ◌∙◌, ap, arith, subst, nat_cmp, lt-ltb, ltb-false, ltb-true, eq-eqb, ne_eqb}
+use Rattle.std.specs.Prelude.{count_by, if◌then◌else◌, Ok, Err, filter, slice_get}
 use Rattle.std.specs.List.{insert, remove}
 use Rattle.std.specs.List.Sorted.{IsBinarySearchResult}
 use Rattle.std.proofs.lemmas.List.Sorted.{searched}
-use Rattle.std.proofs.lemmas.List.Elements.{filter-append}
 use Rattle.std.proofs.lemmas.List.Sums.{length-filter, count_by-le-length}
-use Rattle.std.proofs.lemmas.Option.{slice_get-map, slice_get_past, slice_get_read}
-use Rattle.std.proofs.lemmas.Bool.{and_parts, and_right, eqb-true}
-use Rattle.ktm_base.specs.declared.id.Id.{Id}
+use Rattle.std.proofs.lemmas.Option.{slice_get_past, slice_get_read}
 use Rattle.ktm_types.specs.declared.object.Transaction.{Transaction}
-use Rattle.ktm_world.specs.Transactions.{is_live, same_id, transaction_at}
+use Rattle.ktm_world.specs.Transactions.{is_live}
 use Rattle.ktm_tm.specs.Listed.{IsRising, live_places, with_number}
 
 -- ---- numbers that rise

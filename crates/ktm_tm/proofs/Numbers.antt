@@ -1,16 +1,14 @@
 -- Transactions by their Ids: those that were brought back, and those of this boot by their numbers.
-use Rattle.std.proofs.Common.{◌≡◌, ◌⊎◌, inl, inr, ℕ, ◌+◌, ◌-◌, ◌<◌, ◌≤◌, ◌==◌, ◌&&◌, zero, suc, true, false, List, [], ◌∷◌, ◌++◌, length, get_or, set, nat_le, cond, refl, sym, ◌∙◌, ap, subst, arith, eq-eqb, ne_eqb, add-one, length-append, length-set}
-use Rattle.std.proofs.lemmas.Bool.{and_from, and_right, and_parts, eqb-true, leb-true, le-leb, lt-ltb, or_left, or_right, false_from_ne_true}
+use Rattle.std.proofs.Common.{◌≡◌, ℕ, ◌+◌, ◌-◌, ◌<◌, ◌≤◌, ◌==◌, ◌&&◌, zero, suc, true, false, List, [], ◌∷◌, ◌++◌, length, get_or, set, nat_le, refl, sym, ◌∙◌, ap, subst, arith, eq-eqb, ne_eqb, add-one, length-append, length-set}
+use Rattle.std.proofs.lemmas.Bool.{and_from, and_right, and_parts, leb-true, le-leb, lt-ltb, or_left, or_right}
 use Rattle.std.specs.List.{list_all, list_any}
-use Rattle.std.specs.Prelude.{◌||◌, Bool, Some, None, find, if◌then◌else◌}
+use Rattle.std.specs.Prelude.{◌||◌, Bool, Some, None, find}
 use Rattle.ktm_base.specs.declared.id.Id.{Id}
-use Rattle.ktm_types.specs.declared.object.Phase.TheVariants.{Active}
 use Rattle.ktm_types.specs.declared.object.Transaction.{Transaction}
-use Rattle.ktm_types.specs.declared.object.TransactionOutcome.TheVariants.{Undetermined}
 use Rattle.txf_laws.proofs.offered.Tables.{same_id-equal, same_id-from}
 use Rattle.ktm_world.specs.Durable.{is_before}
 use Rattle.ktm_world.specs.Transactions.{change_at, is_live, same_id, transaction_at}
-use Rattle.ktm_manager.specs.Rising.{are_rising, IsAt, IsNowhere}
+use Rattle.ktm_manager.specs.Rising.{IsAt, IsNowhere}
 use Rattle.ktm_manager.proofs.offered.Places.{at_id, rising_push, rising_set, within}
 use Rattle.ktm_tm.specs.Listed.{AreListed, AreNumbered, AreSplit, IsAbsent, IsPlace, is_number}
 use Rattle.ktm_tm.specs.TmState.{if_live}

@@ -1,9 +1,10 @@
--- How the transactions stand in their list: those that a restart brought back, by rising Id, and then those of this boot by their numbers.
-use Rattle.std.specs.Prelude.{◌≡◌, ℕ, zero, suc, ◌+◌, ◌-◌, ◌<◌, ◌≤◌, ◌==◌, ◌&&◌, Bool, true, false, nat_le, List, [], ◌∷◌, length, nat_lt, find, Option, Some, None, slice_index_or, slice_set, if◌then◌else◌}
+-- How the transactions stand in their list, and the enlistments: those that a restart brought back, by rising Id, and then those of this boot by their numbers.
+use Rattle.std.specs.Prelude.{◌≡◌, ℕ, zero, suc, ◌+◌, ◌<◌, ◌≤◌, ◌==◌, ◌&&◌, Bool, true, false, nat_le, List, [], ◌∷◌, length, nat_lt, find, Some, None, slice_index_or, slice_set, if◌then◌else◌}
 use Rattle.std.specs.List.{list_all, list_any}
 use Rattle.ktm_base.specs.declared.id.Id.{Id}
 use Rattle.ktm_types.specs.declared.object.Transaction.{Transaction}
 use Rattle.ktm_world.specs.Durable.{is_before}
+use Rattle.ktm_world.specs.Enlistments.{Enlistment}
 use Rattle.ktm_world.specs.Transactions.{transaction_at, change_at, is_live, same_id}
 use Rattle.ktm_manager.specs.Rising.{are_rising}
 use Rattle.ktm_tm.specs.TmState.{id_after, if_live}
@@ -72,3 +73,9 @@ pub record IsAbsent (ts : List Transaction) (id : Id) : Type 0 where
   pub none_live : find (λ t. is_live t && same_id t.id id) ts ≡ None
   pub none_passes : (test : Transaction → Bool) → ((t : Transaction) → same_id t.id id ≡ false → test t ≡ false) → list_any test ts ≡ false
   pub keeps : (f : Transaction → Transaction) → change_at ts id f ≡ ts
+
+-- there are at least so many enlistments, and all behind the first so many are recovered
+abbrev pub AreRecoveredBehind : ℕ → List Enlistment → Type 0
+AreRecoveredBehind zero es = list_all (λ (e : Enlistment). e.is_recovered) es ≡ true
+AreRecoveredBehind (suc back) [] = ⊥
+AreRecoveredBehind (suc back) (e ∷ es) = AreRecoveredBehind back es

@@ -1,5 +1,5 @@
 -- What the steps of a transaction make of it and of the enlistments, and what they send.
-use Rattle.std.specs.Prelude.{◌≡◌, ℕ, ◌+◌, ◌||◌, Bool, true, List, [], ◌∷◌, ◌++◌, length, map, filter, is_some, Option, Some, None, if◌then◌else◌}
+use Rattle.std.specs.Prelude.{◌≡◌, ◌+◌, ◌||◌, Bool, true, List, [], ◌∷◌, ◌++◌, length, map, filter, is_some, Option, Some, None, if◌then◌else◌}
 use Rattle.std.specs.List.{list_all, list_any}
 use Rattle.ktm_base.specs.declared.id.Id.{Id}
 use Rattle.ktm_base.specs.declared.notify.Notify.{Notify}
@@ -11,7 +11,7 @@ use Rattle.ktm_types.specs.declared.step.Fact.{Fact}
 use Rattle.ktm_types.specs.declared.step.Owed.{Owed}
 use Rattle.ktm_types.specs.declared.step.Step.{Step}
 use Rattle.ktm_types.specs.declared.step.Who.{Who}
-use Rattle.ktm_world.specs.Enlistments.{Enlistment, Manager, Sent, has_id, is_unfinished, superior_of, tell, with_enlistments}
+use Rattle.ktm_world.specs.Enlistments.{Enlistment, Sent, has_id, is_unfinished, superior_of, tell, with_enlistments}
 use Rattle.ktm_world.specs.Outcome.{served}
 use Rattle.ktm_world.specs.Phases.{end_notice}
 use Rattle.ktm_world.specs.Steps.{answered, is_one_of}

@@ -5,43 +5,16 @@ ghost use Rattle.std.specs.Option.{option_copied};
 ghost use Rattle.ktm_world.specs.Durable.{is_before};
 ghost use Rattle.ktm_world.specs.Enlistments.{enlistment_at, has_id, is_live_enlistment, manager_at, superior_of, with_enlistments};
 ghost use Rattle.ktm_world.specs.TransactionCalls.{no_enlistment_left};
-ghost use Rattle.ktm_tm.specs.Listed.{AreListed};
 ghost use Rattle.ktm_tm.specs.TmState.{id_after, with_enlisted, KeepsNow, KeepsOthers};
 
-use crate::place::place_in;
 use crate::tm::Tm;
 use ktm_base::{Bytes, Id, MOST_LIVE, MOST_NUMBER, NoMemory};
 use ktm_phase::Enlistment;
-use ktm_types::{EnlistmentKind, Transaction};
+use ktm_types::EnlistmentKind;
 use std::alloc::Global;
 
 /// How many notifications may wait for an enlistment.
 const SLOTS: usize = 5;
-
-// Is the enlistment live in its transaction.
-fn is_live_in(boot: u32, back: usize, items: &[Transaction], e: &Enlistment) -> bool
-    requires { AreListed boot back items.now }
-    ensures { result ≡ is_live_enlistment items.now e.now }
-{
-    match place_in(boot, back, items, e.transaction) {
-        Some(place) => e.is_live(&items[place]),
-        None => false,
-    }
-}
-
-// How many of the enlistments are live.
-fn live_in(boot: u32, back: usize, items: &[Transaction], enlistments: &[Enlistment]) -> usize
-    requires { AreListed boot back items.now }
-    ensures { result ≡ count_by (is_live_enlistment items.now) enlistments.now }
-{
-    let mut live = 0;
-    for e in enlistments {
-        if is_live_in(boot, back, items, e) {
-            live += 1;
-        }
-    }
-    live
-}
 
 impl Tm {
     /// The enlistment with this Id.
@@ -51,16 +24,17 @@ impl Tm {
         self.enlistments.find(id)
     }
 
-    /// How many enlistments are live. It walks over all of them.
+    /// How many enlistments are live: those that are so in the transactions that have not ended.
     pub fn live_enlistment_count(&self) -> usize
         ensures { result ≡ count_by (is_live_enlistment self.now.now.items) self.now.now.enlistments }
     {
-        live_in(
-            self.boot,
-            self.back,
-            &self.items,
-            self.enlistments.as_slice(),
-        )
+        let mut live = 0;
+        for i in 0..self.live_count() {
+            if let Some(t) = self.live_at(i) {
+                live += self.enlistments.live(t.id) as usize;
+            }
+        }
+        live
     }
 
     /// The enlistment of the superior of the transaction, if it has one.
@@ -147,6 +121,7 @@ impl Tm {
         ensures others { KeepsOthers self.old self.new }
     {
         self.enlistments.add(e);
+        self.back_enlistments = self.enlistments.as_slice().len();
     }
 
     /// The enlistment with this Id, if there is one, has this recovery information from now on.

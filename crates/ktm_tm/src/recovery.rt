@@ -1,16 +1,19 @@
 // What a resource manager is told when it recovers.
-ghost use Rattle.std.specs.Prelude.{◌≡◌, ◌+◌, ◌≤◌, ◌∷◌, [], None, OnOk, is_some, length, map, true};
+ghost use Rattle.std.specs.Prelude.{◌≡◌, ◌+◌, ◌≤◌, ◌∷◌, [], List, None, OnOk, is_some, length, map, true};
+ghost use Rattle.ktm_base.specs.declared.id.Id.{Id};
+ghost use Rattle.ktm_types.specs.declared.object.Transaction.{Transaction};
 ghost use Rattle.ktm_world.specs.Enlistments.{manager_at};
 ghost use Rattle.ktm_world.specs.Labels.{holds_of};
 ghost use Rattle.ktm_world.specs.Outcome.{served};
 ghost use Rattle.ktm_world.specs.TransactionCalls.{is_in_doubt};
-ghost use Rattle.ktm_tm.specs.Listed.{AreListed};
+ghost use Rattle.ktm_tm.specs.Listed.{AreListed, AreRecoveredBehind};
 ghost use Rattle.ktm_tm.specs.Recovery.{is_to_recover, recover_notes, recovers};
 ghost use Rattle.ktm_tm.specs.TmState.{KeepsNow, KeepsRoom};
 
 use crate::place::find_in;
 use crate::tm::Tm;
 use ktm_base::{Id, NoMemory, Notify};
+use ktm_enlist::Enlistments;
 use ktm_manager::Managers;
 use ktm_notify::Note;
 use ktm_phase::Enlistment;
@@ -106,6 +109,14 @@ fn tell_each(
     }
 }
 
+// The enlistments that a restart brought back, which alone may be to recover.
+fn brought_back(enlistments: &Enlistments, back: usize) -> &[Enlistment]
+    requires { AreRecoveredBehind back enlistments.now.enlistments }
+    ensures { (ts : List Transaction) (manager : Id) → recovers ts manager result.now ≡ recovers ts manager enlistments.now.enlistments }
+{
+    &enlistments.as_slice()[..back]
+}
+
 impl Tm {
     /// How many notifications the resource manager is sent when it recovers.
     pub fn recover_count(&self, manager: Id) -> usize
@@ -115,7 +126,7 @@ impl Tm {
             self.boot,
             self.back,
             &self.items,
-            self.enlistments.as_slice(),
+            brought_back(&self.enlistments, self.back_enlistments),
             manager,
         ) + 1
     }
@@ -135,8 +146,8 @@ impl Tm {
         self.managers.reserve_notes(slots)
     }
 
-    /// Tells the resource manager of each of its enlistments that is to be recovered, and then that these were all. It takes no
-    /// memory.
+    /// Tells the resource manager of each of its enlistments that is to be recovered, and then that these were all. It looks only at
+    /// those that a restart brought back, and takes no memory.
     pub fn recover(&mut self, manager: Id)
         requires there { is_some (manager_at self.old.managers manager) ≡ true }
         requires slots { length (recover_notes self.old.now manager) ≤ self.old.slots }
@@ -149,7 +160,7 @@ impl Tm {
             self.boot,
             self.back,
             &self.items,
-            self.enlistments.as_slice(),
+            brought_back(&self.enlistments, self.back_enlistments),
             &mut self.managers,
             manager,
         );

@@ -32,6 +32,8 @@ pub struct Tm {
     // The places of those that have not ended, from 1 on, which rise. It has room for the places of all.
     pub(crate) live: Vec<u32>,
     pub(crate) enlistments: Enlistments,
+    // How many of the enlistments were brought back; those of this boot, behind them, are recovered.
+    pub(crate) back_enlistments: usize,
     pub(crate) managers: Managers,
     // The number of the resource manager and of the enlistment that were made last, or 0.
     pub(crate) last_manager: u32,
@@ -42,7 +44,7 @@ impl Model for Tm {
     ghost use Rattle.std.specs.Prelude.{◌≡◌, ◌-◌, ◌^◌, length, min, true, vec_len, vec_capacity};
     ghost use Rattle.std.specs.List.{list_all};
     ghost use Rattle.ktm_enlist.specs.Telling.{has_manager};
-    ghost use Rattle.ktm_tm.specs.Listed.{are_before_next, AreKept};
+    ghost use Rattle.ktm_tm.specs.Listed.{are_before_next, AreKept, AreRecoveredBehind};
     ghost use Rattle.ktm_tm.specs.TmState.{TmState};
 
     ghost Value = { TmState };
@@ -68,7 +70,8 @@ impl Model for Tm {
         AreKept tm.boot tm.back tm.items.items tm.live.items (vec_capacity tm.live)
         × (are_before_next (λ m. m.id) tm.boot tm.last_manager tm.managers.managers ≡ true)
         × (are_before_next (λ e. e.id) tm.boot tm.last_enlistment tm.enlistments.enlistments ≡ true)
-        × (list_all (has_manager tm.managers.managers) tm.enlistments.enlistments ≡ true) };
+        × (list_all (has_manager tm.managers.managers) tm.enlistments.enlistments ≡ true)
+        × AreRecoveredBehind tm.back_enlistments tm.enlistments.enlistments };
 }
 
 // Is it one of the two timeouts that mean none.
@@ -106,6 +109,7 @@ impl Tm {
             back: 0,
             live: Vec::new(alloc),
             enlistments: Enlistments::new(alloc),
+            back_enlistments: 0,
             managers: Managers::new(alloc),
             last_manager: 0,
             last_enlistment: 0,

@@ -1,4 +1,7 @@
+mod Deeds
 mod Giving
+mod HeldMore
+mod Meeting
 mod Rising
 mod Recordings
 mod Trying

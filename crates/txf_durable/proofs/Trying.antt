@@ -74,6 +74,10 @@ apply-split tree (c ∷ cs) bytes = ap (λ b. applies tree c && b) (apply-split 
     again true b d = refl
     again false b d = refl
 
+-- both apply where all do
+pub parts-apply : (tree : Tree) (cs names bytes : List Change) → names ++ bytes ≡ cs → changes_apply tree cs ≡ true → (changes_apply tree names ≡ true) × (changes_apply (changed_all tree names) bytes ≡ true)
+parts-apply tree cs names bytes whole all = and_parts (changes_apply tree names) (changes_apply (changed_all tree names) bytes) (sym (apply-split tree names bytes) ∙ ap (changes_apply tree) whole ∙ all)
+
 -- where all are changes of bytes there are none of names
 pub no-names : (names bytes : List Change) → are_names names ≡ true → list_all changes_bytes (names ++ bytes) ≡ true → names ≡ []
 no-names [] bytes are all = refl

@@ -1,2 +1,4 @@
 -- Lemmas that other crates cite.
 pub mod FinalForms
+pub mod OthersMet
+pub mod Places

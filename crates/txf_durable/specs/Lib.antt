@@ -1,4 +1,6 @@
 pub mod Numbers
+pub mod Places
 pub mod Recorded
 pub mod State
 pub mod Putting
+pub mod Waiting

@@ -3,7 +3,7 @@ ghost use Rattle.std.specs.Prelude.{◌≡◌, ◌+◌, ◌&&◌, ◌<◌, ◌�
 ghost use Rattle.std.specs.List.{list_all};
 ghost use Rattle.ktm_world.specs.Changes.{applies, changes_apply, changes_bytes, changed, changed_all, next_after};
 ghost use Rattle.ktm_world.specs.Durable.{are_recorded_changes, is_new_in, next_after_all};
-ghost use Rattle.ktm_world.specs.Tree.{bytes_of, bytes_or_none, units_of};
+ghost use Rattle.ktm_world.specs.Tree.{IsWellFormed, bytes_of, bytes_or_none, units_of};
 ghost use Rattle.txf_tree.specs.TreeState.{fits, tree_of, versions_of, KeepsRooms};
 ghost use Rattle.txf_durable.specs.State.{CanMake, CanMakeAll, IsCounted, IsMade};
 
@@ -117,6 +117,13 @@ impl DurableFiles {
         ensures { result.now ≡ self.now.tree }
     {
         &self.tree
+    }
+
+    /// The files are well formed.
+    pub fn law_of_forms(&self)
+        ensures { IsWellFormed (tree_of self.now.tree) }
+    {
+        let _ = &self.tree;
     }
 
     /// How many nodes there are beside the root.

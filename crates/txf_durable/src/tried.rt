@@ -1,5 +1,5 @@
 // Changes that are tried over the files, and not made.
-ghost use Rattle.std.specs.Prelude.{◌≡◌, ◌+◌, ◌<◌, ◌≤◌, ◌++◌, ◌∷◌, [], false, true, length, Ok, IfOk, IsOk};
+ghost use Rattle.std.specs.Prelude.{◌≡◌, ◌+◌, ◌<◌, ◌≤◌, ◌++◌, ◌∷◌, [], false, true, length, Ok, IfOk, IsOk, OnOk};
 ghost use Rattle.std.specs.List.{list_all};
 ghost use Rattle.ktm_world.specs.Changes.{applies, changes_apply, changes_bytes};
 ghost use Rattle.ktm_world.specs.Durable.{next_after_all};
@@ -16,19 +16,21 @@ use txf_laws::law_of_forms;
 use txf_overlay::Overlay;
 use txf_tree::{Tree, next_after};
 
-// Lays a change of names over the tree, if it applies there, and tells whether it does. A name is copied.
-fn lay(alloc: Global, overlay: &mut Overlay, tree: &Tree, change: &Change) -> Result<bool, NoMemory>
+/// Lays a change of names over the tree, to which it applies with those before it. A name is copied.
+pub(crate) fn lay(
+    alloc: Global,
+    overlay: &mut Overlay,
+    tree: &Tree,
+    change: &Change,
+) -> Result<(), NoMemory>
     requires stands { StandsOver (tree_of tree.now) overlay.old }
     requires spare { 0 < overlay.old.spare }
     requires name { changes_bytes change.now ≡ false }
-    ensures applies { IfOk result (λ is. is ≡ applies (seen (tree_of tree.now) overlay.old) change.now) }
-    ensures names { result ≡ Ok true → overlay.new.names ≡ overlay.old.names ++ change.now ∷ [] }
-    ensures stands { result ≡ Ok true → StandsOver (tree_of tree.now) overlay.new }
+    requires applies { applies (seen (tree_of tree.now) overlay.old) change.now ≡ true }
+    ensures names { OnOk result (overlay.new.names ≡ overlay.old.names ++ change.now ∷ []) }
+    ensures stands { OnOk result (StandsOver (tree_of tree.now) overlay.new) }
     ensures spare { overlay.old.spare ≤ overlay.new.spare + 1 }
 {
-    if !overlay.applies(tree, change) {
-        return Ok(false);
-    }
     law_of_forms();
     match change {
         Change::Make {
@@ -43,7 +45,7 @@ fn lay(alloc: Global, overlay: &mut Overlay, tree: &Tree, change: &Change) -> Re
         Change::Drop { node } => overlay.remove(tree, *node),
         Change::Put { .. } | Change::Cut { .. } => unreachable!(),
     }
-    Ok(true)
+    Ok(())
 }
 
 // Lays changes of names over the tree, as long as they apply, and tells whether all do.
@@ -63,9 +65,10 @@ fn lay_all(
     ensures enough { names.now ≡ [] → IsOk result }
 {
     for change in names {
-        if !lay(alloc, overlay, tree, change)? {
+        if !overlay.applies(tree, change) {
             return Ok(false);
         }
+        lay(alloc, overlay, tree, change)?;
     }
     Ok(true)
 }

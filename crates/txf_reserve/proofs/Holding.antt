@@ -11,8 +11,9 @@ use Rattle.ktm_world.specs.Transactions.{same_id, is_of}
 use Rattle.ktm_links.specs.Numbers.{long_bytes}
 use Rattle.txf_opens.proofs.Bytes.{node_leaves, node_tells}
 use Rattle.txf_opens.proofs.Sharing.{turned_group}
+use Rattle.txf_reserve.specs.Checks.{is_number_held}
 use Rattle.txf_reserve.specs.HeldPairs.{has_pair, is_of_other, is_pair, Pair}
-use Rattle.txf_reserve.specs.Parts.{is_number_held, is_other_among, is_place_held}
+use Rattle.txf_reserve.specs.Parts.{is_other_among, is_place_held}
 use Rattle.txf_reserve.specs.ReserveKeys.{holder_of, node_key, node_of_key, number_held, place_held, place_key, place_of_key, AreKeys, IsNodeKey, IsPlaceKey}
 use Rattle.txf_reserve.specs.ReserveState.{NumberHeld, PlaceHeld, names_of, numbers_of}
 use Rattle.txf_opens.proofs.Lists.{any-filter, any-map, any_agree}

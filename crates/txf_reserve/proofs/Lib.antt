@@ -5,3 +5,4 @@ pub mod Meets
 pub mod Others
 pub mod PairNames
 pub mod Present
+pub mod offered

@@ -1,8 +1,8 @@
 -- Lemmas on what some other transaction holds.
-use Rattle.std.proofs.Common.{◌≡◌, ℕ, ◌==◌, ◌&&◌, ◌||◌, Bool, true, false, not, eqb, List, [], ◌∷◌, ◌++◌, map, Option, Some, None, is_some, refl, sym, ap, ◌∙◌, subst, inl, inr}
+use Rattle.std.proofs.Common.{◌≡◌, ℕ, ◌==◌, ◌&&◌, ◌||◌, Bool, true, false, eqb, List, [], ◌∷◌, ◌++◌, map, Option, Some, None, is_some, refl, sym, ap, ◌∙◌, subst, inl, inr}
 use Rattle.std.specs.List.{list_any, flat_map}
 use Rattle.std.proofs.Math.Bool.{and-true}
-use Rattle.std.proofs.lemmas.Bool.{cases_Bool, and_from, and_parts, or_cases, or_from, or_left, or_parts, or_right, not-true}
+use Rattle.std.proofs.lemmas.Bool.{cases_Bool, and_from, and_parts, or_from, or_left, or_parts}
 use Rattle.std.proofs.lemmas.List.{append-nil}
 use Rattle.std.proofs.lemmas.List.Folds.{list_any-append}
 use Rattle.ktm_base.specs.declared.id.Id.{Id}
@@ -16,13 +16,14 @@ use Rattle.txf_opens.specs.OpensState.{is_other_writer}
 use Rattle.txf_opens.proofs.Bytes.{is_of-group}
 use Rattle.txf_opens.proofs.Writing.{other_from, other_to}
 use Rattle.txf_reserve.specs.Acts.{listed, listed_place}
-use Rattle.txf_reserve.specs.Checks.{holders, holds_with, is_conflict, meets_another, number_holders, overwrites_transacted, place_holders, touches_plain}
-use Rattle.txf_reserve.specs.Parts.{is_node_met, is_number_held, is_other_among, is_place_held, is_place_met, meets_by, meets_parts, ArePartsOf}
+use Rattle.txf_reserve.specs.Checks.{holders, holds_with, is_conflict, is_number_held, meets_another, number_holders, overwrites_transacted, place_holders, touches_plain}
+use Rattle.txf_reserve.specs.Parts.{is_node_met, is_other_among, is_place_held, is_place_met, meets_by, meets_parts, ArePartsOf}
 use Rattle.txf_reserve.specs.ReserveState.{names_of, numbers_of, IsSameHold, Keeps, NumberHeld, PlaceHeld, ReserveState}
 use Rattle.txf_reserve.specs.declared.act.Parts.{Parts}
-use Rattle.txf_reserve.proofs.Holding.{both_ways, names-any, numbers-any}
+use Rattle.txf_reserve.proofs.Holding.{names-any, numbers-any}
 use Rattle.txf_opens.proofs.Lists.{any-filter, any-map, any_false, any_or, any_same, none_of, some_of}
-use Rattle.txf_reserve.proofs.PairNames.{id_self, own_is, same_ids}
+use Rattle.txf_reserve.proofs.PairNames.{id_self, own_is}
+use Rattle.txf_reserve.proofs.offered.SomeOther.{meets-same, tells_and, tells_any, tells_held, tells_list, tells_number, tells_one, tells_or, tells_same, IsSomeAnd}
 
 -- ---- the files that a transaction has open for writing
 written-any : (opens : List OpenFile) (id : Id) (n : ℕ) → is_in (written_by opens id) n ≡ list_any (λ o. (is_of id o.transaction && writes o.access) && o.node == n) opens
@@ -37,80 +38,17 @@ some_group None some = absurd (cc)
 some_group (Some id) some = (id, refl)
 
 module _ (who : Option Id) where
-  -- a transaction other than the caller's of which this is so
-  record SomeOther (f : Id → Bool) : Type 0 where
-    id : Id
-    other : is_of id who ≡ false
-    so : f id ≡ true
-
-  -- the test is whether there is one
-  record IsSomeAnd (b : Bool) (f : Id → Bool) : Type 0 where
-    to : b ≡ true → SomeOther f
-    from : SomeOther f → b ≡ true
-
-  tells_one : (a b : Bool) (f : Id → Bool) → IsSomeAnd a f → IsSomeAnd b f → a ≡ b
-  tells_one a b f left right = both_ways a b (λ so. right.from (left.to so)) (λ so. left.from (right.to so))
-
-  tells_same : (b : Bool) (f g : Id → Bool) → ((id : Id) → f id ≡ g id) → IsSomeAnd b f → IsSomeAnd b g
-  tells_same b f g same tells = record {
-    to = λ so. let s = tells.to so in record { id = s.id; other = s.other; so = sym (same s.id) ∙ s.so };
-    from = λ s. tells.from (record { id = s.id; other = s.other; so = same s.id ∙ s.so });
-  }
-
-  tells_or : (a b : Bool) (f g : Id → Bool) → IsSomeAnd a f → IsSomeAnd b g → IsSomeAnd (a || b) (λ id. f id || g id)
-  tells_or a b f g left right = record {
-    to = λ so. elim (or_cases a b so) [
-      | inl first ↦ let s = left.to first in record { id = s.id; other = s.other; so = or_left (f s.id) (g s.id) s.so }
-      | inr second ↦ let s = right.to second in record { id = s.id; other = s.other; so = or_right (f s.id) (g s.id) s.so }
-    ];
-    from = λ s. elim (or_cases (f s.id) (g s.id) s.so) [
-      | inl first ↦ or_left a b (left.from (record { id = s.id; other = s.other; so = first }))
-      | inr second ↦ or_right a b (right.from (record { id = s.id; other = s.other; so = second }))
-    ];
-  }
-
-  tells_and : (c b : Bool) (f : Id → Bool) → IsSomeAnd b f → IsSomeAnd (c && b) (λ id. c && f id)
-  tells_and true b f tells = tells
-  tells_and false b f tells = record { to = λ so. absurd (cc); from = λ s. let so = s.so in absurd (cc) }
-
-  tells_any : {X : Type 0} (F : X → Bool) (f : X → Id → Bool) → ((x : X) → IsSomeAnd (F x) (f x)) → (xs : List X) → IsSomeAnd (list_any F xs) (λ id. list_any (λ x. f x id) xs)
-  tells_any F f each [] = record { to = λ so. absurd (cc); from = λ s. let so = s.so in absurd (cc) }
-  tells_any F f each (x ∷ xs) = tells_or (F x) (list_any F xs) (f x) (λ id. list_any (λ x. f x id) xs) (each x) (tells_any F f each xs)
-
-  -- of things that transactions hold
-  tells_held : {X : Type 0} (t : X → Id) (p : X → Bool) (xs : List X) → IsSomeAnd (list_any (λ x. p x && not (is_of (t x) who)) xs) (λ id. list_any (λ x. same_id (t x) id && p x) xs)
-  tells_held t p xs = record {
-    to = λ any.
-        let some = some_of (λ x. p x && not (is_of (t x) who)) xs any in
-        let parts = and_parts (p some.one) (not (is_of (t some.one) who)) some.so in
-        record {
-          id = t some.one;
-          other = not-true (is_of (t some.one) who) parts.1;
-          so = some.among (λ x. same_id (t x) (t some.one) && p x) (and_from (same_id (t some.one) (t some.one)) (p some.one) (id_self (t some.one)) parts.0);
-        };
-    from = λ s.
-        let some = some_of (λ x. same_id (t x) s.id && p x) xs s.so in
-        let parts = and_parts (same_id (t some.one) s.id) (p some.one) some.so in
-        some.among (λ x. p x && not (is_of (t x) who))
-        (and_from (p some.one) (not (is_of (t some.one) who)) parts.1 (ap not (ap (λ i. is_of i who) (same_ids (t some.one) s.id parts.0) ∙ s.other)));
-  }
-
-  tells_number : (held : List NumberHeld) (n : ℕ) → IsSomeAnd (is_number_held who held n) (λ id. is_in (numbers_of held id) n)
-  tells_number held n =
-      tells_same (is_number_held who held n) (λ id. list_any (λ h. same_id h.transaction id && h.number == n) held) (λ id. is_in (numbers_of held id) n)
-      (λ id. sym (numbers-any held id n)) (tells_held (λ (h : NumberHeld). h.transaction) (λ h. h.number == n) held)
-
-  tells_place : (held : List PlaceHeld) (p : Place) → IsSomeAnd (is_place_held who held p) (λ id. is_place_in (names_of held id) p)
+  tells_place : (held : List PlaceHeld) (p : Place) → IsSomeAnd who (is_place_held who held p) (λ id. is_place_in (names_of held id) p)
   tells_place held p =
-      tells_same (is_place_held who held p) (λ id. list_any (λ h. same_id h.transaction id && same_place p h.place) held) (λ id. is_place_in (names_of held id) p)
-      (λ id. sym (names-any held id p)) (tells_held (λ (h : PlaceHeld). h.transaction) (λ h. same_place p h.place) held)
+      tells_same who (is_place_held who held p) (λ id. list_any (λ h. same_id h.transaction id && same_place p h.place) held) (λ id. is_place_in (names_of held id) p)
+      (λ id. sym (names-any held id p)) (tells_held who (λ (h : PlaceHeld). h.transaction) (λ h. same_place p h.place) held)
 
-  tells_among : (ids : List Id) → IsSomeAnd (is_other_among who ids) (λ id. list_any (λ i. same_id i id) ids)
+  tells_among : (ids : List Id) → IsSomeAnd who (is_other_among who ids) (λ id. list_any (λ i. same_id i id) ids)
   tells_among ids =
-      tells_same (is_other_among who ids) (λ id. list_any (λ i. same_id i id && true) ids) (λ id. list_any (λ i. same_id i id) ids)
-      (λ id. any_same (λ i. same_id i id && true) (λ i. same_id i id) (λ i. and-true (same_id i id)) ids) (tells_held (λ i. i) (λ i. true) ids)
+      tells_same who (is_other_among who ids) (λ id. list_any (λ i. same_id i id && true) ids) (λ id. list_any (λ i. same_id i id) ids)
+      (λ id. any_same (λ i. same_id i id && true) (λ i. same_id i id) (λ i. and-true (same_id i id)) ids) (tells_held who (λ i. i) (λ i. true) ids)
 
-  tells_writer : (opens : List OpenFile) (n : ℕ) → IsSomeAnd (list_any (is_other_writer who n) opens) (λ id. is_in (written_by opens id) n)
+  tells_writer : (opens : List OpenFile) (n : ℕ) → IsSomeAnd who (list_any (is_other_writer who n) opens) (λ id. is_in (written_by opens id) n)
   tells_writer opens n = record {
     to = λ any.
         let some = some_of (is_other_writer who n) opens any in
@@ -141,36 +79,22 @@ module _ (who : Option Id) where
 
   -- ---- what a call meets
   module _ (state : ReserveState) (opens : List OpenFile) where
-    tells_node : (n : ℕ) → IsSomeAnd (is_node_met state opens who n) (λ id. is_in (holds_with state opens id).nodes n)
+    tells_node : (n : ℕ) → IsSomeAnd who (is_node_met state opens who n) (λ id. is_in (holds_with state opens id).nodes n)
     tells_node n =
-        tells_same (is_node_met state opens who n) (λ id. is_in (numbers_of state.nodes id) n || is_in (written_by opens id) n) (λ id. is_in (holds_with state opens id).nodes n)
+        tells_same who (is_node_met state opens who n) (λ id. is_in (numbers_of state.nodes id) n || is_in (written_by opens id) n) (λ id. is_in (holds_with state opens id).nodes n)
         (λ id. sym (list_any-append (λ m. m == n) (numbers_of state.nodes id) (written_by opens id)))
-        (tells_or (is_number_held who state.nodes n) (list_any (is_other_writer who n) opens) (λ id. is_in (numbers_of state.nodes id) n) (λ id. is_in (written_by opens id) n)
-        (tells_number state.nodes n) (tells_writer opens n))
+        (tells_or who (is_number_held who state.nodes n) (list_any (is_other_writer who n) opens) (λ id. is_in (numbers_of state.nodes id) n) (λ id. is_in (written_by opens id) n)
+        (tells_number who state.nodes n) (tells_writer opens n))
 
-    tells_meets : (act : Act) → IsSomeAnd (meets_by state opens who act) (λ id. meets (holds_with state opens id) act)
+    tells_meets : (act : Act) → IsSomeAnd who (meets_by state opens who act) (λ id. meets (holds_with state opens id) act)
     unfolding meets
     tells_meets act =
-        let nodes = tells_any (is_node_met state opens who) (λ n id. is_in (holds_with state opens id).nodes n) tells_node (nodes_changed act) in
-        let places = tells_any (is_place_held who state.places) (λ p id. is_place_in (names_of state.places id) p) (tells_place state.places) (places_changed act) in
-        let entered = tells_any (is_number_held who state.dropped) (λ n id. is_in (numbers_of state.dropped id) n) (tells_number state.dropped) (directories_of (places_changed act)) in
-        let used = tells_any (is_number_held who state.uses) (λ n id. is_in (numbers_of state.uses id) n) (tells_number state.uses) (directory_dropped act) in
-        let moved = tells_and (is_move_of_directory act) (is_other_among who state.moves) (λ id. list_any (λ i. same_id i id) state.moves) (tells_among state.moves) in
-        tells_or _ _ _ _ (tells_or _ _ _ _ (tells_or _ _ _ _ (tells_or _ _ _ _ nodes places) entered) used) moved
-
-  -- a list that has each of them tells too
-  tells_list : (f : Id → Bool) (ids : List Id) → ((id : Id) → f id ≡ true → list_any (λ i. same_id i id) ids ≡ true) → IsSomeAnd (list_any (λ id. not (is_of id who) && f id) ids) f
-  tells_list f ids among = record {
-    to = λ any.
-        let some = some_of (λ id. not (is_of id who) && f id) ids any in
-        let parts = and_parts (not (is_of some.one who)) (f some.one) some.so in
-        record { id = some.one; other = not-true (is_of some.one who) parts.0; so = parts.1 };
-    from = λ s.
-        let some = some_of (λ i. same_id i s.id) ids (among s.id s.so) in
-        let is : some.one ≡ s.id = same_ids some.one s.id some.so in
-        some.among (λ id. not (is_of id who) && f id)
-        (and_from (not (is_of some.one who)) (f some.one) (ap not (ap (λ i. is_of i who) is ∙ s.other)) (ap f is ∙ s.so));
-  }
+        let nodes = tells_any who (is_node_met state opens who) (λ n id. is_in (holds_with state opens id).nodes n) tells_node (nodes_changed act) in
+        let places = tells_any who (is_place_held who state.places) (λ p id. is_place_in (names_of state.places id) p) (tells_place state.places) (places_changed act) in
+        let entered = tells_any who (is_number_held who state.dropped) (λ n id. is_in (numbers_of state.dropped id) n) (tells_number who state.dropped) (directories_of (places_changed act)) in
+        let used = tells_any who (is_number_held who state.uses) (λ n id. is_in (numbers_of state.uses id) n) (tells_number who state.uses) (directory_dropped act) in
+        let moved = tells_and who (is_move_of_directory act) (is_other_among who state.moves) (λ id. list_any (λ i. same_id i id) state.moves) (tells_among state.moves) in
+        tells_or who _ _ _ _ (tells_or who _ _ _ _ (tells_or who _ _ _ _ (tells_or who _ _ _ _ nodes places) entered) used) moved
 
 -- ---- nothing held is not met
 -- nothing is held
@@ -237,7 +161,7 @@ written-none opens id none n =
 in_both : (a b : List ℕ) (n : ℕ) → is_in a n ≡ false → is_in b n ≡ false → is_in (a ++ b) n ≡ false
 in_both a b n left right = list_any-append (λ m. m == n) a b ∙ or_from (is_in a n) (is_in b n) left right
 
-in_holders : (state : ReserveState) (opens : List OpenFile) (act : Act) (id : Id) → meets (holds_with state opens id) act ≡ true → list_any (λ i. same_id i id) (holders state opens) ≡ true
+pub in_holders : (state : ReserveState) (opens : List OpenFile) (act : Act) (id : Id) → meets (holds_with state opens id) act ≡ true → list_any (λ i. same_id i id) (holders state opens) ≡ true
 in_holders state opens act id met =
     elim (cases_Bool (list_any (λ i. same_id i id) (holders state opens))) [
       | inl there ↦ there
@@ -306,20 +230,6 @@ is_conflict-parts state opens who act outdated parts are =
     ∙ ap (λ l. meets_another state opens who act || outdated || touches_plain opens who (file_touched act) || overwrites_transacted opens who l) (sym are.overwritten_is)
 
 -- ---- the files
-meets-same : (a b : Holds) (act : Act) → IsSameHold a b → meets a act ≡ meets b act
-unfolding meets
-meets-same a b act same =
-    ap (λ x. (((x || list_any (is_place_in a.places) (places_changed act)) || list_any (is_in a.dropped) (directories_of (places_changed act))) || list_any (is_in a.uses) (directory_dropped act)) || (is_move_of_directory act && a.moves))
-    (any_same (is_in a.nodes) (is_in b.nodes) same.nodes (nodes_changed act))
-    ∙ ap (λ x. (((list_any (is_in b.nodes) (nodes_changed act) || x) || list_any (is_in a.dropped) (directories_of (places_changed act))) || list_any (is_in a.uses) (directory_dropped act)) || (is_move_of_directory act && a.moves))
-    (any_same (is_place_in a.places) (is_place_in b.places) same.places (places_changed act))
-    ∙ ap (λ x. (((list_any (is_in b.nodes) (nodes_changed act) || list_any (is_place_in b.places) (places_changed act)) || x) || list_any (is_in a.uses) (directory_dropped act)) || (is_move_of_directory act && a.moves))
-    (any_same (is_in a.dropped) (is_in b.dropped) same.dropped (directories_of (places_changed act)))
-    ∙ ap (λ x. (((list_any (is_in b.nodes) (nodes_changed act) || list_any (is_place_in b.places) (places_changed act)) || list_any (is_in b.dropped) (directories_of (places_changed act))) || x) || (is_move_of_directory act && a.moves))
-    (any_same (is_in a.uses) (is_in b.uses) same.uses (directory_dropped act))
-    ∙ ap (λ x. (((list_any (is_in b.nodes) (nodes_changed act) || list_any (is_place_in b.places) (places_changed act)) || list_any (is_in b.dropped) (directories_of (places_changed act))) || list_any (is_in b.uses) (directory_dropped act)) || (is_move_of_directory act && x))
-    same.moves
-
 -- what is held by changes and by open files is what is held of the files
 now-same : (state : ReserveState) (files : FilesNow) → Keeps state files → (id : Id) → IsSameHold (holds_with state files.table.opens id) (holds_now files id)
 now-same state files keeps id =

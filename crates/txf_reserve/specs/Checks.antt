@@ -1,5 +1,5 @@
 -- When a call is refused for what others hold, or for an open file's share mode.
-use Rattle.std.specs.Prelude.{ℕ, ◌&&◌, ◌||◌, not, Bool, false, List, [], ◌∷◌, ◌++◌, map, Option, Some, None, is_some, is_none}
+use Rattle.std.specs.Prelude.{ℕ, ◌==◌, ◌&&◌, ◌||◌, not, Bool, false, List, [], ◌∷◌, ◌++◌, map, Option, Some, None, is_some, is_none}
 use Rattle.std.specs.List.{list_any, flat_map}
 use Rattle.ktm_base.specs.declared.id.Id.{Id}
 use Rattle.ktm_base.specs.declared.refusal.Refusal.{Refusal}
@@ -31,6 +31,10 @@ holders state opens =
 -- does the call meet what another transaction holds
 abbrev pub meets_another : ReserveState → List OpenFile → Option Id → Act → Bool
 meets_another state opens who act = list_any (λ id. not (is_of id who) && meets (holds_with state opens id) act) (holders state opens)
+
+-- does another transaction hold the number
+abbrev pub is_number_held : Option Id → List NumberHeld → ℕ → Bool
+is_number_held who held n = list_any (λ h. h.number == n && not (is_of h.transaction who)) held
 
 -- does a transaction open or change one of these files, which a plain handle may write
 abbrev pub touches_plain : List OpenFile → Option Id → List ℕ → Bool

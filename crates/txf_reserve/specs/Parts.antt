@@ -1,5 +1,5 @@
 -- What of a call another transaction can meet, part by part. No public clause cites this module.
-use Rattle.std.specs.Prelude.{◌≡◌, ℕ, ◌==◌, ◌&&◌, ◌||◌, not, Bool, List, ◌++◌, Option}
+use Rattle.std.specs.Prelude.{◌≡◌, ℕ, ◌&&◌, ◌||◌, not, Bool, List, ◌++◌, Option}
 use Rattle.std.specs.List.{list_any}
 use Rattle.ktm_base.specs.declared.id.Id.{Id}
 use Rattle.ktm_world.specs.Files.{OpenFile}
@@ -8,7 +8,8 @@ use Rattle.ktm_world.specs.Transactions.{is_of}
 use Rattle.txf_opens.specs.OpensState.{is_other_writer}
 use Rattle.txf_reserve.specs.declared.act.Parts.{Parts}
 use Rattle.txf_reserve.specs.Acts.{listed, listed_place}
-use Rattle.txf_reserve.specs.ReserveState.{NumberHeld, PlaceHeld, ReserveState}
+use Rattle.txf_reserve.specs.Checks.{is_number_held}
+use Rattle.txf_reserve.specs.ReserveState.{PlaceHeld, ReserveState}
 
 -- the parts of what a call does
 pub record ArePartsOf (act : Act) (parts : Parts) : Type 0 where
@@ -18,10 +19,6 @@ pub record ArePartsOf (act : Act) (parts : Parts) : Type 0 where
   pub moves_is : is_move_of_directory act ≡ parts.moves
   pub touched_is : file_touched act ≡ listed parts.touched
   pub overwritten_is : file_overwritten act ≡ listed parts.overwritten
-
--- does another transaction hold the number
-abbrev pub is_number_held : Option Id → List NumberHeld → ℕ → Bool
-is_number_held who held n = list_any (λ h. h.number == n && not (is_of h.transaction who)) held
 
 -- does another transaction hold the name
 abbrev pub is_place_held : Option Id → List PlaceHeld → Place → Bool

@@ -6,8 +6,8 @@ ghost use Rattle.ktm_world.specs.Conflicts.{changes_outdated, conflicts};
 ghost use Rattle.ktm_world.specs.Files.{FilesNow};
 ghost use Rattle.txf_opens.specs.Acts.{act_of, violates, HasShortNames, HaveShortNames};
 ghost use Rattle.txf_reserve.specs.Acts.{listed, listed_place};
-ghost use Rattle.txf_reserve.specs.Checks.{is_conflict, overwrites_transacted, refusal_of, touches_plain};
-ghost use Rattle.txf_reserve.specs.Parts.{is_node_met, is_number_held, is_place_met, meets_parts};
+ghost use Rattle.txf_reserve.specs.Checks.{is_conflict, is_number_held, meets_another, overwrites_transacted, refusal_of, touches_plain};
+ghost use Rattle.txf_reserve.specs.Parts.{is_node_met, is_place_met, meets_parts};
 ghost use Rattle.txf_reserve.specs.ReserveState.{Keeps};
 
 use crate::act::{Parts, parts_of};
@@ -90,8 +90,8 @@ impl Reserve {
         }
     }
 
-    // Does the call meet what another transaction holds.
-    fn meets_another(&self, opens: &Opens, who: Option<Id>, parts: &Parts) -> bool
+    // Do the parts of a call meet what another transaction holds.
+    fn meets_parts(&self, opens: &Opens, who: Option<Id>, parts: &Parts) -> bool
         requires from { HaveShortNames (listed_place parts.now.from) }
         requires to { HaveShortNames (listed_place parts.now.to) }
         ensures { result ≡ meets_parts self.now opens.now.opens who parts.now }
@@ -103,13 +103,21 @@ impl Reserve {
             || (parts.moves && self.is_moving(who))
     }
 
+    /// Does the call meet what another transaction holds, by a change or by having a file open for writing.
+    pub fn meets(&self, opens: &Opens, who: Option<Id>, act: &Act) -> bool
+        requires { HasShortNames act.now }
+        ensures { result ≡ meets_another self.now opens.now.opens who (act_of act.now) }
+    {
+        self.meets_parts(opens, who, &parts_of(act))
+    }
+
     // Is a call with these parts refused for another transaction, or for plain handles.
     fn are_in_conflict(&self, opens: &Opens, who: Option<Id>, parts: &Parts, outdated: bool) -> bool
         requires from { HaveShortNames (listed_place parts.now.from) }
         requires to { HaveShortNames (listed_place parts.now.to) }
         ensures { result ≡ (meets_parts self.now opens.now.opens who parts.now || outdated || touches_plain opens.now.opens who (listed parts.now.touched) || overwrites_transacted opens.now.opens who (listed parts.now.overwritten)) }
     {
-        self.meets_another(opens, who, parts)
+        self.meets_parts(opens, who, parts)
             || outdated
             || touches_plain(opens, who, parts.touched)
             || overwrites_transacted(opens, who, parts.overwritten)

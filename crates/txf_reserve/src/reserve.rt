@@ -7,8 +7,9 @@ ghost use Rattle.ktm_world.specs.Holds.{Place as HeldPlace, directories_of, is_i
 ghost use Rattle.ktm_world.specs.Transactions.{is_of, same_id};
 ghost use Rattle.txf_opens.specs.Acts.{place_in, HaveShortNames};
 ghost use Rattle.txf_reserve.specs.Acts.{listed, listed_place, places_held};
+ghost use Rattle.txf_reserve.specs.Checks.{is_number_held};
 ghost use Rattle.txf_reserve.specs.HeldPairs.{has_pair};
-ghost use Rattle.txf_reserve.specs.Parts.{is_number_held, is_other_among, is_place_held};
+ghost use Rattle.txf_reserve.specs.Parts.{is_other_among, is_place_held};
 ghost use Rattle.txf_reserve.specs.ReserveKeys.{node_key, place_key, AreKeys, IsNodeKey, IsPlaceKey};
 ghost use Rattle.txf_reserve.specs.ReserveState.{holds_in, HoldsToo};
 
@@ -181,7 +182,7 @@ impl Reserve {
     }
 
     /// Does another transaction hold the file or directory.
-    pub(crate) fn is_node_held(&self, who: Option<Id>, node: u64) -> bool
+    pub fn is_node_held(&self, who: Option<Id>, node: u64) -> bool
         ensures { result ≡ is_number_held who self.now.nodes node }
     {
         self.nodes.is_held_by_other(&long_bytes(node), who)

@@ -1,11 +1,9 @@
 -- Bytes hold one log at most and stand for one state, or they are bad at one place.
 use Rattle.std.proofs.Common.{◌≡◌, inl, inr, ℕ, ◌+◌, true, IsTrue, List, [], ◌∷◌, ◌++◌, drop, refl, sym, ◌∙◌, ap, subst}
-use Rattle.std.proofs.lemmas.Bool.{and_from, and_parts}
-use Rattle.std.proofs.lemmas.List.Folds.{list_all-append}
+use Rattle.std.proofs.lemmas.Bool.{and_parts}
 use Rattle.ktm_log.specs.Log.{BeginsWith, IsFrame, IsClosed, area_bytes, end_of}
 use Rattle.ktm_log.proofs.Frames.{begins-split}
 use Rattle.ktm_log.proofs.GoodOrBad.{begins_compare, one_frame, torn_is_no_frame}
-use Rattle.ktm_forms.specs.Built.{is_built_group, is_built_log}
 use Rattle.ktm_world.specs.Logs.{Group}
 use Rattle.ktm_world.specs.Durable.{Durable, empty_state, stand, events_apply, log_applies}
 use Rattle.ktm_types.specs.EventGrammar.{IsGroupOf}
@@ -18,7 +16,7 @@ use Rattle.ktm_restart.specs.Bad.{IsBadFrame, IsBadAt}
 
 -- a new image holds a log of no group
 pub new_log : (units image : ℕ) (bytes : List ℕ) → IsImage units image [] bytes → HoldsLog units image [] bytes
-new_log units image bytes is = record { is = is; built = refl; applies = refl }
+new_log units image bytes is = record { is = is; applies = refl }
 
 -- bytes hold one log at most
 pub one_held : (u v i j : ℕ) (log more : List Group) (bytes : List ℕ) → HoldsLog u i log bytes → HoldsLog v j more bytes → (u ≡ v) × (i ≡ j) × (log ≡ more)
@@ -60,26 +58,20 @@ applies_behind : (base : Durable) (front more : List Group) (events : Group) →
 applies_behind base front more events applies =
     (and_parts _ _ (and_parts _ _ (sym (log_applies-append base front (events ∷ more)) ∙ applies)).1).0
 
--- of built groups each is built
-built_within : (front more : List Group) (events : Group) → IsTrue (is_built_log (front ++ events ∷ more)) → is_built_group events ≡ true
-built_within front more events built = (and_parts _ _ (and_parts _ _ (sym (list_all-append is_built_group front (events ∷ more)) ∙ built)).1).0
-
 module _ (units image : ℕ) (log : List Group) (bytes : List ℕ) (bad : IsBadFrame units image log bytes) where
   -- where the bad frame is no log goes on
-  not_longer : (more : List Group) (ps rest : List (List ℕ)) (r : List ℕ) → HoldGroups more ps → IsTrue (is_built_log more) → IsTrue (log_applies (empty_state units image) more)
+  not_longer : (more : List Group) (ps rest : List (List ℕ)) (r : List ℕ) → HoldGroups more ps → IsTrue (log_applies (empty_state units image) more)
       → BeginsWith ps (area_bytes (log_area units) bytes) → ps ≡ bad.payloads ++ r ∷ rest → ⊥
-  not_longer more ps rest r groups built applies begins is =
+  not_longer more ps rest r groups applies begins is =
       let base = empty_state units image in
       let at = drop (end_of bad.payloads) (area_bytes (log_area units) bytes) in
       let frame : IsFrame r at = (begins-split bad.payloads rest r _ (subst (λ (l : List (List ℕ)). BeginsWith l (area_bytes (log_area units) bytes)) is begins)).1 in
       let split = split_groups more bad.payloads rest r (subst (λ (l : List (List ℕ)). HoldGroups more l) is groups) in
       let good = applies_behind base split.front split.more split.events (subst (λ (l : List Group). IsTrue (log_applies base l)) split.is applies) in
       let here = subst (λ (l : List Group). events_apply (stand base l) split.events ≡ true) (one_groups split.front log bad.payloads split.groups bad.groups) good in
-      let made = built_within split.front split.more split.events (subst (λ (l : List Group). IsTrue (is_built_log l)) split.is built) in
-      let both = and_from (is_built_group split.events) (events_apply (stand base log) split.events) made here in
       elim bad.bad [
         | inl torn ↦ torn_is_no_frame r at frame torn
-        | inr (p, other, is_bad) ↦ absurd (cc (both, is_bad split.events (subst (λ (x : List ℕ). IsGroupOf split.events x) (one_frame r p at frame other) split.group)))
+        | inr (p, other, is_bad) ↦ absurd (cc (here, is_bad split.events (subst (λ (x : List ℕ). IsGroupOf split.events x) (one_frame r p at frame other) split.group)))
       ]
 
   -- and its gate is open
@@ -91,7 +83,7 @@ module _ (units image : ℕ) (log : List Group) (bytes : List ℕ) (bad : IsBadF
       let ps = holds.is.payloads in
       let b = area_bytes (log_area units) bytes in
       elim (begins_compare ps bad.payloads b holds.is.frames.frames bad.frames) [
-        | inl (r, rest, is) ↦ not_longer more ps rest r holds.is.groups holds.built holds.applies holds.is.frames.frames is
+        | inl (r, rest, is) ↦ not_longer more ps rest r holds.is.groups holds.applies holds.is.frames.frames is
         | inr (inl same) ↦ no_end (subst (λ (l : List (List ℕ)). IsClosed (drop (end_of l) b)) same holds.is.frames.gate)
         | inr (inr (r, rest, is)) ↦ holds.is.frames.gate.closed (begins-split ps rest r b (subst (λ (l : List (List ℕ)). BeginsWith l b) is bad.frames)).1.open_gate
       ]
@@ -107,9 +99,9 @@ not_bad state bytes offset stands bad = elim bad [
 
 one_bad_frame : (u i : ℕ) (log more : List Group) (bytes : List ℕ) → IsBadFrame u i log bytes → IsBadFrame u i more bytes → log ≡ more
 one_bad_frame u i log more bytes left right = elim (begins_compare left.payloads right.payloads (area_bytes (log_area u) bytes) left.frames right.frames) [
-  | inl (r, rest, is) ↦ absurd (not_longer u i more bytes right log left.payloads rest r left.groups left.built left.applies left.frames is)
+  | inl (r, rest, is) ↦ absurd (not_longer u i more bytes right log left.payloads rest r left.groups left.applies left.frames is)
   | inr (inl same) ↦ one_groups log more right.payloads (subst (λ (ps : List (List ℕ)). HoldGroups log ps) same left.groups) right.groups
-  | inr (inr (r, rest, is)) ↦ absurd (not_longer u i log bytes left more right.payloads rest r right.groups right.built right.applies right.frames is)
+  | inr (inr (r, rest, is)) ↦ absurd (not_longer u i log bytes left more right.payloads rest r right.groups right.applies right.frames is)
 ]
 
 pub one_bad_place : (a b : ℕ) (bytes : List ℕ) → IsBadAt bytes a → IsBadAt bytes b → a ≡ b

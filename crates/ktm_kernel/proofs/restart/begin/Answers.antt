@@ -1,32 +1,39 @@
-use Rattle.std.proofs.Common.{◌≡◌, ◌+◌, ◌∙◌, ap, map, subst, sym}
+use Rattle.std.proofs.Common.{◌≡◌, ◌+◌, ◌∙◌, ap, map}
 use Rattle.ktm_world.specs.Durable.{Durable}
-use Rattle.ktm_world.specs.Tree.{IsWellFormed}
+use Rattle.ktm_world.specs.Files.{FilesNow}
+use Rattle.txf_volume.specs.Held.{FilesHeld, files_of}
 use Rattle.ktm_back.specs.Bringing.{HasComeBack}
 use Rattle.ktm_trace.specs.Traces.{TraceState, traced}
-use Rattle.ktm_kernel.proofs.Begun.{fresh_slots, shows_fresh}
+use Rattle.ktm_kernel.proofs.Begun.{fresh_slots, good_then, shows_fresh}
 use Rattle.ktm_kernel.proofs.OwnGroups.{own_leaves_committed}
 use Rattle.ktm_kernel.proofs.restart.begin.Goals as goal
 
 pub of-requires : goal.of-requires
 of-requires c = record { rise = rw (c.transactions-2.ensures ∙ ap (λ (s : Durable). s.transactions) c.begin.ensures) ((own_leaves_committed c.args.state).rises c.requires.good.transactions_rise) }
 
-pub start-requires-2-clause-formed : goal.start-requires-2-clause-formed
-start-requires-2-clause-formed c =
-    subst IsWellFormed (sym (c.into_parts-files.ensures.tree ∙ ap (λ (s : Durable). s.tree) c.begin.ensures ∙ (own_leaves_committed c.args.state).tree)) c.requires.good.files
+pub restore-requires-clause-good : goal.restore-requires-clause-good
+restore-requires-clause-good c =
+    let is = c.into_parts-files.ensures in
+    good_then c.args.state c.begin.new.self _ _ _ _ c.begin.ensures is.tree is.next_node is.keys is.transactions
+    c.law_of_good_states.ensures c.law_of_own_groups.ensures c.requires.good c.requires.most c.requires.boots c.requires.events
 
-pub returns-clause-shows : goal.returns-clause-shows
-returns-clause-shows c = λ left.
+pub returns-in-Ok-restore-clause-shows : goal.returns-in-Ok-restore-clause-shows
+returns-in-Ok-restore-clause-shows c = λ left.
     let s = c.args.state in
-    let back : HasComeBack (s.boots + 1) s.managers s.transactions c.start-2.result.tm =
-    rw (c.start-2.ensures.tm) (rw (c.boots.ensures, c.managers.ensures, c.transactions.ensures) at c.in_ok-tm.ensures) in
-    let traces : c.start-2.result.trace.transactions ≡ map traced c.begin.new.self.transactions =
-    ap (λ (t : TraceState). t.transactions) c.start-2.ensures.trace ∙ c.in_ok-trace.ensures.transactions ∙ ap (λ ts. map traced ts) c.transactions-2.ensures in
-    shows_fresh c.start-2.result s c.begin.new.self _ _ _ left c.begin.ensures c.start-2.ensures.up back traces c.start-2.ensures.files c.start-2.ensures.next_node c.start-2.ensures.keys c.start-2.ensures.handles
-    c.into_parts-files.ensures.tree c.into_parts-files.ensures.next_node c.into_parts-files.ensures.keys
+    let is = c.into_parts-files.ensures in
+    let back : HasComeBack (s.boots + 1) s.managers s.transactions c.start-in-Ok-restore.result.tm =
+    rw (c.start-in-Ok-restore.ensures.tm) (rw (c.boots.ensures, c.managers.ensures, c.transactions.ensures) at c.in-Ok.ensures) in
+    let traces : c.start-in-Ok-restore.result.trace.transactions ≡ map traced c.begin.new.self.transactions =
+    ap (λ (t : TraceState). t.transactions) c.start-in-Ok-restore.ensures.trace ∙ c.in-Ok-of.ensures.transactions ∙ ap (λ ts. map traced ts) c.transactions-2.ensures in
+    let files = ap (λ (f : FilesHeld). files_of f) c.start-in-Ok-restore.ensures.files ∙ c.in-Ok-restore.ensures.files in
+    let next_node = c.start-in-Ok-restore.ensures.next_node ∙ ap (λ (f : FilesNow). f.table.next_node) c.in-Ok-restore.ensures.files in
+    let keys = ap (λ k. k.keys) c.start-in-Ok-restore.ensures.keys ∙ c.in-Ok-restore.ensures.keys in
+    shows_fresh s c.begin.new.self _ _ _ _ c.begin.ensures is.tree is.next_node is.keys is.transactions c.law_of_in_doubt.ensures c.requires.good
+    c.start-in-Ok-restore.result left c.start-in-Ok-restore.ensures.up back traces files next_node keys c.start-in-Ok-restore.ensures.handles
 
-pub returns-clause-slots : goal.returns-clause-slots
-returns-clause-slots c = λ left.
+pub returns-in-Ok-restore-clause-slots : goal.returns-in-Ok-restore-clause-slots
+returns-in-Ok-restore-clause-slots c = λ left.
     let s = c.args.state in
-    let back : HasComeBack (s.boots + 1) s.managers s.transactions c.start-2.result.tm =
-    rw (c.start-2.ensures.tm) (rw (c.boots.ensures, c.managers.ensures, c.transactions.ensures) at c.in_ok-tm.ensures) in
-    fresh_slots c.law_of_slots.ensures s left c.start-2.result.tm back
+    let back : HasComeBack (s.boots + 1) s.managers s.transactions c.start-in-Ok-restore.result.tm =
+    rw (c.start-in-Ok-restore.ensures.tm) (rw (c.boots.ensures, c.managers.ensures, c.transactions.ensures) at c.in-Ok.ensures) in
+    fresh_slots c.law_of_slots.ensures s left c.start-in-Ok-restore.result.tm back

@@ -8,7 +8,7 @@ use Rattle.ktm_types.specs.declared.event.Event.{Event}
 use Rattle.ktm_types.specs.declared.object.Transaction.{Transaction}
 use Rattle.ktm_world.specs.Transactions.{is_live}
 use Rattle.ktm_world.specs.TransactionCalls.{later}
-use Rattle.ktm_built.specs.Effects.{undo_of}
+use Rattle.ktm_standing.specs.Effects.{undo_of}
 use Rattle.ktm_memory.proofs.UndoneLive.{undone_all, undone_here, undone_over}
 use Rattle.ktm_memory.proofs.undone.record_undone.Goals as goal
 use Rattle.ktm_memory.proofs.undone.record_undone.Goals.{In-loop-place, in-Some, in_default}

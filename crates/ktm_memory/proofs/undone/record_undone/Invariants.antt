@@ -6,7 +6,7 @@ use Rattle.ktm_types.specs.Sizes.{event_size}
 use Rattle.ktm_types.specs.declared.event.Event.{Event}
 use Rattle.ktm_world.specs.Transactions.{is_live}
 use Rattle.ktm_world.specs.TransactionCalls.{later}
-use Rattle.ktm_built.specs.Effects.{undo_of}
+use Rattle.ktm_standing.specs.Effects.{undo_of}
 use Rattle.ktm_memory.proofs.undone.record_undone.Given as goal
 
 -- what is recorded of those from this place on fits, and with it the list has all

@@ -4,7 +4,7 @@ use Rattle.ktm_event.proofs.Joined.{sizes_both}
 use Rattle.ktm_types.specs.Sizes.{event_size}
 use Rattle.ktm_world.specs.Transactions.{is_live}
 use Rattle.ktm_world.specs.TransactionCalls.{later}
-use Rattle.ktm_built.specs.Effects.{undo_of}
+use Rattle.ktm_standing.specs.Effects.{undo_of}
 use Rattle.ktm_memory.proofs.UndoneLive.{undone_all, undone_here, undone_over}
 use Rattle.ktm_memory.proofs.undone.undone_size.Goals as goal
 use Rattle.ktm_memory.proofs.undone.undone_size.Goals.{in-Some, in_default}

@@ -3,7 +3,7 @@ use Rattle.std.specs.List.{flat_map}
 use Rattle.ktm_types.specs.Sizes.{event_size}
 use Rattle.ktm_world.specs.Transactions.{is_live}
 use Rattle.ktm_world.specs.TransactionCalls.{later}
-use Rattle.ktm_built.specs.Effects.{undo_of}
+use Rattle.ktm_standing.specs.Effects.{undo_of}
 use Rattle.ktm_memory.proofs.undone.undone_size.Given as goal
 
 -- with what is recorded of those from this place on, all is counted

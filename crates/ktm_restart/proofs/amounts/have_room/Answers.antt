@@ -2,13 +2,14 @@ use Rattle.std.proofs.Common.{◌+◌, ◌&&◌, ◌∙◌, drop, sym, ap}
 use Rattle.std.proofs.lemmas.Bool.{and_left}
 use Rattle.ktm_restart.specs.Waiting.{fits_in, minus, total}
 use Rattle.ktm_restart.proofs.Fitting.{fits-step, item-in}
+use Rattle.ktm_restart.proofs.Keeping.{kept-form}
 use Rattle.ktm_restart.proofs.amounts.have_room.Goals as goal
 
 pub amounts_of-requires-clause-parts : goal.amounts_of-requires-clause-parts
 amounts_of-requires-clause-parts c = (c.requires.1 c.t-item.result (item-in c.args.transactions.now c.loop-t.t-index c.t-item.result c.loop-t-test.true c.t-item.is)).parts
 
 pub amounts_of-requires-clause-form : goal.amounts_of-requires-clause-form
-amounts_of-requires-clause-form c = (c.requires.1 c.t-item.result (item-in c.args.transactions.now c.loop-t.t-index c.t-item.result c.loop-t-test.true c.t-item.is)).form
+amounts_of-requires-clause-form c = kept-form c.t-item.result (c.requires.1 c.t-item.result (item-in c.args.transactions.now c.loop-t.t-index c.t-item.result c.loop-t-test.true c.t-item.is)).changes
 
 pub returns-in-None : goal.returns-in-None
 returns-in-None c tree kept =

@@ -3,7 +3,7 @@ use Rattle.std.proofs.lemmas.List.{take_rest}
 use Rattle.ktm_restart.specs.Payloads.{IsFirstBad}
 use Rattle.ktm_log.specs.Log.{first_payload, payloads_in}
 use Rattle.ktm_restart.proofs.Folds.{folded_none, folded_more, folded_all, first_bad}
-use Rattle.ktm_restart.proofs.GoodLogs.{bytes_fit, comes_to_good}
+use Rattle.ktm_restart.proofs.GoodLogs.{bytes_fit, comes_to_good, comes_to_texts}
 use Rattle.ktm_restart.proofs.replay.replay.Goals as goal
 
 pub loop-payload-init : goal.loop-payload-init
@@ -37,5 +37,11 @@ returns-clause-good c =
 pub returns-clause-sound : goal.returns-clause-sound
 returns-clause-sound c =
     comes_to_good c.law_of_grammar.ensures c.law_of_good_states.ensures c.args.header.units c.args.header.image c.args.bytes.now c.loop-payload.state c.requires.least (search rules) (bytes_fit c.args.bytes.now (λ i. omega (arith, c.type_inv.bytes i)))
+    (folded_all c.args.header.units c.args.header.image c.args.bytes.now c.loop-payload.at c.loop-payload.state c.loop-payload.invariant
+    (ap first_payload (sym (take_rest c.args.bytes.now c.loop-payload.at)) ∙ c.in_default.ensures.is))
+
+pub returns-clause-texts : goal.returns-clause-texts
+returns-clause-texts c =
+    comes_to_texts c.law_of_spelling.ensures c.args.header.units c.args.header.image c.args.bytes.now c.loop-payload.state (bytes_fit c.args.bytes.now (λ i. omega (arith, c.type_inv.bytes i)))
     (folded_all c.args.header.units c.args.header.image c.args.bytes.now c.loop-payload.at c.loop-payload.state c.loop-payload.invariant
     (ap first_payload (sym (take_rest c.args.bytes.now c.loop-payload.at)) ∙ c.in_default.ensures.is))

@@ -5,7 +5,7 @@ use Rattle.ktm_restart.proofs.replay.replay_log.Goals as goal
 
 pub returns-in-Ok-replay : goal.returns-in-Ok-replay
 returns-in-Ok-replay g c =
-    replayed c.args.header _ _ c.requires.formatted c.replay.new.state c.in-Ok.journal c.in-Ok.ensures (rw c.as_slice.ensures.value at c.in-Ok-replay.ensures.read) (rw c.as_slice.ensures.value at c.in-Ok-replay.ensures.good) c.in-Ok-replay.ensures.sound
+    replayed c.args.header _ _ c.requires.formatted c.replay.new.state c.in-Ok.journal c.in-Ok.ensures (rw c.as_slice.ensures.value at c.in-Ok-replay.ensures.read) (rw c.as_slice.ensures.value at c.in-Ok-replay.ensures.good) c.in-Ok-replay.ensures.sound c.in-Ok-replay.ensures.texts
 
 pub returns-in-Err : goal.returns-in-Err
 returns-in-Err g c =

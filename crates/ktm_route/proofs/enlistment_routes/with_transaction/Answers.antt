@@ -2,7 +2,7 @@ use Rattle.std.specs.Option.{option_copied}
 use Rattle.std.proofs.Common.{ap, sym, ◌∙◌}
 use Rattle.ktm_world.specs.Enlistments.{Enlistment}
 use Rattle.ktm_world.specs.Transactions.{transaction_at}
-use Rattle.ktm_built.proofs.offered.Named.{named_law}
+use Rattle.ktm_standing.proofs.offered.Named.{named_law}
 use Rattle.ktm_memory.specs.Memory.{present_of}
 use Rattle.ktm_memory.proofs.offered.Standing.{kept}
 use Rattle.ktm_route.proofs.enlistment_routes.with_transaction.Goals as goal

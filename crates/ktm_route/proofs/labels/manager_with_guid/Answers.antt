@@ -1,6 +1,6 @@
 use Rattle.std.proofs.Common.{option_map, ap, sym, ◌∙◌}
 use Rattle.ktm_base.specs.declared.id.ObjectKind.{ObjectKind}
-use Rattle.ktm_built.proofs.offered.Guids.{guid_law}
+use Rattle.ktm_standing.proofs.offered.Guids.{guid_law}
 use Rattle.ktm_memory.specs.Memory.{present_of}
 use Rattle.ktm_memory.proofs.offered.Standing.{kept}
 use Rattle.ktm_world.specs.Enlistments.{Manager}

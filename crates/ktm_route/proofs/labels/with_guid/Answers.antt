@@ -2,7 +2,7 @@ use Rattle.std.proofs.Common.{◌&&◌, ap, sym, ◌∙◌}
 use Rattle.std.specs.Prelude.{find, option_and_then}
 use Rattle.ktm_base.specs.declared.id.ObjectKind.{ObjectKind}
 use Rattle.ktm_world.specs.Transactions.{is_live, same_id}
-use Rattle.ktm_built.proofs.offered.Guids.{guid_law}
+use Rattle.ktm_standing.proofs.offered.Guids.{guid_law}
 use Rattle.ktm_memory.specs.Memory.{present_of}
 use Rattle.ktm_memory.proofs.offered.Standing.{kept}
 use Rattle.ktm_route.proofs.Found.{leads_to}

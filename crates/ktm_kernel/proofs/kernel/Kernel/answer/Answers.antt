@@ -31,13 +31,13 @@ settle-requires-clause-may g c =
 pub settle-requires-clause-told : goal.settle-requires-clause-told
 settle-requires-clause-told g c =
     let decides = rw c.in-Some.is at c.in_ok-decided.ensures.ok in
-    let well = asked_well c.law_of_standing.ensures c.law_of_slots.ensures c.self.inside.memory c.decide.new.memory c.args.self.now _ _ c.args.asked c.self.view_is c.requires.up c.requires.ready c.requires.built decides.room (rw c.in-Some.is at c.in_ok-decided.ensures.slots refl) in
+    let well = asked_well c.law_of_standing.ensures c.law_of_slots.ensures c.self.inside.memory c.decide.new.memory c.args.self.now _ _ c.args.asked c.self.view_is c.requires.up c.requires.ready c.requires.asked decides.room (rw c.in-Some.is at c.in_ok-decided.ensures.slots refl) in
     may_tell c.self.inside.memory (asked_outcome (present_of c.self.inside.memory) c.args.asked) c.in-Some.field-0.reply c.in-Some.field-0.settlement c.decide.new.events c.decide.new.memory decides well c.record.new.self c.in-Ok.ensures.grows
 
 pub returns-in-Ok-clause-leaves : goal.returns-in-Ok-clause-leaves
 returns-in-Ok-clause-leaves g c =
     let decides = rw c.in-Some.is at c.in_ok-decided.ensures.ok in
-    let well = asked_well c.law_of_standing.ensures c.law_of_slots.ensures c.self.inside.memory c.decide.new.memory c.args.self.now _ _ c.args.asked c.self.view_is c.requires.up c.requires.ready c.requires.built decides.room (rw c.in-Some.is at c.in_ok-decided.ensures.slots refl) in
+    let well = asked_well c.law_of_standing.ensures c.law_of_slots.ensures c.self.inside.memory c.decide.new.memory c.args.self.now _ _ c.args.asked c.self.view_is c.requires.up c.requires.ready c.requires.asked decides.room (rw c.in-Some.is at c.in_ok-decided.ensures.slots refl) in
     as_shown (λ x. decided x c.args.asked) (machine_of c.self.inside.memory) c.args.self.now _ _ (on (machine_of c.settle.new.self) _ _) c.in-Some.field-0.reply c.self.view_is
     (done_answered c.self.inside.memory (asked_outcome (present_of c.self.inside.memory) c.args.asked) c.in-Some.field-0.reply c.in-Some.field-0.settlement c.decide.new.events c.decide.new.memory decides _ _
     c.record.new.self c.settle.new.self _ _ c.law_of_contents.ensures c.law_of_kept.ensures well c.in-Ok.ensures c.settle.ensures.settles c.settle.ensures.journal)

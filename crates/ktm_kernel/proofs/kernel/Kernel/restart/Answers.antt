@@ -27,7 +27,7 @@ returns-in-Ok-record_start-clause-leaves g c =
     restarted _ (on c.args.buffer.now (g.D.Disk.told c.args.disk.now) (g.D.Disk.status c.args.disk.now)) (on c.load.new.buffer (g.D.Disk.told c.load.new.disk) (g.D.Disk.status c.load.new.disk)) c.in-Ok.loaded c.in-Ok.ensures.leaves
     c.in-Ok-prepare.starting.events c.in-Ok-prepare.starting.memory c.in-Ok-prepare.ensures.begun
     (on c.record_start.new.buffer (g.D.Disk.told c.record_start.new.disk) (g.D.Disk.status c.record_start.new.disk)) is.memory _ is.leaves is.is
-    c.law_of_good_states.ensures c.law_of_own_groups.ensures c.law_of_grammar.ensures c.law_of_standing.ensures c.law_of_fresh.ensures c.law_of_contents.ensures c.events-found.ensures refl
+    c.law_of_good_states.ensures c.law_of_own_groups.ensures c.law_of_grammar.ensures c.law_of_standing.ensures c.law_of_fresh.ensures c.law_of_contents.ensures c.events-found.ensures c.in_doubt-in_doubt.ensures
 
 pub returns-in-Err-clause-leaves : goal.returns-in-Err-clause-leaves
 returns-in-Err-clause-leaves g c =

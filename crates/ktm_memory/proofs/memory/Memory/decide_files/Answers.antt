@@ -1,5 +1,5 @@
 use Rattle.std.proofs.Common.{ap, sym, subst, ◌∙◌}
-use Rattle.ktm_built.specs.Files.{MayMake}
+use Rattle.ktm_standing.specs.Files.{MayMake}
 use Rattle.ktm_world.specs.FileOutcome.{FileOutcome}
 use Rattle.ktm_world.specs.Outcome.{only_reply}
 use Rattle.txf_laws.specs.FileEffects.{IsOrderly}

@@ -1,4 +1,4 @@
-use Rattle.std.proofs.Common.{◌≤◌, Some, Result, Ok, Err, IfOk, arith}
+use Rattle.std.proofs.Common.{Some, Result, Ok, Err, IfOk, arith}
 use Rattle.std.proofs.lemmas.Result.{IfOk-weaker}
 use Rattle.ktm_tm.specs.Courses.{caller_of}
 use Rattle.ktm_world.specs.Enlistments.{enlistment_at, manager_at}

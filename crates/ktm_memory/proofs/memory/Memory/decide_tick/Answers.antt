@@ -1,6 +1,6 @@
 use Rattle.std.proofs.Common.{◌≡◌, ℕ, ◌-◌, not, Bool, true, false, List, All, filter, refl, sym, ap, subst, ◌∙◌}
 use Rattle.std.specs.List.{flat_map}
-use Rattle.ktm_built.specs.Effects.{undo_of}
+use Rattle.ktm_standing.specs.Effects.{undo_of}
 use Rattle.ktm_event.specs.Kept.{Holds}
 use Rattle.ktm_event.specs.Spelling.{IsSpellableEvent}
 use Rattle.ktm_types.specs.declared.event.Event.{Event}

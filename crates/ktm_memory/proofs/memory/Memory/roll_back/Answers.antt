@@ -1,7 +1,7 @@
 use Rattle.std.proofs.Common.{◌≡◌, ◌+◌, ◌≤◌, ◌∙◌, List, length, None, subst, sym, arith}
 use Rattle.std.proofs.lemmas.Bool.{true≢false}
-use Rattle.ktm_built.proofs.offered.Rows.{row_leads}
-use Rattle.ktm_built.specs.Courses.{LogsNext}
+use Rattle.ktm_standing.proofs.offered.Rows.{row_leads}
+use Rattle.ktm_standing.specs.Courses.{LogsNext}
 use Rattle.ktm_memory.specs.Memory.{CanGoOn, Shows, course_then}
 use Rattle.ktm_memory.proofs.Carried.{aborts_log}
 use Rattle.ktm_types.specs.declared.input.PhaseInput.{PhaseInput}

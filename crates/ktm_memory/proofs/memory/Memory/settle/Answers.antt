@@ -1,5 +1,5 @@
 use Rattle.std.proofs.Common.{◌≡◌, true, is_some, List, sym, subst}
-use Rattle.ktm_built.proofs.offered.NextNode.{logs_next}
+use Rattle.ktm_standing.proofs.offered.NextNode.{logs_next}
 use Rattle.ktm_memory.specs.Memory.{MemoryState, SettlesGood, TellsWithin, course_then}
 use Rattle.ktm_memory.proofs.Behind.{settles-good, settles-reply}
 use Rattle.ktm_memory.proofs.Telling.{settles-inform, settles-recover, settles-take, told-recover}

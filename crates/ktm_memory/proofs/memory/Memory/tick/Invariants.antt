@@ -1,6 +1,6 @@
 use Rattle.std.proofs.Common.{◌≡◌, ◌≤◌, filter, length}
 use Rattle.ktm_base.specs.declared.limits.TheConstants.{MOST_LIVE}
-use Rattle.ktm_built.proofs.offered.Distinct.{Rise}
+use Rattle.ktm_standing.proofs.offered.Distinct.{Rise}
 use Rattle.ktm_memory.specs.Memory.{MemoryState, Settles, TellsWithin}
 use Rattle.ktm_world.specs.TransactionCalls.{tick}
 use Rattle.ktm_world.specs.Transactions.{is_live}

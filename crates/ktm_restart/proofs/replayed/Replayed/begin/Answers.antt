@@ -1,11 +1,9 @@
-use Rattle.std.proofs.Common.{◌≡◌, ◌+◌, None, true, length, arith, ap, sym, subst, ◌∙◌}
+use Rattle.std.proofs.Common.{◌+◌, length, arith, ap, ◌∙◌}
 use Rattle.std.specs.List.{flat_map}
 use Rattle.ktm_types.specs.declared.event.Event.TheVariants.{Boot}
 use Rattle.ktm_world.specs.Durable.{Durable, fact_of}
 use Rattle.ktm_world.specs.World.{own_events}
 use Rattle.ktm_restart.specs.Replayed.{ReplayedState}
-use Rattle.ktm_restart.specs.Waiting.{none_waits_but}
-use Rattle.ktm_restart.proofs.Coming.{none-filter}
 use Rattle.ktm_restart.proofs.OwnDones.{Made, made-all, own-boot}
 use Rattle.ktm_restart.proofs.replayed.Replayed.begin.Goals as goal
 
@@ -17,5 +15,4 @@ loop-init c =
     record {
       after = made-all made;
       events = omega (arith, made.events, ap length made.left, c.requires.events);
-      rest = λ none. subst (λ (d : Durable). none_waits_but None d.transactions ≡ true) (sym made.is) (none-filter _ s.transactions none);
     }

@@ -1,8 +1,7 @@
-use Rattle.std.proofs.Common.{◌≡◌, ◌+◌, ◌<◌, ◌^◌, length, None, true}
+use Rattle.std.proofs.Common.{◌≡◌, ◌+◌, ◌<◌, ◌^◌, length}
 use Rattle.std.specs.List.{flat_map}
 use Rattle.ktm_world.specs.Durable.{after_events}
 use Rattle.ktm_world.specs.World.{own_events, own_group}
-use Rattle.ktm_restart.specs.Waiting.{none_waits_but}
 use Rattle.ktm_restart.proofs.replayed.Replayed.begin.Given as goal
 
 -- with what is left, all is made
@@ -10,7 +9,6 @@ abbrev pub invariant-loop : goal.invariant-loop
 invariant-loop l = record {
   after : after_events l.self.state (flat_map own_events l.self.state.transactions) ≡ after_events l.fn.self.state (own_group l.fn.self.state);
   events : l.self.state.events + length (flat_map own_events l.self.state.transactions) < 2 ^ 63;
-  rest : none_waits_but None l.fn.self.state.transactions ≡ true → none_waits_but None l.self.state.transactions ≡ true;
 }
 
 abbrev pub decreases-loop : goal.decreases-loop

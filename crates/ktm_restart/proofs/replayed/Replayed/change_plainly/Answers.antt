@@ -1,8 +1,9 @@
-use Rattle.std.proofs.Common.{◌∷◌, ◌∙◌, [], None, sym, ap}
+use Rattle.std.proofs.Common.{◌∷◌, ◌∙◌, [], sym, ap, refl, None}
 use Rattle.ktm_types.specs.declared.event.Event.TheVariants.{Plain}
+use Rattle.ktm_world.specs.Durable.{recorded_changes_apply}
 use Rattle.ktm_restart.specs.Replayed.{ReplayedState}
 use Rattle.ktm_restart.specs.Waiting.{passes_units}
-use Rattle.ktm_restart.proofs.Holding.{changes-alone, none-at-all, takes-ok, takes-none}
+use Rattle.ktm_restart.proofs.Holding.{takes-ok, takes-none}
 use Rattle.ktm_restart.proofs.Past.{past_units}
 use Rattle.ktm_restart.proofs.replayed.Replayed.change_plainly.Goals as goal
 
@@ -15,4 +16,4 @@ returns-then-passes_units-clause-takes c =
 pub returns-clause-takes : goal.returns-clause-takes
 returns-clause-takes c =
     let s = c.args.self.now.state in
-    takes-ok c.commit_change.result s c.commit_change.new.self.state (Plain c.args.change) _ (sym (changes-alone s None (c.args.change ∷ []) (none-at-all s None c.requires))) c.commit_change.ensures.applies c.commit_change.ensures.after
+    takes-ok c.commit_change.result s c.commit_change.new.self.state (Plain c.args.change) (recorded_changes_apply s None (c.args.change ∷ [])) refl c.commit_change.ensures.applies c.commit_change.ensures.after

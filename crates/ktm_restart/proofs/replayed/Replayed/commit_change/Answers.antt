@@ -1,11 +1,13 @@
-use Rattle.std.proofs.Common.{◌∙◌, None, ap}
-use Rattle.txf_tree.specs.TreeState.{tree_of}
-use Rattle.ktm_restart.specs.Replayed.{ReplayedState}
-use Rattle.ktm_restart.specs.Waiting.{none_waits_but}
-use Rattle.ktm_restart.proofs.Keeping.{kept-idle}
+use Rattle.std.proofs.Common.{◌∷◌, [], None}
+use Rattle.ktm_restart.proofs.Holding.{made-ok, tested-apply}
+use Rattle.ktm_restart.proofs.Keeping.{spared-plain}
 use Rattle.ktm_restart.proofs.replayed.Replayed.commit_change.Goals as goal
 
-pub invariant_of-self : goal.invariant_of-self
-invariant_of-self c =
-    kept-idle (tree_of c.self.inside.files.tree) (tree_of c.commit_one.new.self.tree) c.self.inside.transactions.transactions c.self.invariant
-    (ap (λ (r : ReplayedState). none_waits_but None r.state.transactions) c.self.view_is ∙ c.requires)
+pub make_one-requires : goal.make_one-requires
+make_one-requires c all new =
+    let s = c.args.self.now.state in
+    let cs = c.args.change ∷ [] in
+    spared-plain s cs c.law_of_kept.ensures.kept (tested-apply s None cs c.is_free.result c.if-not-is_free.false c.is_free.ensures all new)
+
+pub returns-clause-applies : goal.returns-clause-applies
+returns-clause-applies c = made-ok c.make_one.result c.args.self.now.state None (c.args.change ∷ []) c.is_free.result c.if-not-is_free.false c.is_free.ensures c.make_one.ensures.applies

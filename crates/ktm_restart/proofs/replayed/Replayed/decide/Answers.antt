@@ -1,34 +1,42 @@
-use Rattle.std.proofs.Common.{◌∙◌, None, sym, ap, subst}
+use Rattle.std.proofs.Common.{◌∙◌, List, sym, ap, subst}
 use Rattle.std.specs.List.{list_all}
-use Rattle.ktm_world.specs.Changes.{changes_apply, has_changes}
-use Rattle.ktm_world.specs.Durable.{is_new_in, recorded_at}
+use Rattle.ktm_world.specs.Changes.{changes_apply}
+use Rattle.ktm_world.specs.Durable.{Recorded, is_new_in, recorded_at}
 use Rattle.txf_tree.specs.TreeState.{tree_of}
-use Rattle.ktm_restart.specs.Waiting.{AreKept, none_waits_but}
-use Rattle.ktm_restart.proofs.Keeping.{changes-apply-at, changes-new-at, decide-idle, decide-kept, found-kept}
+use Rattle.ktm_restart.specs.Table.{decided_in}
+use Rattle.ktm_restart.specs.Waiting.{AreHeld, AreSpared}
+use Rattle.ktm_restart.proofs.Keeping.{changes-apply-at, changes-new-at, decide-spared, found-kept}
+use Rattle.ktm_restart.proofs.Reserving.{held-decided, held-idle}
 use Rattle.ktm_restart.proofs.replayed.Replayed.decide.Goals as goal
 
 pub decide-changes-requires : goal.decide-changes-requires
-decide-changes-requires c t found = (found-kept (tree_of c.self.inside.files.tree) c.self.inside.transactions.transactions c.args.transaction t c.self.invariant found).parts
+decide-changes-requires c t found = (found-kept (tree_of c.self.inside.files.tree) c.self.inside.transactions.transactions c.args.transaction t c.self.invariant.kept found).parts
+
+pub release_changes-requires : goal.release_changes-requires
+release_changes-requires c none =
+    held-idle c.self.inside.waiting (tree_of c.self.inside.files.tree) c.self.inside.transactions.transactions c.args.transaction c.self.invariant
+    (sym c.decide-changes.ensures.changes ∙ sym c.deref.ensures.value ∙ none)
 
 pub invariant_of-self : goal.invariant_of-self
 invariant_of-self c =
     let tree = tree_of c.self.inside.files.tree in
-    let ts = c.self.inside.transactions.transactions in
-    subst (AreKept tree) (sym c.decide-changes.ensures.rest)
-    (decide-kept tree ts (recorded_at ts c.args.transaction) c.self.invariant (λ t found. (found-kept tree ts c.args.transaction t c.self.invariant found).parts))
+    let r' = c.release_changes.new.waiting in
+    subst (AreHeld r' tree) (sym c.decide-changes.ensures.rest)
+    (held-decided c.self.inside.waiting tree c.self.inside.transactions.transactions c.self.invariant r' c.args.transaction c.release_changes.ensures)
 
 pub commit-requires-clause-apply : goal.commit-requires-clause-apply
 commit-requires-clause-apply c =
     let tree = tree_of c.self.inside.files.tree in
-    ap (changes_apply tree) c.decide-changes.ensures.changes ∙ changes-apply-at tree c.self.inside.transactions.transactions c.args.transaction c.self.invariant
+    ap (changes_apply tree) c.decide-changes.ensures.changes ∙ changes-apply-at tree c.self.inside.transactions.transactions c.args.transaction c.self.invariant.kept
 
 pub commit-requires-clause-new : goal.commit-requires-clause-new
 commit-requires-clause-new c =
     let tree = tree_of c.self.inside.files.tree in
-    ap (list_all (is_new_in tree)) c.decide-changes.ensures.changes ∙ changes-new-at tree c.self.inside.transactions.transactions c.args.transaction c.self.invariant
+    ap (list_all (is_new_in tree)) c.decide-changes.ensures.changes ∙ changes-new-at tree c.self.inside.transactions.transactions c.args.transaction c.self.invariant.kept
 
-pub commit-requires-clause-waits : goal.commit-requires-clause-waits
-commit-requires-clause-waits c some =
+pub commit-requires-clause-spared : goal.commit-requires-clause-spared
+commit-requires-clause-spared c =
     let tree = tree_of c.self.inside.files.tree in
-    ap (none_waits_but None) c.decide-changes.ensures.rest
-    ∙ decide-idle tree c.self.inside.transactions.transactions c.args.transaction c.self.invariant (ap has_changes (sym c.decide-changes.ensures.changes) ∙ some)
+    let ts = c.self.inside.transactions.transactions in
+    subst (λ (us : List Recorded). AreSpared tree us c.decide-changes.result.0.items) (sym c.decide-changes.ensures.rest)
+    (subst (AreSpared tree (decided_in ts (recorded_at ts c.args.transaction))) (sym c.decide-changes.ensures.changes) (decide-spared tree ts c.args.transaction c.self.invariant.kept))

@@ -1,10 +1,13 @@
-use Rattle.std.proofs.Common.{sym, subst}
+use Rattle.std.proofs.Common.{◌≡◌, true, sym, subst}
+use Rattle.ktm_world.specs.Durable.{has_undone, stage_passes}
 use Rattle.txf_tree.specs.TreeState.{tree_of}
-use Rattle.ktm_restart.specs.Waiting.{AreKept}
-use Rattle.ktm_restart.proofs.Keeping.{finish-kept}
+use Rattle.ktm_restart.specs.Replayed.{ReplayedState}
+use Rattle.ktm_restart.specs.Waiting.{AreHeld}
+use Rattle.ktm_restart.proofs.Reserving.{held-finished}
 use Rattle.ktm_restart.proofs.replayed.Replayed.finish_part.Goals as goal
 
 pub invariant_of-self : goal.invariant_of-self
 invariant_of-self c =
     let tree = tree_of c.self.inside.files.tree in
-    subst (AreKept tree) (sym c.finish.ensures) (finish-kept tree c.self.inside.transactions.transactions c.args.done c.args.transaction c.self.invariant)
+    let undone = subst (λ (r : ReplayedState). stage_passes r.state c.args.transaction (has_undone c.args.done) ≡ true) (sym c.self.view_is) c.requires in
+    subst (AreHeld c.self.inside.waiting tree) (sym c.finish.ensures) (held-finished c.self.inside.waiting tree c.self.inside.transactions.transactions c.self.invariant c.args.done c.args.transaction undone)

@@ -17,7 +17,7 @@ pub returns-else-are_few : goal.returns-else-are_few
 returns-else-are_few c = c.if-are_few.false ∙ sym (too-many c.args.self.now.state (sym c.if-are_few.ensures))
 
 pub have_room-requires : goal.have_room-requires
-have_room-requires c = (tree_of c.self.inside.files.tree, λ t there. c.self.invariant.each t (subst (IsIn t) c.as_slice.ensures there))
+have_room-requires c = (tree_of c.self.inside.files.tree, λ t there. c.self.invariant.kept.each t (subst (IsIn t) c.as_slice.ensures there))
 
 pub returns-then-are_few : goal.returns-then-are_few
 returns-then-are_few c =
@@ -26,7 +26,7 @@ returns-then-are_few c =
     let room = c.limits.ensures ∙ ap (λ (r : ReplayedState). limits r.state.units) c.self.view_is in
     let fits : fits_in (committed s.tree s.keys) (limits s.units) ≡ true = (λ i. fits_in (sym c.committed.ensures i) (sym room i)) ∙ c.in-Some.ensures.some.0 in
     let left : c.in-Some.room ≡ minus (limits s.units) (committed s.tree s.keys) = c.in-Some.ensures.some.1 ∙ (λ i. minus (room i) (c.committed.ensures i)) in
-    c.have_room.ensures tree (λ t there. c.self.invariant.each t (subst (IsIn t) c.as_slice.ensures there))
+    c.have_room.ensures tree (λ t there. c.self.invariant.kept.each t (subst (IsIn t) c.as_slice.ensures there))
     ∙ ap (λ ts. fits_in (total tree ts) c.in-Some.room) c.as_slice.ensures
     ∙ ap (λ (r : ReplayedState). fits_in (total r.state.tree r.state.transactions) c.in-Some.room) c.self.view_is
     ∙ rest-fits s c.in-Some.room fits left (sym c.if-are_few.ensures)

@@ -1,11 +1,12 @@
-use Rattle.std.proofs.Common.{sym, subst, not}
-use Rattle.ktm_world.specs.Durable.{is_ready}
+use Rattle.std.proofs.Common.{sym, subst}
 use Rattle.txf_tree.specs.TreeState.{tree_of}
-use Rattle.ktm_restart.specs.Waiting.{AreKept}
-use Rattle.ktm_restart.proofs.Keeping.{kept-filter}
+use Rattle.ktm_restart.specs.Waiting.{AreHeld}
+use Rattle.ktm_restart.proofs.Reserving.{held-booted}
 use Rattle.ktm_restart.proofs.replayed.Replayed.start.Goals as goal
 
 pub invariant_of-self : goal.invariant_of-self
 invariant_of-self c =
     let tree = tree_of c.self.inside.files.tree in
-    subst (AreKept tree) (sym c.forget_ready.ensures) (kept-filter tree (λ t. not (is_ready t.stage)) c.self.inside.transactions.transactions c.self.invariant)
+    let ts = c.self.inside.transactions.transactions in
+    let r' = c.release_ready.new.waiting in
+    subst (AreHeld r' tree) (sym c.forget_ready.ensures) (held-booted c.self.inside.waiting tree ts c.self.invariant r' (rw c.as_slice.ensures at c.release_ready.ensures))

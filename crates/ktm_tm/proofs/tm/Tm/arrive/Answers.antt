@@ -18,7 +18,7 @@ pub invariant_of-self : goal.invariant_of-self
 invariant_of-self c =
     let items = c.self.inside.items.items in
     let place : IsPlace items c.args.t.id c.in-Some.place = subst (λ s. IsPlace s.now.items c.args.t.id c.in-Some.place) (sym c.self.view_is) c.in-Some.ensures in
-    rw (c.put_number.ensures.items, c.put_number.ensures.capacity, c.is_live.ensures) ((kept_set items _ _ _ c.args.t _ _ c.self.invariant.0 place.within (place.named c.args.t), c.self.invariant.1, c.self.invariant.2, c.self.invariant.3))
+    rw (c.put_number.ensures.items, c.put_number.ensures.capacity, c.is_live.ensures) ((kept_set items _ _ _ c.args.t _ _ c.self.invariant.0 place.within (place.named c.args.t), c.self.invariant.1, c.self.invariant.2, c.self.invariant.3, c.self.invariant.4))
 
 pub returns-clause-now : goal.returns-clause-now
 returns-clause-now c =

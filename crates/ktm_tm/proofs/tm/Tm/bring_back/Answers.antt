@@ -22,7 +22,7 @@ invariant_of-self c =
     kept_back c.self.inside.items.items _ _ c.args.t _ _ c.self.invariant.0 same earlier (rw (← c.self.view_is) at c.requires.behind)
     (omega (arith, count, room, c.requires.room)) (omega (arith, count, room, c.requires.room)) in
     let at : c.len.result ≡ length c.self.inside.items.items + 1 = omega (arith, count, c.len.ensures, c.push_reserved.ensures.len) in
-    rw (c.push_reserved.ensures.items, c.push_reserved-then-is_live.ensures.items, c.push_reserved-then-is_live.ensures.capacity, at) ((rw (sym c.is_live.ensures, c.if-is_live.true) at kept, c.self.invariant.1, c.self.invariant.2, c.self.invariant.3))
+    rw (c.push_reserved.ensures.items, c.push_reserved-then-is_live.ensures.items, c.push_reserved-then-is_live.ensures.capacity, at) ((rw (sym c.is_live.ensures, c.if-is_live.true) at kept, c.self.invariant.1, c.self.invariant.2, c.self.invariant.3, c.self.invariant.4))
 
 pub invariant_of-self-else-is_live : goal.invariant_of-self-else-is_live
 invariant_of-self-else-is_live c =
@@ -34,4 +34,4 @@ invariant_of-self-else-is_live c =
     let kept =
     kept_back c.self.inside.items.items _ _ c.args.t _ _ c.self.invariant.0 same earlier (rw (← c.self.view_is) at c.requires.behind)
     (omega (arith, count, room, c.requires.room)) (omega (arith, count, room, c.requires.room)) in
-    rw c.push_reserved.ensures.items ((subst (λ l. AreKept c.self.inside.boot (c.self.inside.back + 1) (c.self.inside.items.items ++ c.args.t ∷ []) l (vec_capacity c.self.inside.live)) (append-nil c.self.inside.live.items) (rw (sym c.is_live.ensures, c.if-is_live.false) at kept), c.self.invariant.1, c.self.invariant.2, c.self.invariant.3))
+    rw c.push_reserved.ensures.items ((subst (λ l. AreKept c.self.inside.boot (c.self.inside.back + 1) (c.self.inside.items.items ++ c.args.t ∷ []) l (vec_capacity c.self.inside.live)) (append-nil c.self.inside.live.items) (rw (sym c.is_live.ensures, c.if-is_live.false) at kept), c.self.invariant.1, c.self.invariant.2, c.self.invariant.3, c.self.invariant.4))

@@ -1,4 +1,4 @@
-use Rattle.std.proofs.Common.{◌∙◌, ap, arith}
+use Rattle.std.proofs.Common.{ap, arith}
 use Rattle.ktm_world.specs.Enlistments.{Manager}
 use Rattle.ktm_tm.specs.TmState.{TmState}
 use Rattle.ktm_tm.proofs.Carrying.{there_more}
@@ -11,4 +11,5 @@ invariant_of-self c = (
   rw c.add.ensures.managers (back_push (λ (m : Manager). m.id) c.self.inside.boot c.self.inside.last_manager c.self.inside.managers.managers _ c.self.invariant.1 (omega (arith, c.requires.earlier, ap (λ (s : TmState). s.boot) c.self.view_is))),
   c.self.invariant.2,
   rw c.add.ensures.managers (there_more c.self.inside.managers.managers _ c.self.inside.enlistments.enlistments c.self.invariant.3),
+  c.self.invariant.4,
 )

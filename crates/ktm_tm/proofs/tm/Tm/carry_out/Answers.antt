@@ -1,11 +1,11 @@
-use Rattle.std.proofs.Common.{is_some, ◌≡◌, ◌∙◌, ◌≤◌, ◌+◌, List, None, ap, arith, length, map, sym}
+use Rattle.std.proofs.Common.{is_some, ◌∙◌, List, None, ap, arith, length, map, sym}
 use Rattle.ktm_world.specs.Durable.{is_before}
-use Rattle.ktm_world.specs.Enlistments.{Enlistment, Manager, Sent, manager_at}
+use Rattle.ktm_world.specs.Enlistments.{Sent, manager_at}
 use Rattle.ktm_world.specs.Outcome.{served}
 use Rattle.ktm_world.specs.Transactions.{change_at}
 use Rattle.ktm_tm.specs.Steps.{After, after_all}
 use Rattle.ktm_tm.specs.TmState.{TmState, id_after}
-use Rattle.ktm_tm.proofs.Carrying.{after_all_test, there_all}
+use Rattle.ktm_tm.proofs.Carrying.{after_all_recovered, after_all_test, there_all}
 use Rattle.ktm_tm.proofs.Next.{served_before}
 use Rattle.ktm_tm.proofs.OnCourse.{a_course, course_after, course_sent, is_a_course, now_then, same_id}
 use Rattle.ktm_tm.proofs.tm.Tm.carry_out.Goals as goal
@@ -27,6 +27,7 @@ invariant_of-self c = (
   rw (c.carry_all-then.ensures.managers, c.carry_all-then.ensures.enlistments)
       (there_all None _ c.self.inside.managers.managers _
       ∙ after_all_test (λ id manager. is_some (manager_at c.self.inside.managers.managers manager)) c.going-going.result c.args.steps.now c.args.t c.self.inside.enlistments.enlistments ∙ c.self.invariant.3),
+  rw c.carry_all-then.ensures.enlistments (after_all_recovered c.going-going.result c.args.steps.now c.args.t c.self.inside.back_enlistments c.self.inside.enlistments.enlistments c.self.invariant.4),
 )
 
 pub returns-clause-now : goal.returns-clause-now

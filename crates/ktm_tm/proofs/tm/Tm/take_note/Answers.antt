@@ -11,4 +11,5 @@ invariant_of-self c = (
   rw c.take.ensures.managers (served_before (λ id. is_before id (id_after c.self.inside.boot c.self.inside.last_manager)) (Some c.args.id) [] c.self.inside.managers.managers ∙ c.self.invariant.1),
   c.self.invariant.2,
   rw c.take.ensures.managers (there_all (Some c.args.id) [] c.self.inside.managers.managers c.self.inside.enlistments.enlistments ∙ c.self.invariant.3),
+  c.self.invariant.4,
 )

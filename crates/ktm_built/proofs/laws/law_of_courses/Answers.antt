@@ -1,5 +1,0 @@
-use Rattle.ktm_built.proofs.offered.Rows.{courses_law}
-use Rattle.ktm_built.proofs.laws.law_of_courses.Goals as goal
-
-pub returns : goal.returns
-returns c = courses_law

@@ -1,5 +1,0 @@
-use Rattle.ktm_built.proofs.offered.Decided.{decided_law}
-use Rattle.ktm_built.proofs.laws.law_of_decided.Goals as goal
-
-pub returns : goal.returns
-returns c = decided_law

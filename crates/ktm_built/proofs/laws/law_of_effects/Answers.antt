@@ -1,5 +1,0 @@
-use Rattle.ktm_built.proofs.offered.Effects.{effects_law}
-use Rattle.ktm_built.proofs.laws.law_of_effects.Goals as goal
-
-pub returns : goal.returns
-returns c = effects_law

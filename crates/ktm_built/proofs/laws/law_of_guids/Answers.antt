@@ -1,5 +1,0 @@
-use Rattle.ktm_built.proofs.offered.Guids.{guid_law}
-use Rattle.ktm_built.proofs.laws.law_of_guids.Goals as goal
-
-pub returns : goal.returns
-returns c = guid_law

@@ -1,5 +1,0 @@
-use Rattle.ktm_built.proofs.offered.Named.{named_law}
-use Rattle.ktm_built.proofs.laws.law_of_named.Goals as goal
-
-pub returns : goal.returns
-returns c = named_law

@@ -1,5 +1,0 @@
-use Rattle.ktm_built.proofs.Relied.{spelled_law}
-use Rattle.ktm_built.proofs.laws.law_of_spelled.Goals as goal
-
-pub returns : goal.returns
-returns c = spelled_law c.law_of_spelling.ensures

@@ -1,9 +1,0 @@
-//! What the forms that are built make of worlds, as laws over whole worlds that have no superior.
-#![tactic(auto)]
-
-mod laws;
-
-pub use laws::{
-    law_of_courses, law_of_decided, law_of_effects, law_of_events, law_of_files, law_of_fresh,
-    law_of_guids, law_of_kept, law_of_named, law_of_spelled, law_of_standing, law_of_timeouts,
-};

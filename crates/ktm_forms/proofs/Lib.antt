@@ -1,3 +1,0 @@
-pub mod Ids
-pub mod BuiltStates
-pub mod Applying

@@ -1,0 +1,8 @@
+use Rattle.std.proofs.Common.{◌≡◌, ◌≤◌, ◌*◌, take}
+use Rattle.std.specs.Prelude.{filter, sum_by}
+use Rattle.ktm_world.specs.Transactions.{is_live}
+use Rattle.ktm_tm.proofs.LiveCounts.{live_of}
+use Rattle.ktm_tm.proofs.tm.Tm.live_enlistment_count.Given as goal
+
+abbrev pub invariant-loop-i : goal.invariant-loop-i
+invariant-loop-i l = (l.live ≡ sum_by (live_of l.self.now.enlistments) (take l.i (filter is_live l.self.now.items))) × (l.live ≤ l.i * 4294967295)
