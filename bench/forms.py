@@ -50,7 +50,7 @@ PROBES = {
     "PrepareComplete": [BEGIN, ENLIST, COMMIT, TAKE, "*" + PREPARED, TAKE, COMMITTED_TOO, CLOSE, END],
     "PrepareComplete that commits a key": [BEGIN, ENLIST, SET, COMMIT, TAKE, "*" + PREPARED, TAKE, COMMITTED_TOO, CLOSE, END],
     "CommitComplete": [BEGIN, ENLIST, COMMIT, TAKE, PREPARED, TAKE, "*" + COMMITTED_TOO, CLOSE, END],
-    "RollbackEnlistment": [BEGIN, ENLIST, COMMIT, TAKE, "*" + REJECTED, CLOSE, END],
+    "RollbackEnlistment": [BEGIN, ENLIST, COMMIT, TAKE, "*" + REJECTED, TAKE, ROLLED_BACK, CLOSE, END],
     "RollbackComplete": [BEGIN, ENLIST, UNDO, TAKE, "*" + ROLLED_BACK, CLOSE, END],
     "KvSet": [BEGIN, "*" + SET, UNDO, END],
     "KvSet of a new key": [BEGIN, f'*p1 KvSet h1 "n" {VALUE}', UNDO, END],
@@ -109,7 +109,7 @@ OPENED = [
     "p1 CreateTransaction h100 0",
     "p2 DuplicateHandle h1 p1 h100",
     "p1 CreateResourceManager h101 volatile",
-    "p2 CreateResourceManager h901 volatile",
+    "p2 CreateResourceManager h999 volatile",
     *SETTLE,
 ]
 
@@ -163,7 +163,7 @@ def ended(count):
 
 def enlisted(count):
     """Returns what enlists a resource manager in one other transaction this many times."""
-    return [f"p2 CreateEnlistment h{at + 2} h901 h1 plain" for at in range(count)]
+    return [f"p2 CreateEnlistment h{at + 2} h999 h1 plain" for at in range(count)]
 
 
 def finished(count):
@@ -173,8 +173,10 @@ def finished(count):
         for _ in range(count)
         for line in [
             "p2 CreateTransaction h2 0",
-            "p2 CreateEnlistment h3 h901 h2 plain",
-            "p2 RollbackEnlistment h3",
+            "p2 CreateEnlistment h3 h999 h2 plain",
+            "p2 RollbackTransaction h2",
+            "p2 GetNotificationResourceManager h999",
+            "p2 RollbackComplete h3",
             "p2 CloseHandle h3",
             "p2 CloseHandle h2",
         ]
@@ -183,7 +185,7 @@ def finished(count):
 
 def waiting(count):
     """Returns what leaves this many notifications of the probes' own resource manager in its queue, and as many of another's."""
-    return [f"p{at % 2 + 1} RecoverResourceManager h{[101, 901][at % 2]}" for at in range(2 * count)]
+    return [f"p{at % 2 + 1} RecoverResourceManager h{[101, 999][at % 2]}" for at in range(2 * count)]
 
 
 def longer(count):
