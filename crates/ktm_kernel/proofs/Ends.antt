@@ -36,7 +36,7 @@ use Rattle.ktm_kernel.specs.Answers.{IsAnswered}
 use Rattle.ktm_kernel.specs.Stands.{KernelState, machine_of}
 use Rattle.ktm_kernel.proofs.Asked.{GoesWell, with_room_done}
 use Rattle.ktm_kernel.proofs.Ready.{off_slots, unpowered}
-use Rattle.ktm_kernel.proofs.Sent.{sends-alike}
+use Rattle.ktm_memory.proofs.offered.Sent.{sends-alike}
 
 -- ---- the journal and the list of events
 

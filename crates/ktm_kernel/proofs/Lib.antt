@@ -5,7 +5,6 @@ pub mod Reserved
 pub mod Ready
 pub mod OwnGroups
 pub mod Begun
-pub mod Sent
 pub mod Asked
 pub mod Restarts
 pub mod StartAgain

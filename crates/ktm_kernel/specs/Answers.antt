@@ -31,6 +31,12 @@ pub record IsAnswered (o : Outcome) (old new : OnDisk KernelState) (reply : Repl
   pub calls : DeviceCalls 4 old.status new.status new.status.is_down
   pub untouched : TouchesNothing o reply → IsUntouched old new
 
+-- where memory was wanting nothing has changed, and there is room for no fewer notifications
+pub record IsAsItWas (old new : KernelState) : Type 0 where
+  pub now : new.now ≡ old.now
+  pub journal : new.journal ≡ old.journal
+  pub slots : old.slots ≤ new.slots
+
 -- what that leaves; where memory is wanting the disk is as it was
 abbrev pub AnswerLeaves : Outcome → OnDisk KernelState → OnDisk KernelState → Result Reply NoMemory → Type 0
 AnswerLeaves o old new (Ok reply) = IsAnswered o old new reply

@@ -1,12 +1,12 @@
 // The machine over its disk: the one way through.
-ghost use Rattle.std.specs.Prelude.{◌≡◌, true, false, Option, Some, IsOk};
+ghost use Rattle.std.specs.Prelude.{◌≡◌, true, false, Option, Some, IsOk, OnErr};
 ghost use Rattle.ktm_base.specs.Disk.{DiskState};
 ghost use Rattle.ktm_base.specs.declared.refusal.Refusal.TheVariants.{MachineDown};
 ghost use Rattle.ktm_types.specs.declared.command.Line.TheVariants.{Crash, Tick};
 ghost use Rattle.ktm_types.specs.declared.reply.Reply.TheVariants.{Refused, Done};
 ghost use Rattle.ktm_types.specs.Values.{IsCommand};
 ghost use Rattle.ktm_world.specs.World.{World, decide_tick};
-ghost use Rattle.ktm_kernel.specs.Answers.{AnswerLeaves, CallLeaves, IsLineAnswered};
+ghost use Rattle.ktm_kernel.specs.Answers.{AnswerLeaves, CallLeaves, IsAsItWas, IsLineAnswered};
 ghost use Rattle.ktm_kernel.specs.Done.{fallen};
 ghost use Rattle.ktm_log.specs.OnDisk.{on};
 ghost use Rattle.ktm_route.specs.Route.{CanBeAsked, decided};
@@ -66,7 +66,7 @@ impl Kernel {
 
     /// Answers a call of a process, with any command of the grammar. After MACHINE_DOWN and ERROR_LOG_FULL the machine is down.
     /// A call that is refused, but for MACHINE_DOWN, and one that records nothing make no device call. Where memory is wanting
-    /// the machine is not used again; its disk holds what it held before the call.
+    /// nothing has changed, in the machine or on its disk.
     pub fn call<D: Disk>(
         &mut self,
         disk: &mut D,
@@ -76,6 +76,7 @@ impl Kernel {
         requires ready { IsReady self.old (D.told disk.old) (D.status disk.old) }
         requires command { IsCommand command }
         ensures leaves { CallLeaves process command (on self.old (D.told disk.old) (D.status disk.old)) (on self.new (D.told disk.new) (D.status disk.new)) result }
+        ensures no_memory { OnErr result (IsAsItWas self.old self.new) }
         ensures enough { takes_memory self.old.now process command ≡ false → IsOk result }
     {
         law_of_standing();
@@ -112,6 +113,7 @@ impl Kernel {
         requires ready { IsReady self.old (D.told disk.old) (D.status disk.old) }
         requires asked { CanBeAsked asked }
         ensures leaves { AnswerLeaves (decided self.old.now asked) (on self.old (D.told disk.old) (D.status disk.old)) (on self.new (D.told disk.new) (D.status disk.new)) result }
+        ensures no_memory { OnErr result (IsAsItWas self.old self.new) }
         ensures enough { asked_takes_memory self.old.now asked ≡ false → IsOk result }
     {
         law_of_standing();

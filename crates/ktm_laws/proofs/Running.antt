@@ -46,7 +46,7 @@ use Rattle.ktm_laws.specs.Running.{IsRoomy, is_log_grammatical, is_good_log, is_
 use Rattle.txf_laws.specs.SoundFiles.{files_apart, is_open_last, set_apart}
 use Rattle.ktm_records.specs.SoundWorlds.{IsSound, SoundWorldsLaw}
 use Rattle.ktm_limits.specs.LimitsKept.{AreVersionsFixed, LimitsLaw}
-use Rattle.ktm_laws.proofs.offered.LogCounts.{apply-from, frame-counts, log-events, room-for, within-log, log-grows, own-grammatical, own-frame, own-applies}
+use Rattle.ktm_laws.proofs.offered.LogCounts.{apply-from, groups-count, log-events, room-for, within-log, log-grows, own-grammatical, own-frame, own-applies}
 use Rattle.txf_laws.proofs.offered.Diamonds.{IsIn-map}
 use Rattle.txf_laws.proofs.offered.Elements.{list_all-at, list_all-from}
 use Rattle.ktm_laws.proofs.offered.PossibleLogs.{contains-passes, left-with, kept-all, left-extend, left-restart}
@@ -68,13 +68,6 @@ good-log-parts base room log fits good = elim (or_cases (not (nat_le (log_size l
 groups-grammatical : (log : List Group) (events : List Event) → is_log_grammatical log ≡ true → list_all is_grammatical events ≡ true → is_log_grammatical (log ++ as_groups events) ≡ true
 groups-grammatical log [] first second = list_all-append (λ (g : Group). list_all is_grammatical g) log [] ∙ and_from _ _ first refl
 groups-grammatical log (event ∷ events) first second = list_all-append (λ (g : Group). list_all is_grammatical g) log ((event ∷ events) ∷ []) ∙ and_from _ _ first (and_from _ _ second refl)
-
-groups-count : (events : List Event) → length events ≤ log_size (as_groups events)
-groups-count [] = omega arith
-groups-count (event ∷ events) =
-    let few = frame-counts (event ∷ events) in
-    let all = sum_by-cons frame_size (event ∷ events) [] in
-    omega (arith, few, all)
 
 works_apply-append : (c : Committed) (ws vs : List Work) → works_apply c (ws ++ vs) ≡ (works_apply c ws && works_apply (committed_with c ws) vs)
 works_apply-append c [] vs = refl

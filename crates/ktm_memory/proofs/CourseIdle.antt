@@ -1,5 +1,6 @@
--- Courses that take no memory: a rollback, and a commit of a transaction that has neither files nor keys to commit.
-use Rattle.std.proofs.Common.{◌≡◌, ℕ, zero, suc, ◌+◌, ◌==◌, false, List, Option, refl, sym, ◌∙◌, arith}
+-- Courses that take no memory: a rollback, what an enlistment answers once it is known how its transaction ends or where one phase is not for it,
+-- what recovers, what a superior asks first, and a commit of a transaction that has neither files nor keys to commit.
+use Rattle.std.proofs.Common.{◌≡◌, ℕ, zero, suc, ◌+◌, ◌==◌, true, false, List, ◌∷◌, Option, Some, None, is_none, is_some, refl, sym, ◌∙◌, arith}
 use Rattle.std.proofs.lemmas.Bool.{or_parts, true≢false}
 use Rattle.std.proofs.lemmas.Bool.Decides.{nat_tests}
 use Rattle.std.specs.List.{list_any}
@@ -10,13 +11,17 @@ use Rattle.ktm_steps.proofs.offered.Ways.{if_cases}
 use Rattle.ktm_trace.specs.Recordings.{steps_room}
 use Rattle.ktm_types.specs.declared.input.PhaseInput.{PhaseInput}
 use Rattle.ktm_types.specs.declared.input.Seen.{Seen}
+use Rattle.ktm_types.specs.declared.object.Phase.{Phase}
+use Rattle.ktm_types.specs.declared.object.Phase.TheVariants.{Aborting, Committing, InDoubt}
 use Rattle.ktm_types.specs.declared.object.Transaction.{Transaction}
+use Rattle.ktm_types.specs.declared.step.Answered.{Answered}
 use Rattle.ktm_types.specs.declared.step.Step.{Step}
+use Rattle.ktm_types.specs.declared.step.Step.TheVariants.{Change}
 use Rattle.ktm_world.specs.Changes.{has_changes}
-use Rattle.ktm_world.specs.Enlistments.{Enlistment}
-use Rattle.ktm_world.specs.Phases.{has_settings}
+use Rattle.ktm_world.specs.Enlistments.{Enlistment, superior_of}
+use Rattle.ktm_world.specs.Phases.{has_settings, is_single_phase}
 use Rattle.ktm_world.specs.Present.{Present}
-use Rattle.ktm_world.specs.Rows.{participants, prepares_all, prepares_alone, requests, row}
+use Rattle.ktm_world.specs.Rows.{commit_completes, participants, pre_prepares, prepares_all, prepares_alone, recovers, requests, row}
 use Rattle.ktm_world.specs.Steps.{seen}
 use Rattle.ktm_world.specs.TransactionCalls.{course_of}
 use Rattle.ktm_memory.specs.Looked.{is_of_files}
@@ -54,6 +59,29 @@ module _ (s : Seen) (files : s.has_files ≡ false) (keys : s.has_keys ≡ false
       (λ top. if_cases AreIdle s.has_superior _ _ (λ above. absurd (true≢false (sym above ∙ alone))) (λ top. by-number (participants s) refl)))
       (λ some. record { commits = refl; room = refl; files = refl }))
 
+-- ---- an enlistment that has finished, or recovers
+
+idle_finished : (phase : Phase) → AreIdle (commit_completes phase)
+idle_finished phase = if_cases (λ (steps : List Step). AreIdle (Change Answered.Finished ∷ steps)) (is_single_phase phase) _ _ (λ one. record { commits = refl; room = refl; files = refl }) (λ two. record { commits = refl; room = refl; files = refl })
+
+idle_recovered : (phase : Phase) → AreIdle (recovers phase)
+idle_recovered InDoubt = record { commits = refl; room = refl; files = refl }
+idle_recovered Committing = record { commits = refl; room = refl; files = refl }
+idle_recovered Aborting = record { commits = refl; room = refl; files = refl }
+idle_recovered _ = record { commits = refl; room = refl; files = refl }
+
+-- ---- a superior that asks for it to be pre-prepared
+
+some_of : {X : Type 0} (o : Option X) → is_none o ≡ false → is_some o ≡ true
+some_of None none = absurd (true≢false none)
+some_of (Some x) some = refl
+
+idle_pre_prepares : (s : Seen) → s.has_superior ≡ true → AreIdle (pre_prepares s)
+idle_pre_prepares s above =
+    if_cases AreIdle (s.asking == 0) _ _
+    (λ none. if_cases AreIdle s.has_superior _ _ (λ has. record { commits = refl; room = refl; files = refl }) (λ alone. absurd (true≢false (sym above ∙ alone))))
+    (λ some. record { commits = refl; room = refl; files = refl })
+
 -- ---- courses
 
 -- a course that takes no memory goes on by such steps
@@ -61,4 +89,10 @@ pub idle_row : (x : Present) (t : Transaction) (caller : Option Id) (e : Option 
 idle_row x t caller e PhaseInput.CommitTransaction none =
     let idle = or_parts (has_changes (changes_of x t)) (has_settings (settings_of x t)) none in idle_requests (seen (course_of x t e)) idle.0 idle.1
 idle_row x t caller e PhaseInput.Rollback none = record { commits = refl; room = refl; files = refl }
+idle_row x t caller e PhaseInput.SinglePhaseReject none = record { commits = refl; room = refl; files = refl }
+idle_row x t caller e PhaseInput.CommitComplete none = idle_finished (seen (course_of x t e)).phase
+idle_row x t caller e PhaseInput.RollbackComplete none = record { commits = refl; room = refl; files = refl }
+idle_row x t caller e PhaseInput.PrePrepare none = idle_pre_prepares (seen (course_of x t e)) (some_of (superior_of x.transactions.enlistments t.id) none)
+idle_row x t caller e PhaseInput.Recover none = idle_recovered (seen (course_of x t e)).phase
+idle_row x t caller e PhaseInput.RecoverSuperior none = record { commits = refl; room = refl; files = refl }
 idle_row x t caller e _ none = absurd (true≢false none)

@@ -6,7 +6,6 @@ mod Bound
 mod Unlogged
 mod KeysDecided
 mod ObjectsDecided
-mod Granted
 mod Decides
 mod FilesDecided
 mod Records

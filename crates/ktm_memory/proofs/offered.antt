@@ -1,5 +1,7 @@
 -- Lemmas that other crates cite.
 pub mod Decided
+pub mod Granted
+pub mod Sent
 pub mod Opening
 pub mod Settling
 pub mod Standing

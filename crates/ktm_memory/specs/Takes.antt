@@ -6,6 +6,7 @@ use Rattle.ktm_types.specs.declared.input.PhaseInput.{PhaseInput}
 use Rattle.ktm_types.specs.declared.object.Transaction.{Transaction}
 use Rattle.ktm_world.specs.Changes.{has_changes}
 use Rattle.ktm_world.specs.Decide.{events_of}
+use Rattle.ktm_world.specs.Enlistments.{superior_of}
 use Rattle.ktm_world.specs.FileOutcome.{FileOutcome}
 use Rattle.ktm_world.specs.Outcome.{first_refusal, is_full}
 use Rattle.ktm_world.specs.Phases.{has_settings}
@@ -49,6 +50,12 @@ abbrev pub routed_takes_memory : Present → Routed → Bool
 routed_takes_memory x (Create label timeout) = is_none (first_refusal (quota_test x (no_transaction_left x.transactions) ∷ []))
 routed_takes_memory x (Course t caller PhaseInput.CommitTransaction) = has_work x (Some t)
 routed_takes_memory x (Course t caller PhaseInput.Rollback) = false
+routed_takes_memory x (Course t caller PhaseInput.SinglePhaseReject) = false
+routed_takes_memory x (Course t caller PhaseInput.CommitComplete) = false
+routed_takes_memory x (Course t caller PhaseInput.RollbackComplete) = false
+routed_takes_memory x (Course t caller PhaseInput.PrePrepare) = is_none (superior_of x.transactions.enlistments t.id)
+routed_takes_memory x (Course t caller PhaseInput.Recover) = false
+routed_takes_memory x (Course t caller PhaseInput.RecoverSuperior) = false
 routed_takes_memory x (Course t caller input) = true
 routed_takes_memory x (Information t) = false
 routed_takes_memory x (MakeManager label durability) = is_none (first_refusal (quota_test x (no_manager_left x.managers x.transactions) ∷ []))

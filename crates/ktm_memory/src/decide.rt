@@ -120,7 +120,7 @@ impl Memory {
     }
 
     /// A call whose labels are known is decided by its layer. Of what it sends later there is room then for as many notifications
-    /// more as the call grants.
+    /// more as the call grants. Where memory is wanting nothing has changed, and no room is given up.
     pub fn decide_routed(
         &mut self,
         alloc: Global,
@@ -135,6 +135,7 @@ impl Memory {
         requires roomy { IsRoomy self.old.journal events.old }
         ensures ok { IfOk result (λ d. DecidesIf (held self.old) (outcome_of (present_of self.old) process routed) d events.new self.new) }
         ensures slots { IfOk result (λ d. is_some d ≡ true → self.old.tm.slots + granted_in (present_of self.old) (outcome_of (present_of self.old) process routed) ≤ self.new.tm.slots) }
+        ensures grows { self.old.tm.slots ≤ self.new.tm.slots }
         ensures room { events.new.room ≡ events.old.room }
         ensures no_memory { OnErr result (held self.new ≡ held self.old) }
         ensures enough { routed_takes_memory (present_of self.old) routed ≡ false → IsOk result }

@@ -34,6 +34,7 @@ impl Memory {
         requires transaction { is_some (transaction_at self.old.tm.now.items transaction) ≡ true }
         ensures ok { IfOk result (λ d. (events : EventsState) → Holds events [] → Decides (held self.old) (outcome_of (present_of self.old) process (Enlist label manager transaction kind)) d.reply d.settlement events self.new) }
         ensures slots { IfOk result (λ d. self.old.tm.slots + granted_in (present_of self.old) (outcome_of (present_of self.old) process (Enlist label manager transaction kind)) ≤ self.new.tm.slots) }
+        ensures grows { self.old.tm.slots ≤ self.new.tm.slots }
         ensures no_memory { OnErr result (held self.new ≡ held self.old) }
         ensures enough { routed_takes_memory (present_of self.old) (Enlist label manager transaction kind) ≡ false → IsOk result }
     {

@@ -113,6 +113,7 @@ impl Memory {
         requires there { is_some (manager_at self.old.tm.managers manager) ≡ true }
         ensures ok { IfOk result (λ d. (process : _) (events : EventsState) → Holds events [] → Decides (held self.old) (outcome_of (present_of self.old) process (Recovery manager)) d.reply d.settlement events self.new) }
         ensures slots { IfOk result (λ d. self.old.tm.slots + length (recover_notes (present_of self.old) manager) ≤ self.new.tm.slots) }
+        ensures grows { self.old.tm.slots ≤ self.new.tm.slots }
         ensures no_memory { OnErr result (held self.new ≡ held self.old) }
     {
         self.tm.reserve_recovery(manager)?;

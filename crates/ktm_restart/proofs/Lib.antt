@@ -1,17 +1,10 @@
 mod Past
-mod OneOfKind
 mod OwnDones
-mod Placing
-mod Fitting
 mod GoodLogs
 mod Spelled
 mod Folds
-mod Holding
-mod Keeping
-mod Others
-mod Reserving
+mod Taking
 mod LogLoads
 mod Replays
 mod BehindHeader
-mod TableSteps
 pub mod offered

@@ -19,8 +19,8 @@ use Rattle.ktm_world.specs.World.{done_if, own_events}
 use Rattle.txf_laws.specs.Elements.{IsIn}
 use Rattle.txf_laws.proofs.offered.Elements.{list_any-from}
 use Rattle.txf_laws.proofs.offered.Tables.{Rises, before_other, is_before-then, recorded_at-found, rises-first, rises-rest, same_id-equal, same_id-from}
-use Rattle.ktm_restart.specs.Table.{finished_in}
-use Rattle.ktm_restart.proofs.TableSteps.{none-other}
+use Rattle.ktm_waiting.specs.Table.{finished_in}
+use Rattle.ktm_waiting.proofs.offered.TableSteps.{none-other}
 
 -- is a part of this participant not done
 abbrev is_undone : DonePart → RecordedPart → Bool

@@ -14,7 +14,7 @@ use Rattle.ktm_world.specs.Changes.{applies, bytes_in, changed}
 use Rattle.ktm_world.specs.Durable.{Durable, event_applies, fact_applies, fact_of, is_within_limits, units_in_use}
 use Rattle.ktm_world.specs.Tree.{Tree, bytes_or_none, content_of, cut_to, node_at, put_over, units_of}
 use Rattle.ktm_world.proofs.offered.Lookups.{map_node, node_at-there}
-use Rattle.ktm_restart.specs.Waiting.{passes_units}
+use Rattle.ktm_restart.specs.Replayed.{passes_units}
 
 abbrev node_units : Node → ℕ
 node_units node = units_of (bytes_or_none node.content)

@@ -1,13 +1,16 @@
 -- The state of an image while its log is read, and the memory that is there for it. No public clause cites this module.
-use Rattle.std.specs.Prelude.{◌≡◌, ℕ, ◌<◌, ◌≤◌, Bool, true, false, List, length, Option, None}
+use Rattle.std.specs.Prelude.{◌≡◌, ℕ, ◌+◌, ◌*◌, ◌<◌, ◌≤◌, Bool, true, false, List, length, nat_lt, Option, None}
+use Rattle.ktm_base.specs.declared.limits.TheConstants.{UNIT_BYTES}
 use Rattle.ktm_types.specs.declared.change.Change.{Change}
+use Rattle.ktm_types.specs.declared.change.Change.TheVariants.{Put, Cut}
 use Rattle.ktm_types.specs.declared.event.Event.{Event}
 use Rattle.ktm_types.specs.declared.event.Event.TheVariants.{MadeRm, Plain, Ready, Single, Held, Decide}
 use Rattle.ktm_types.specs.declared.event.Part.{Part}
 use Rattle.ktm_types.specs.declared.event.Part.TheVariants.{Changes, Settings}
+use Rattle.ktm_world.specs.Changes.{bytes_in}
 use Rattle.ktm_world.specs.Durable.{Durable, Recorded, event_applies, fact_applies, fact_of, recorded_at}
-use Rattle.ktm_restart.specs.Table.{changes_at, settings_at}
-use Rattle.ktm_restart.specs.Waiting.{others_change}
+use Rattle.ktm_waiting.specs.Table.{changes_at, settings_at}
+use Rattle.ktm_waiting.specs.Waiting.{others_change}
 use Rattle.txf_durable.specs.Numbers.{FileNumbersState}
 use Rattle.txf_durable.specs.State.{CanMake, CanMakeAll}
 use Rattle.txf_tree.specs.TreeState.{TreeState}
@@ -50,6 +53,12 @@ CanTake s (Single transaction part) = CanTakePart s part
 CanTake s (Held transaction enlistment manager information) = ⊥
 CanTake s (Decide transaction) = CanCommit s (recorded_at s.state.transactions transaction)
 CanTake s _ = Unit {0}
+
+-- would the change leave its file longer than so many units
+abbrev pub passes_units : ℕ → Change → Bool
+passes_units units (Put node offset contents) = nat_lt (units * UNIT_BYTES) (offset + length (bytes_in contents))
+passes_units units (Cut node size pages) = nat_lt (units * UNIT_BYTES) size
+passes_units units _ = false
 
 -- whether an event is taken, before it is counted and the limits are tested: one that is refused does not apply, and one that is taken
 -- has made of the state what it makes

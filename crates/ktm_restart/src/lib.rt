@@ -2,16 +2,11 @@
 //! new image, up to the durable state that a machine starts from.
 #![tactic(auto)]
 
-mod amounts;
-mod beside;
 mod durable;
 mod laws;
-mod managers;
 mod own;
-mod parts;
 mod replay;
 mod replayed;
-mod table;
 
 pub use durable::{Durable, DurableParts};
 pub use laws::{law_of_bad_images, law_of_bad_places, law_of_one_log, law_of_states};

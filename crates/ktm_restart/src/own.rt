@@ -9,10 +9,10 @@ ghost use Rattle.ktm_types.specs.declared.event.Event.{Event as Recording};
 ghost use Rattle.ktm_world.specs.Durable.{has_undone};
 ghost use Rattle.ktm_world.specs.World.{done_if, own_events};
 
-use crate::table::has_undone;
 use ktm_base::Id;
 use ktm_event::{Events, event_size};
 use ktm_types::{DonePart, Event};
+use ktm_waiting::has_undone;
 use ktm_world::Recorded;
 
 // How many bytes the event takes that a participant is done, where it is to be recorded.

@@ -6,28 +6,27 @@ ghost use Rattle.ktm_types.specs.declared.event.Event.TheVariants.{Boot, MadeRm,
 ghost use Rattle.ktm_base.specs.declared.id.Id.{Id as Number};
 ghost use Rattle.ktm_base.specs.declared.limits.TheConstants.{MOST_LIVE};
 ghost use Rattle.ktm_world.specs.Changes.{changes_apply, changed_all, has_changes};
-ghost use Rattle.ktm_world.specs.Durable.{after_event, after_events, are_recorded_changes, empty_state, event_applies, events_apply, fact_of, has_changes_part, has_settings_part, has_undone, is_new_enlistment, is_new_in, is_ready, is_within_limits, may_get_ready, next_after_all, part_applies, recorded_at, recorded_changes_apply, recorded_or_new, settings_apply, stage_passes, with_committed, with_part};
+ghost use Rattle.ktm_world.specs.Durable.{after_event, after_events, are_recorded_changes, empty_state, event_applies, events_apply, fact_of, has_changes_part, has_settings_part, has_undone, hold_recorded, is_new_enlistment, is_new_in, is_ready, is_within_limits, may_get_ready, next_after_all, part_applies, recorded_at, recorded_changes_apply, recorded_or_new, settings_apply, stage_passes, with_committed, with_part};
 ghost use Rattle.ktm_world.specs.Holds.{holds_by};
 ghost use Rattle.ktm_world.specs.Keys.{are_good_settings, stored_all};
 ghost use Rattle.ktm_world.specs.Transactions.{same_id};
 ghost use Rattle.ktm_world.specs.Tree.{IsWellFormed, bytes_or_none, units_of};
 ghost use Rattle.ktm_world.specs.World.{own_events, own_group};
-ghost use Rattle.ktm_restart.specs.Replayed.{CanChange, CanCommit, CanTake, CanTakePart, Takes};
-ghost use Rattle.ktm_restart.specs.Waiting.{AreKept, AreSpared, committed, others_change, passes_units};
+ghost use Rattle.ktm_restart.specs.Replayed.{CanChange, CanCommit, CanTake, CanTakePart, Takes, passes_units};
+ghost use Rattle.ktm_waiting.specs.Waiting.{AreKept, AreSpared, committed, others_change};
 ghost use Rattle.txf_durable.specs.State.{CanMake, CanMakeAll};
 ghost use Rattle.txf_reserve.specs.ReserveState.{IsSameHold, holds_in};
 ghost use Rattle.txf_tree.specs.TreeState.{tree_of, versions_of};
 
-use crate::amounts::{Amounts, have_room, limits, without};
-use crate::beside::{others_change, others_set};
 use crate::durable::DurableParts;
-use crate::managers::Managers;
 use crate::own::first_own;
-use crate::parts::{changes_in, is_ready};
-use crate::table::Table;
 use ktm_base::{Bytes, Id, MOST_INFORMATION_BYTES, MOST_LIVE, NoMemory, UNIT_BYTES};
 use ktm_keyed::KeyedList;
 use ktm_types::{Change, DonePart, Event, Part, Setting, Superior};
+use ktm_waiting::{
+    Amounts, Managers, Transactions, changes_in, fits_in, hold_changes, limits, others_change,
+    others_set, release_changes, release_ready, without,
+};
 use ktm_world::{Recorded, are_good_settings, make_all};
 use std::alloc::Global;
 use std::marker::Model;
@@ -51,7 +50,7 @@ pub(crate) struct Replayed {
     keys: KeyedList<Bytes>,
     managers: Managers,
     // The changes and the settings that wait are in the parts of their transactions, as they came.
-    transactions: Table,
+    transactions: Transactions,
     // What these changes hold of the files.
     waiting: Waiting,
     // The files that a transaction writes, while its changes are tested.
@@ -82,7 +81,7 @@ impl Model for Replayed {
       written = s.written;
     } };
 
-    ghost use Rattle.ktm_restart.specs.Waiting.{AreHeld};
+    ghost use Rattle.ktm_waiting.specs.Waiting.{AreHeld};
 
     ghost invariant = { λ s. AreHeld s.waiting (tree_of s.files.tree) s.transactions.transactions };
 }
@@ -104,64 +103,13 @@ fn passes_units(units: u32, change: &Change) -> bool
     }
 }
 
-// A transaction that is ready, and neither held nor decided, holds nothing from now on.
-fn release_if_ready(waiting: &mut Waiting, transaction: &Recorded)
-    ensures { (id : Number) → IsSameHold (holds_in waiting.new id) (if same_id transaction.now.id id && is_ready transaction.now.stage then holds_by [] [] [] else holds_in waiting.old id) }
-{
-    if is_ready(transaction.stage) {
-        waiting.release(transaction.id);
-    }
-}
-
-// Those of the transactions that are ready hold nothing from now on.
-fn release_ready(waiting: &mut Waiting, transactions: &[Recorded])
-    ensures { (id : Number) → IsSameHold (holds_in waiting.new id) (if list_any (λ t. same_id t.id id && is_ready t.stage) transactions.now then holds_by [] [] [] else holds_in waiting.old id) }
-{
-    for t in transactions {
-        release_if_ready(waiting, t);
-    }
-}
-
-// A transaction that had these changes holds nothing from now on.
-fn release_changes(waiting: &mut Waiting, transaction: Id, changes: &[Change])
-    requires { changes.now ≡ [] → IsSameHold (holds_in waiting.old transaction) (holds_by [] [] []) }
-    ensures { (id : Number) → IsSameHold (holds_in waiting.new id) (if same_id id transaction then holds_by [] [] [] else holds_in waiting.old id) }
-{
-    if !changes.is_empty() {
-        waiting.release(transaction);
-    }
-}
-
 // What waits is forgotten.
-fn forget(alloc: Global, waiting: &mut Waiting, transactions: &mut Table)
+fn forget(alloc: Global, waiting: &mut Waiting, transactions: &mut Transactions)
     ensures waiting { (id : Number) → IsSameHold (holds_in waiting.new id) (holds_by [] [] []) }
     ensures transactions { transactions.new.transactions ≡ [] }
 {
     drop(replace(waiting, Waiting::new(alloc)));
     transactions.clear();
-}
-
-// A transaction, which holds nothing, holds what its changes hold, or still nothing, where memory is wanted.
-fn hold_changes(
-    waiting: &mut Waiting,
-    files: &DurableFiles,
-    transaction: Id,
-    changes: &[Change],
-) -> Result<(), NoMemory>
-    requires recorded { has_changes changes.now ≡ true → are_recorded_changes changes.now ≡ true }
-    requires apply { changes_apply (tree_of files.now.tree) changes.now ≡ true }
-    requires none { has_changes changes.now ≡ true → IsSameHold (holds_in waiting.old transaction) (holds_by [] [] []) }
-    ensures ok { OnOk result ((id : Number) → IsSameHold (holds_in waiting.new id) (if has_changes changes.now && same_id id transaction then holds_by (tree_of files.now.tree) changes.now [] else holds_in waiting.old id)) }
-    ensures err { OnErr result ((id : Number) → IsSameHold (holds_in waiting.new id) (holds_in waiting.old id)) }
-{
-    if changes.is_empty() {
-        return Ok(());
-    }
-    if let Err(NoMemory) = waiting.hold(files, transaction, changes) {
-        waiting.release(transaction);
-        return Err(NoMemory);
-    }
-    Ok(())
 }
 
 impl Replayed {
@@ -178,7 +126,7 @@ impl Replayed {
             files: DurableFiles::new(alloc),
             keys: KeyedList::new(alloc),
             managers: Managers::new(alloc),
-            transactions: Table::new(alloc),
+            transactions: Transactions::new(alloc),
             waiting: Waiting::new(alloc),
             written: FileNumbers::new(alloc),
         }
@@ -259,14 +207,14 @@ impl Replayed {
         }
     }
 
-    // Is the state within the limits. It goes through what waits, and through nothing that is committed.
+    // Is the state within the limits. It goes through nothing that waits, and through nothing that is committed.
     fn is_within(&self) -> bool
         ensures { result ≡ is_within_limits self.now.state }
     {
         let Some(room) = without(limits(self.units), self.committed()) else {
             return false;
         };
-        self.are_few() && have_room(room, self.transactions.as_slice())
+        self.are_few() && fits_in(&self.transactions.taken(), &room)
     }
 
     // Are there no more transactions and resource managers than there may be.
@@ -289,7 +237,7 @@ impl Replayed {
     {
         self.boots = boot;
         release_ready(&mut self.waiting, self.transactions.as_slice());
-        self.transactions.forget_ready();
+        self.transactions.forget_ready(&self.files);
     }
 
     // A restart of the machine counts a boot.
@@ -583,12 +531,22 @@ impl Replayed {
         }
     }
 
-    // The transaction, which is ready, has one part more that applies. For want of memory it may be lost.
-    fn add_part(&mut self, transaction: Id, part: Part) -> Result<(), NoMemory>
+    // No image has more units than their number tells.
+    fn law_of_units(&self)
+        ensures { self.now.state.units < 2 ^ 32 }
+    {
+        let _units = self.units;
+    }
+
+    // The transaction, which is ready, has one part more that applies, unless no image has room for it. Where it has not, what waits
+    // is forgotten.
+    fn add_part(&mut self, transaction: Id, part: Part) -> Result<bool, NoMemory>
         requires ready { may_get_ready self.old.state transaction ≡ true }
         requires applies { part_applies self.old.state transaction part ≡ true }
-        ensures { OnOk result (self.new.state ≡ with_part self.old.state transaction part) }
+        ensures added { result ≡ Ok true → self.new.state ≡ with_part self.old.state transaction part }
+        ensures refused { result ≡ Ok false → is_within_limits (with_part self.old.state transaction part) ≡ false }
     {
+        self.law_of_units();
         hold_changes(
             &mut self.waiting,
             &self.files,
@@ -596,11 +554,20 @@ impl Replayed {
             changes_in(&part),
         )?;
         self.files.give_numbers(changes_in(&part));
-        if let Err(NoMemory) = self.transactions.add_part(self.alloc, transaction, part) {
-            self.waiting.release(transaction);
-            return Err(NoMemory);
+        match self
+            .transactions
+            .add_part(self.alloc, &self.files, transaction, part)
+        {
+            Ok(true) => Ok(true),
+            Ok(false) => {
+                forget(self.alloc, &mut self.waiting, &mut self.transactions);
+                Ok(false)
+            }
+            Err(NoMemory) => {
+                forget(self.alloc, &mut self.waiting, &mut self.transactions);
+                Err(NoMemory)
+            }
         }
-        Ok(())
     }
 
     // A participant of a transaction is prepared.
@@ -610,8 +577,28 @@ impl Replayed {
         if !self.may_get_ready(transaction) || !self.part_applies(transaction, &part)? {
             return Ok(false);
         }
-        self.add_part(transaction, part)?;
-        Ok(true)
+        self.add_part(transaction, part)
+    }
+
+    // The transaction, which is ready, waits for this superior, unless no image has room for it. Where it does not, what waits is
+    // forgotten.
+    fn add_superior(&mut self, transaction: Id, superior: Superior) -> Result<bool, NoMemory>
+        requires { may_get_ready self.old.state transaction ≡ true }
+        ensures held { result ≡ Ok true → self.new.state ≡ hold_recorded self.old.state transaction superior }
+        ensures refused { result ≡ Ok false → is_within_limits (hold_recorded self.old.state transaction superior) ≡ false }
+    {
+        self.law_of_units();
+        match self.transactions.hold(self.alloc, transaction, superior) {
+            Ok(true) => Ok(true),
+            Ok(false) => {
+                forget(self.alloc, &mut self.waiting, &mut self.transactions);
+                Ok(false)
+            }
+            Err(NoMemory) => {
+                forget(self.alloc, &mut self.waiting, &mut self.transactions);
+                Err(NoMemory)
+            }
+        }
     }
 
     // A transaction waits for its superior.
@@ -627,11 +614,7 @@ impl Replayed {
         {
             return Ok(false);
         }
-        if let Err(NoMemory) = self.transactions.hold(self.alloc, transaction, superior) {
-            self.waiting.release(transaction);
-            return Err(NoMemory);
-        }
-        Ok(true)
+        self.add_superior(transaction, superior)
     }
 
     // Commits what waited, and makes room for it before.
@@ -658,7 +641,9 @@ impl Replayed {
         if !self.transactions.may_decide(transaction) {
             return Ok(false);
         }
-        let (changes, settings) = self.transactions.decide(self.alloc, transaction);
+        let (changes, settings) = self
+            .transactions
+            .decide(self.alloc, &self.files, transaction);
         release_changes(&mut self.waiting, transaction, &changes);
         self.commit(changes, settings)
     }
@@ -670,7 +655,7 @@ impl Replayed {
         if !self.transactions.may_undo(transaction) {
             return false;
         }
-        self.transactions.forget(transaction);
+        self.transactions.forget(&self.files, transaction);
         self.waiting.release(transaction);
         true
     }
@@ -680,7 +665,7 @@ impl Replayed {
         requires { stage_passes self.old.state transaction (has_undone done) ≡ true }
         ensures { self.new.state ≡ fact_of self.old.state (Done transaction done) }
     {
-        self.transactions.finish(transaction, done);
+        self.transactions.finish(&self.files, transaction, done);
     }
 
     // A participant of a decided transaction is done.

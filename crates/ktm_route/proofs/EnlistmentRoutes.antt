@@ -2,7 +2,7 @@
 use Rattle.std.proofs.Common.{◌≡◌, ◌&&◌, ◌||◌, ℕ, not, Bool, true, false, All, List, [], ◌∷◌, ◌++◌, length, nat_lt, Option, Some, None, Result, Ok, Err, is_some, is_none, refl, sym, ◌∙◌, ap, subst, inl, inr}
 use Rattle.std.specs.List.{list_any}
 use Rattle.std.proofs.Math.Bool.{and-true}
-use Rattle.std.proofs.lemmas.Bool.{and_parts, cases_Bool, true≢false}
+use Rattle.std.proofs.lemmas.Bool.{and_from, and_parts, cases_Bool, true≢false}
 use Rattle.std.proofs.lemmas.Option.{same_Some}
 use Rattle.std.specs.Prelude.{if◌then◌else◌}
 use Rattle.ktm_base.specs.declared.id.Id.{Id}
@@ -28,7 +28,7 @@ use Rattle.ktm_types.specs.declared.step.Owed.{Owed}
 use Rattle.ktm_event.specs.Spelling.{IsSpellableEvent}
 use Rattle.ktm_world.specs.Decide.{command_effect, command_tests, decide, with_room}
 use Rattle.ktm_world.specs.Durable.{is_before}
-use Rattle.ktm_world.specs.Enlistments.{Enlistment, Manager, enlistment_at, is_durable_at, is_live_enlistment, is_live_in, is_superior, manager_at, owes_commit, owes_pre_prepare, owes_prepare, owes_rollback}
+use Rattle.ktm_world.specs.Enlistments.{Enlistment, Manager, enlistment_at, is_durable_at, is_live_enlistment, is_live_in, is_superior, manager_at, owes_commit, owes_pre_prepare, owes_prepare, owes_rollback, superior_of}
 use Rattle.ktm_world.specs.Labels.{enlistment_named, holds_of, is_bound, manager_named, transaction_named, transaction_tests}
 use Rattle.ktm_world.specs.OneOutcome.{told_outcome}
 use Rattle.ktm_world.specs.Outcome.{Outcome, first_refusal, is_full, only_reply, refuse_or, within_log}
@@ -47,6 +47,7 @@ use Rattle.ktm_course.specs.Moved.{is_commit}
 use Rattle.ktm_courses.specs.SoundCourse.{IsSoundCourse}
 use Rattle.ktm_courses.proofs.offered.Arrivals.{brought-now, stands-now}
 use Rattle.ktm_courses.proofs.offered.Calls.{enlistment-named, transaction_at-found}
+use Rattle.ktm_courses.proofs.offered.Endings.{superior-found}
 use Rattle.ktm_courses.proofs.offered.EnlistmentAnswers.{answer_in, is-aborting, is-committing, is-pre_preparing, is-preparing, phase-owing}
 use Rattle.ktm_courses.proofs.offered.Moves.{find-found, same-by_id}
 use Rattle.ktm_courses.proofs.offered.Outcomes.{known-in}
@@ -281,6 +282,11 @@ unknown_undecided t = go t.outcome
 
 -- ---- what comes from an enlistment
 
+-- one that is there is not none
+not_none : {X : Type 0} (o : Option X) → is_some o ≡ true → is_none o ≡ false
+not_none None some = absurd (true≢false (sym some))
+not_none (Some x) some = refl
+
 -- what comes where it is allowed is that
 allowed_input : (b : Bool) (a input : PhaseInput) → if_allowed b a ≡ Ok input → input ≡ a
 allowed_input true a input same = cc
@@ -290,6 +296,11 @@ allowed_input false a input same = absurd (cc)
 commanded_input : (above b : Bool) (a input : PhaseInput) → (if above then if_allowed b a else Err EnlistmentNotSuperior) ≡ Ok input → input ≡ a
 commanded_input true b a input same = allowed_input b a input same
 commanded_input false b a input same = absurd (cc)
+
+-- and then it is one
+commanded_above : (above b : Bool) (a input : PhaseInput) → (if above then if_allowed b a else Err EnlistmentNotSuperior) ≡ Ok input → above ≡ true
+commanded_above true b a input same = refl
+commanded_above false b a input same = absurd (cc)
 
 -- it is done, where nobody asked to commit
 done_by : (input : PhaseInput) (c : Going) → (input ≡ PhaseInput.CommitTransaction → ⊥) → Done ≡ reply_to input c
@@ -405,18 +416,23 @@ module _ (x : Present) (process : Pid) (up : x.machine.is_up ≡ true) where
       pub reply_refused : (vote : Vote) (refusal : Refusal) → replied t.phase e vote ≡ Err refusal → with_room x process (reply_call vote label) ≡ only_reply x (Refused refusal)
       reply_refused vote refusal is = refused_by (reply_call vote label) (replied t.phase e vote) refusal (calls.replies x process label e t vote names) is
 
+      -- the transaction of a superior has one
+      is_led : is_superior e ≡ true → is_none (superior_of es t.id) ≡ false
+      is_led above = not_none (superior_of es t.id) (superior-found t.id es e (enlistment-named x process label e names.enlistment) (and_from (same_id e.transaction t.id) (is_superior e) (same_id-from e.transaction t.id own) above))
+
       -- so is a call of a superior
-      command_plainly : (call : SuperiorCall) → IsPlainly x process (superior_call call label) t (Some e.id) (input_by call)
-      command_plainly SuperiorCall.PrePrepare = record { early = refl; takes = refl; unasked = λ same. absurd (cc) }
-      command_plainly SuperiorCall.Prepare = record { early = refl; takes = refl; unasked = λ same. absurd (cc) }
-      command_plainly SuperiorCall.Commit = record { early = refl; takes = refl; unasked = λ same. absurd (cc) }
+      command_plainly : is_superior e ≡ true → (call : SuperiorCall) → IsPlainly x process (superior_call call label) t (Some e.id) (input_by call)
+      command_plainly above SuperiorCall.PrePrepare = record { early = refl; takes = sym (is_led above); unasked = λ same. absurd (cc) }
+      command_plainly above SuperiorCall.Prepare = record { early = refl; takes = refl; unasked = λ same. absurd (cc) }
+      command_plainly above SuperiorCall.Commit = record { early = refl; takes = refl; unasked = λ same. absurd (cc) }
 
       -- one that is allowed is the course of its transaction
       pub commands : (call : SuperiorCall) (input : PhaseInput) → IsCommand (superior_call call label) → commanded t.phase e call ≡ Ok input → IsRouted x process (superior_call call label) (Course t (Some e.id) input)
       commands call input is came =
           goes files spelled (superior_call call label) is input (commanded t.phase e call) (calls.superiors x process label e t call names) came
           (coming.superiors t.phase (told_outcome t.outcome) e call input (known-in t.phase t (stands-now x t (Some e) sound is_in).outcome) came)
-          (subst (IsPlainly x process (superior_call call label) t (Some e.id)) (sym (commanded_input (is_superior e) (lets t.phase call) (input_by call) input came)) (command_plainly call))
+          (subst (IsPlainly x process (superior_call call label) t (Some e.id)) (sym (commanded_input (is_superior e) (lets t.phase call) (input_by call) input came))
+          (command_plainly (commanded_above (is_superior e) (lets t.phase call) (input_by call) input came) call))
 
       -- and one that is not is refused
       pub command_refused : (call : SuperiorCall) (refusal : Refusal) → commanded t.phase e call ≡ Err refusal → with_room x process (superior_call call label) ≡ only_reply x (Refused refusal)

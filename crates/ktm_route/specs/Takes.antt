@@ -4,7 +4,7 @@ use Rattle.ktm_base.specs.declared.id.Pid.{Pid}
 use Rattle.ktm_base.specs.declared.refusal.Refusal.{Refusal}
 use Rattle.ktm_base.specs.declared.refusal.Refusal.TheVariants.{MachineDown}
 use Rattle.ktm_types.specs.declared.command.Command.{Command}
-use Rattle.ktm_types.specs.declared.command.Command.TheVariants.{CommitTransaction, RollbackTransaction, GetTransactionInformation, CloseHandle, Exit, GetNotificationResourceManager, RollbackEnlistment, SetEnlistmentRecoveryInformation, CreateFile, CreateFileTransacted, ReadFile, WriteFile, SetEndOfFile, GetFileSizeEx, FlushFileBuffers, DeleteFile, CreateDirectory, RemoveDirectory, MoveFile, DeleteFileTransacted, CreateDirectoryTransacted, RemoveDirectoryTransacted, MoveFileTransacted, FindFiles, FindFilesTransacted}
+use Rattle.ktm_types.specs.declared.command.Command.TheVariants.{CommitTransaction, RollbackTransaction, GetTransactionInformation, CloseHandle, Exit, GetNotificationResourceManager, PrePrepareEnlistment, RecoverEnlistment, SinglePhaseReject, CommitComplete, RollbackComplete, RollbackEnlistment, SetEnlistmentRecoveryInformation, CreateFile, CreateFileTransacted, ReadFile, WriteFile, SetEndOfFile, GetFileSizeEx, FlushFileBuffers, DeleteFile, CreateDirectory, RemoveDirectory, MoveFile, DeleteFileTransacted, CreateDirectoryTransacted, RemoveDirectoryTransacted, MoveFileTransacted, FindFiles, FindFilesTransacted}
 use Rattle.ktm_world.specs.Decide.{command_tests, with_room}
 use Rattle.ktm_world.specs.Labels.{file_tests, transaction_named, transaction_tests}
 use Rattle.ktm_world.specs.Outcome.{first_refusal, is_full}
@@ -47,6 +47,11 @@ effect_takes_memory x process (GetTransactionInformation label) = false
 effect_takes_memory x process (CloseHandle label) = false
 effect_takes_memory x process Exit = false
 effect_takes_memory x process (GetNotificationResourceManager label) = false
+effect_takes_memory x process (PrePrepareEnlistment label) = false
+effect_takes_memory x process (RecoverEnlistment label) = false
+effect_takes_memory x process (SinglePhaseReject label) = false
+effect_takes_memory x process (CommitComplete label) = false
+effect_takes_memory x process (RollbackComplete label) = false
 effect_takes_memory x process (RollbackEnlistment label) = false
 effect_takes_memory x process (SetEnlistmentRecoveryInformation label information) = false
 effect_takes_memory x process (WriteFile file offset []) = false

@@ -41,6 +41,7 @@ fn decide_call(
     requires roomy { IsRoomy memory.old.journal events.old }
     ensures ok { IfOk result (λ d. DecidesIf (held memory.old) (with_room (present_of memory.old) process command) d events.new memory.new) }
     ensures slots { IfOk result (λ d. is_some d ≡ true → memory.old.tm.slots + granted_in (present_of memory.old) (with_room (present_of memory.old) process command) ≤ memory.new.tm.slots) }
+    ensures grows { memory.old.tm.slots ≤ memory.new.tm.slots }
     ensures room { events.new.room ≡ events.old.room }
     ensures no_memory { OnErr result (held memory.new ≡ held memory.old) }
     ensures enough { takes_memory (present_of memory.old) process command ≡ false → IsOk result }
@@ -66,6 +67,7 @@ pub fn decide(
     requires roomy { IsRoomy memory.old.journal events.old }
     ensures ok { IfOk result (λ d. DecidesIf (held memory.old) (asked_outcome (present_of memory.old) asked) d events.new memory.new) }
     ensures slots { IfOk result (λ d. is_some d ≡ true → memory.old.tm.slots + granted_in (present_of memory.old) (asked_outcome (present_of memory.old) asked) ≤ memory.new.tm.slots) }
+    ensures grows { memory.old.tm.slots ≤ memory.new.tm.slots }
     ensures room { events.new.room ≡ events.old.room }
     ensures no_memory { OnErr result (held memory.new ≡ held memory.old) }
     ensures enough { asked_takes_memory (present_of memory.old) asked ≡ false → IsOk result }

@@ -14,18 +14,13 @@ use Rattle.ktm_world.specs.Present.{Present}
 use Rattle.ktm_world.specs.World.{World, present, extend, after, committed, decide_tick, possible_logs}
 use Rattle.ktm_world.proofs.offered.SizeLemmas.{log_size-append}
 use Rattle.ktm_laws.specs.Running.{IsRunning, LawfulWorldsLaw}
-use Rattle.ktm_laws.proofs.offered.LogCounts.{frame-counts}
+use Rattle.ktm_laws.proofs.offered.LogCounts.{groups-count}
 use Rattle.ktm_records.specs.Spelling.{AreTexts, SpellingLaw}
 use Rattle.ktm_standing.specs.Laws.{StandingLaw}
 use Rattle.ktm_standing.specs.Standing.{IsStanding, IsStandingNow}
 use Rattle.ktm_standing.proofs.Opened.{stands_opened}
 use Rattle.ktm_standing.proofs.Outcomes.{IsLogged, decided_logs, ticked_logs}
 use Rattle.ktm_standing.proofs.Versions.{counted_works}
-
--- a group has more bytes than events
-few_events : (events : Group) → length events ≤ log_size (as_groups events)
-few_events [] = omega arith
-few_events (e ∷ es) = let few = frame-counts (e ∷ es) in let all = sum_by-cons frame_size (e ∷ es) [] in omega (arith, few, all)
 
 module _ (step : StepLaw) (law : LawfulWorldsLaw) (spelling : SpellingLaw) where
   -- ---- an outcome
@@ -40,7 +35,7 @@ module _ (step : StepLaw) (law : LawfulWorldsLaw) (spelling : SpellingLaw) where
         let works = ap (λ (c : Committed). version_of c.versions file) (fold-append with_work w.start w.works o.works) in
         let more = counted_works o.works (committed w) file in
         let puts = logged.each file in
-        let events = few_events o.events in
+        let events = groups-count o.events in
         let log = log_size-append w.log (as_groups o.events) in
         omega (arith, before, works, more, puts, events, log);
   }

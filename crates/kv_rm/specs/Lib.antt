@@ -1,3 +1,4 @@
+pub mod Undecided
 pub mod Place
 pub mod Count
 pub mod KvState

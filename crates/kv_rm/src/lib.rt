@@ -3,9 +3,12 @@
 
 mod call;
 mod count;
+mod holders;
 mod list;
 mod own;
 mod rm;
+mod setting_list;
+mod undecided;
 
 pub use call::{KvCall, Room};
 pub use rm::KvRm;

@@ -38,8 +38,8 @@ fn brought(change: &Change) -> Option<Place<'_>>
     }
 }
 
-// The place of a node that is seen.
-fn place_seen<'a>(tree: &'a Tree, overlay: &'a Overlay, node: u64) -> Place<'a>
+/// The place of a node that is seen, which is there.
+pub fn place_seen<'a>(tree: &'a Tree, overlay: &'a Overlay, node: u64) -> Place<'a>
     requires stands { StandsOver (tree_of tree.now) overlay.now }
     requires there { (x : Node) × (node_at (seen (tree_of tree.now) overlay.now) node ≡ Some x) }
     ensures place { Some (place_in result) ≡ option_map (λ n. place n.parent n.name) (node_at (seen (tree_of tree.now) overlay.now) node) }
@@ -60,8 +60,8 @@ fn place_seen<'a>(tree: &'a Tree, overlay: &'a Overlay, node: u64) -> Place<'a>
     }
 }
 
-// Is a node that is seen a file.
-fn is_file_seen(tree: &Tree, overlay: &Overlay, node: u64) -> bool
+/// Is a node that is seen, which is there, a file.
+pub fn is_file_seen(tree: &Tree, overlay: &Overlay, node: u64) -> bool
     requires { StandsOver (tree_of tree.now) overlay.now }
     ensures { (x : Node) → node_at (seen (tree_of tree.now) overlay.now) node ≡ Some x → result ≡ is_some x.content }
 {

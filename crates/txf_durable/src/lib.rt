@@ -11,6 +11,7 @@ mod tried;
 mod waiting;
 mod written;
 
+pub use acts::{is_file_seen, place_seen};
 pub use counts::{name_changes, nodes_made, units_given};
 pub use files::{DurableFiles, FilesRead};
 pub use numbers::FileNumbers;

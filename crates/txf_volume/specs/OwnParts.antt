@@ -3,9 +3,8 @@ use Rattle.std.specs.Prelude.{◌≡◌, ℕ, ◌+◌, ◌<◌, ◌^◌, true, A
 use Rattle.std.specs.List.{list_any}
 use Rattle.ktm_base.specs.declared.id.Id.{Id}
 use Rattle.ktm_types.specs.declared.change.Change.{Change}
-use Rattle.ktm_types.specs.declared.change.Change.TheVariants.{Make, Put, Cut, Move, Drop}
 use Rattle.ktm_world.specs.Changes.{applies, has_made, node_of}
-use Rattle.ktm_world.specs.Holds.{Place, dropped_directory, moved_directory, place, places_of}
+use Rattle.ktm_world.specs.Holds.{dropped_directory, moved_directory, places_of}
 use Rattle.ktm_world.specs.Transactions.{same_id}
 use Rattle.ktm_world.specs.Tree.{Tree}
 use Rattle.txf_overlay.specs.Laws.{written_with}
@@ -56,14 +55,6 @@ starts o fixed file = if has_made o.names file then [] else fixed
 -- the files that are written once a change is made
 abbrev pub written_next : OverlayState → List ℕ → Change → List Written
 written_next o fixed c = written_with (starts o fixed) o.written c
-
--- the place to which a change brings its node
-abbrev pub brought : Change → Option Place
-brought (Make node parent kind name) = Some (place parent name)
-brought (Put node offset contents) = None
-brought (Cut node size pages) = None
-brought (Move node parent name) = Some (place parent name)
-brought (Drop node) = None
 
 -- the transaction holds what a change of this tree holds, too
 abbrev pub HoldsChange : Tree → Change → Id → ReserveState → ReserveState → Type 0

@@ -1,74 +1,13 @@
-// What a transaction holds by one change, and by which name it sees a node.
-ghost use Rattle.std.specs.Prelude.{◌≡◌, ◌<◌, ◌≤◌, ◌∷◌, [], Some, false, is_some, length, not};
-ghost use Rattle.std.specs.Option.{option_map};
+// What a transaction holds by one change.
+ghost use Rattle.std.specs.Prelude.{◌≡◌, ◌<◌, ◌≤◌, ◌∷◌, [], Some, false, length};
 ghost use Rattle.ktm_base.specs.declared.limits.TheConstants.{MOST_NAME_BYTES};
-ghost use Rattle.ktm_types.specs.declared.recorded.Node.{Node};
-ghost use Rattle.ktm_world.specs.Holds.{place};
-ghost use Rattle.ktm_world.specs.Tree.{node_at};
 ghost use Rattle.txf_opens.specs.Acts.{place_in};
-ghost use Rattle.txf_overlay.specs.OverlayState.{seen};
-ghost use Rattle.txf_overlay.specs.Views.{StandsOver};
 ghost use Rattle.txf_reserve.specs.Acts.{listed};
 ghost use Rattle.txf_reserve.specs.ReserveState.{HoldsToo};
-ghost use Rattle.txf_tree.specs.TreeState.{tree_of};
-ghost use Rattle.txf_volume.specs.OwnParts.{brought};
 
 use ktm_base::Id;
-use ktm_types::Change;
 use txf_opens::Place;
-use txf_overlay::Overlay;
 use txf_reserve::{Held, Reserve};
-use txf_tree::Tree;
-
-// The place to which a change brings its node.
-fn brought(change: &Change) -> Option<Place<'_>>
-    ensures { option_map place_in result ≡ brought change.now }
-{
-    match change {
-        Change::Make { parent, name, .. } => Some(Place {
-            directory: *parent,
-            name: name.as_slice(),
-        }),
-        Change::Move { parent, name, .. } => Some(Place {
-            directory: *parent,
-            name: name.as_slice(),
-        }),
-        _ => None,
-    }
-}
-
-/// The place of a node that a transaction sees.
-pub(crate) fn place_seen<'a>(tree: &'a Tree, overlay: &'a Overlay, node: u64) -> Place<'a>
-    requires stands { StandsOver (tree_of tree.now) overlay.now }
-    requires there { (x : Node) × (node_at (seen (tree_of tree.now) overlay.now) node ≡ Some x) }
-    ensures place { Some (place_in result) ≡ option_map (λ n. place n.parent n.name) (node_at (seen (tree_of tree.now) overlay.now) node) }
-    ensures short { length result.name.now ≤ MOST_NAME_BYTES }
-{
-    match overlay.last_change(node) {
-        Some(change) => match brought(change) {
-            Some(place) => place,
-            None => unreachable!(),
-        },
-        None => match tree.node(node) {
-            Some(at) => Place {
-                directory: at.parent,
-                name: at.name,
-            },
-            None => unreachable!(),
-        },
-    }
-}
-
-/// Is a node that a transaction sees a directory.
-pub(crate) fn is_directory_seen(tree: &Tree, overlay: &Overlay, node: u64) -> bool
-    requires { StandsOver (tree_of tree.now) overlay.now }
-    ensures { (x : Node) → node_at (seen (tree_of tree.now) overlay.now) node ≡ Some x → result ≡ not (is_some x.content) }
-{
-    match overlay.node(tree, node) {
-        Some(seen) => !seen.is_file,
-        None => false,
-    }
-}
 
 /// The transaction holds a file too, whose bytes it changed.
 pub(crate) fn hold_file(reserve: &mut Reserve, transaction: Id, file: u64)

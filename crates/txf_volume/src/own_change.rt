@@ -15,13 +15,12 @@ ghost use Rattle.txf_volume.specs.Ties.{held_by_two};
 ghost use Rattle.txf_volume.specs.Transacted.{CanOwn, IsWithin};
 ghost use Rattle.txf_laws.specs.Elements.{each_pair};
 
-use crate::holding::{
-    hold_dropped, hold_file, hold_made, hold_moved, is_directory_seen, place_seen,
-};
+use crate::holding::{hold_dropped, hold_file, hold_made, hold_moved};
 use crate::own::{Own, place_of};
 use ktm_base::{Id, NoMemory, Text};
 use ktm_types::{Change, Contents, NodeKind};
 use std::alloc::Global;
+use txf_durable::{is_file_seen, place_seen};
 use txf_laws::law_of_forms;
 use txf_opens::Place;
 use txf_overlay::Overlay;
@@ -128,7 +127,7 @@ fn move_to(
         directory: parent,
         name: name.as_slice(),
     };
-    let is_directory = is_directory_seen(tree, overlay, node);
+    let is_directory = !is_file_seen(tree, overlay, node);
     hold_moved(reserve, transaction, node, from, to, is_directory);
     overlay.move_to(tree, node, parent, name);
 }
@@ -138,10 +137,10 @@ fn if_directory(tree: &Tree, overlay: &Overlay, node: u64) -> Option<u64>
     requires { StandsOver (tree_of tree.now) overlay.now }
     ensures { (x : Node) → node_at (seen (tree_of tree.now) overlay.now) node ≡ Some x → listed result ≡ (if is_some x.content then [] else node ∷ []) }
 {
-    if is_directory_seen(tree, overlay, node) {
-        Some(node)
-    } else {
+    if is_file_seen(tree, overlay, node) {
         None
+    } else {
+        Some(node)
     }
 }
 

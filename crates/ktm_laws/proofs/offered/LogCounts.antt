@@ -58,6 +58,14 @@ events-few (event ∷ events) =
 pub frame-counts : (events : List Event) → length events ≤ frame_size events
 frame-counts events = let few = events-few events in omega (arith, few)
 
+-- nor has the log that it makes, where it has any
+pub groups-count : (events : List Event) → length events ≤ log_size (as_groups events)
+groups-count [] = omega arith
+groups-count (event ∷ events) =
+    let few = frame-counts (event ∷ events) in
+    let all = sum_by-cons frame_size (event ∷ events) [] in
+    omega (arith, few, all)
+
 pub log-events : (log : List Group) (base : Durable) → (stand base log).events ≤ base.events + log_size log
 log-events [] base = omega arith
 log-events (group ∷ log) base =

@@ -3,7 +3,7 @@ use Rattle.ktm_memory.specs.Decided.{DecidesIf}
 use Rattle.ktm_memory.specs.Memory.{held, present_of}
 use Rattle.ktm_slots.specs.Slots.{granted_in}
 use Rattle.ktm_world.specs.TransactionCalls.{tick}
-use Rattle.ktm_route.proofs.Granted.{tick_grants}
+use Rattle.ktm_memory.proofs.offered.Granted.{tick_grants}
 use Rattle.ktm_route.proofs.Routes.{up_or}
 use Rattle.ktm_route.proofs.asked.decide.Goals as goal
 

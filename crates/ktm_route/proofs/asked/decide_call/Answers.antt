@@ -3,7 +3,7 @@ use Rattle.ktm_types.specs.declared.reply.Reply.TheVariants.{Refused}
 use Rattle.ktm_memory.proofs.offered.Decided.{only_decided}
 use Rattle.ktm_memory.specs.Memory.{present_of}
 use Rattle.ktm_slots.specs.Slots.{granted_in}
-use Rattle.ktm_route.proofs.Granted.{reply_grants}
+use Rattle.ktm_memory.proofs.offered.Granted.{reply_grants}
 use Rattle.ktm_route.proofs.asked.decide_call.Goals as goal
 
 pub returns-in-Err-clause-ok : goal.returns-in-Err-clause-ok

@@ -1,13 +1,14 @@
-use Rattle.std.proofs.Common.{refl, ap, ◌∙◌}
+use Rattle.std.proofs.Common.{Result, Ok, Err, OnErr, refl, ap, subst, ◌∙◌}
 use Rattle.ktm_base.specs.declared.refusal.Refusal.TheVariants.{LogFull, MachineDown}
 use Rattle.ktm_log.specs.OnDisk.{on}
 use Rattle.ktm_types.specs.declared.reply.Reply.TheVariants.{Refused}
 use Rattle.ktm_memory.proofs.offered.Takes.{gave_up}
-use Rattle.ktm_memory.specs.Memory.{present_of}
+use Rattle.ktm_memory.specs.Memory.{now_of, present_of}
 use Rattle.ktm_route.specs.Route.{asked_outcome, decided}
 use Rattle.ktm_route.specs.Takes.{asked_takes_memory}
 use Rattle.ktm_kernel.proofs.Asked.{asked_well}
 use Rattle.ktm_kernel.proofs.Ends.{as_shown, cut_answered, done_answered, kept, may_settle, may_tell, same_units, stopped_answered}
+use Rattle.ktm_kernel.specs.Answers.{IsAsItWas}
 use Rattle.ktm_kernel.specs.Stands.{KernelState, machine_of}
 use Rattle.ktm_kernel.proofs.kernel.Kernel.answer.Goals as goal
 
@@ -50,3 +51,13 @@ returns-in-Err-Down-clause-leaves g c =
 
 pub returns-in_err-decided-clause-enough : goal.returns-in_err-decided-clause-enough
 returns-in_err-decided-clause-enough g c = λ none. gave_up (c.in_err-decided.ensures.enough (ap (λ (k : KernelState). asked_takes_memory k.now c.args.asked) c.self.view_is ∙ none))
+
+-- what is so is so at each error
+at_error : {T E P : Type 0} → P → (r : Result T E) → OnErr r P
+at_error is (Ok value) = tt
+at_error is (Err fault) = is
+
+pub returns-in_err-decided-clause-no_memory : goal.returns-in_err-decided-clause-no_memory
+returns-in_err-decided-clause-no_memory g c =
+    let same = c.in_err-decided.ensures.no_memory in
+    at_error (subst (λ (k : KernelState). IsAsItWas k (machine_of c.decide.new.memory)) c.self.view_is (record { now = ap now_of same; journal = ap (λ h. h.journal) same; slots = c.decide.ensures.grows })) c.from_residual.result

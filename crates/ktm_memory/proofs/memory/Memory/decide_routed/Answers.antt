@@ -7,7 +7,7 @@ use Rattle.ktm_memory.specs.Routed.{outcome_of}
 use Rattle.ktm_memory.specs.declared.routed.Routed.TheVariants.{Course, Create, Files, Handles, Inform, Information, MakeManager, Take, Tell}
 use Rattle.ktm_world.specs.TransactionCalls.{get_transaction_information}
 use Rattle.ktm_memory.proofs.Decides.{information_is}
-use Rattle.ktm_memory.proofs.Granted.{course_none, create_none, files_none, inform_none, information_none, labels_none, manager_none, none_wanted, note_none, recovery_wanted, refuse_none, told_none}
+use Rattle.ktm_memory.proofs.offered.Granted.{course_none, create_none, files_none, inform_none, information_none, labels_none, manager_none, none_wanted, note_none, recovery_wanted, refuse_none, told_none}
 use Rattle.ktm_memory.proofs.ObjectsDecided.{inform_decided}
 use Rattle.ktm_memory.proofs.offered.Decided.{only_decided}
 use Rattle.ktm_memory.proofs.offered.Takes.{from_not, gave_up}

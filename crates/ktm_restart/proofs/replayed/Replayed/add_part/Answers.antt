@@ -1,11 +1,15 @@
-use Rattle.std.proofs.Common.{◌∙◌, sym, ap, subst}
+use Rattle.std.proofs.Common.{◌≡◌, ◌∙◌, [], true, false, Ok, sym, ap, subst}
+use Rattle.std.specs.List.{list_all}
 use Rattle.ktm_world.specs.Changes.{changes_apply, has_changes}
-use Rattle.ktm_world.specs.Durable.{are_recorded_changes, changes_in, recorded_or_new, with_recorded}
+use Rattle.ktm_world.specs.Durable.{are_recorded_changes, changes_in, changes_of, is_decided, is_new_in, recorded_or_new, with_part, with_recorded}
 use Rattle.txf_tree.specs.TreeState.{TreeState, tree_of}
 use Rattle.ktm_restart.specs.Replayed.{ReplayedState}
-use Rattle.ktm_restart.specs.Table.{with_one_part}
-use Rattle.ktm_restart.specs.Waiting.{AreHeld}
-use Rattle.ktm_restart.proofs.Reserving.{HoldsPart, held-as, held-part, held-without, lost, part-changes_apply, part-idle, part-recorded}
+use Rattle.ktm_waiting.specs.Table.{with_one_part}
+use Rattle.ktm_waiting.specs.Totals.{PassImages}
+use Rattle.ktm_waiting.specs.Waiting.{AreHeld}
+use Rattle.ktm_waiting.proofs.offered.Keeping.{may-ready, part-kept}
+use Rattle.ktm_waiting.proofs.offered.Limits.{images-passed}
+use Rattle.ktm_waiting.proofs.offered.Reserving.{HoldsPart, held-as, held-part, part-changes_apply, part-first, part-idle, part-new, part-recorded}
 use Rattle.ktm_restart.proofs.replayed.Replayed.add_part.Goals as goal
 
 pub hold_changes-requires-clause-recorded : goal.hold_changes-requires-clause-recorded
@@ -32,20 +36,30 @@ pub invariant_of-self : goal.invariant_of-self
 invariant_of-self c =
     held-as c.self.inside.waiting c.hold_changes.new.waiting (tree_of c.self.inside.files.tree) c.self.inside.transactions.transactions c.self.invariant c.in_err-hold_changes.ensures.err
 
-pub invariant_of-self-in-Err : goal.invariant_of-self-in-Err
-invariant_of-self-in-Err c =
-    let w = c.self.inside.waiting in
-    let w' = c.hold_changes.new.waiting in
-    let w'' = c.release.new.self in
-    let tree = tree_of c.self.inside.files.tree in
-    let id = c.args.transaction in
-    let holds = subst (HoldsPart w w' tree id) c.changes_in.ensures c.in_ok-hold_changes.ensures.ok in
-    subst (λ (t : TreeState). AreHeld w'' (tree_of t) c.add_part.new.self.transactions) (sym c.give_numbers.ensures.tree)
-    (subst (AreHeld w'' tree) (sym c.in-Err.ensures.err)
-    (held-without w tree c.self.inside.transactions.transactions c.self.invariant w'' id (lost w w' w'' tree id (changes_in c.args.part) holds c.release.ensures)))
+pub add_part-requires-clause-waits : goal.add_part-requires-clause-waits
+add_part-requires-clause-waits c =
+    subst (λ (r : ReplayedState). is_decided (recorded_or_new r.state.transactions c.args.transaction).stage ≡ false) (sym c.self.view_is) (may-ready c.args.self.now.state c.args.transaction c.requires.ready)
 
-pub invariant_of-self-in_default : goal.invariant_of-self-in_default
-invariant_of-self-in_default c =
+pub add_part-requires-clause-form : goal.add_part-requires-clause-form
+add_part-requires-clause-form c = part-recorded c.args.self.now.state c.args.transaction c.args.part c.requires.applies
+
+pub add_part-requires-clause-apply : goal.add_part-requires-clause-apply
+add_part-requires-clause-apply c =
+    ap (λ (t : TreeState). changes_apply (tree_of t) (changes_in c.args.part)) c.give_numbers.ensures.tree ∙ ap (λ (r : ReplayedState). changes_apply r.state.tree (changes_in c.args.part)) c.self.view_is
+    ∙ part-changes_apply c.args.self.now.state c.args.transaction c.args.part c.requires.applies
+
+pub add_part-requires-clause-new : goal.add_part-requires-clause-new
+add_part-requires-clause-new c =
+    ap (λ (t : TreeState). list_all (is_new_in (tree_of t)) (changes_in c.args.part)) c.give_numbers.ensures.tree ∙ ap (λ (r : ReplayedState). list_all (is_new_in r.state.tree) (changes_in c.args.part)) c.self.view_is
+    ∙ part-new c.args.self.now.state c.args.transaction c.args.part c.requires.applies
+
+pub add_part-requires-clause-first : goal.add_part-requires-clause-first
+add_part-requires-clause-first c =
+    subst (λ (r : ReplayedState). has_changes (changes_in c.args.part) ≡ true → changes_of (recorded_or_new r.state.transactions c.args.transaction) ≡ []) (sym c.self.view_is)
+    (part-first c.args.self.now.state c.args.transaction c.args.part c.requires.applies)
+
+pub invariant_of-self-in-Ok-true : goal.invariant_of-self-in-Ok-true
+invariant_of-self-in-Ok-true c =
     let s = c.args.self.now.state in
     let w = c.self.inside.waiting in
     let w' = c.hold_changes.new.waiting in
@@ -55,6 +69,15 @@ invariant_of-self-in_default c =
     let held = subst (λ (r : ReplayedState). AreHeld w r.state.tree r.state.transactions) c.self.view_is c.self.invariant in
     let holds = subst (λ (r : ReplayedState). HoldsPart w w' r.state.tree id (changes_in part)) c.self.view_is (subst (HoldsPart w w' tree id) c.changes_in.ensures c.in_ok-hold_changes.ensures.ok) in
     subst (λ (t : TreeState). AreHeld w' (tree_of t) c.add_part.new.self.transactions) (sym c.give_numbers.ensures.tree)
-    (subst (AreHeld w' tree) (sym c.in_default.ensures.ok)
+    (subst (AreHeld w' tree) (sym (c.in-Ok-true.ensures.added (ap Ok c.in-Ok-true.field-0-test)))
     (subst (λ (r : ReplayedState). AreHeld w' r.state.tree (with_recorded r.state.transactions (with_one_part (recorded_or_new r.state.transactions id) part))) (sym c.self.view_is)
     (held-part w w' s id held c.requires.ready part c.requires.applies holds)))
+
+pub returns-in-Ok-false-clause-refused : goal.returns-in-Ok-false-clause-refused
+returns-in-Ok-false-clause-refused c _ =
+    let s = c.args.self.now.state in
+    let id = c.args.transaction in
+    let part = c.args.part in
+    let held = subst (λ (r : ReplayedState). AreHeld c.self.inside.waiting r.state.tree r.state.transactions) c.self.view_is c.self.invariant in
+    let past = subst (λ (r : ReplayedState). PassImages (with_recorded r.state.transactions (with_one_part (recorded_or_new r.state.transactions id) part))) c.self.view_is (c.in-Ok-false.ensures.refused (ap Ok c.in-Ok-false.field-0-test)) in
+    images-passed (with_part s id part) (λ t there. ((part-kept s id held.kept c.requires.ready part c.requires.applies).each t there).apply) past c.law_of_units.ensures

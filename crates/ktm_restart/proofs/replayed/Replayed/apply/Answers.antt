@@ -1,6 +1,6 @@
 use Rattle.std.proofs.Common.{◌+◌, ◌∙◌, sym, ap}
 use Rattle.ktm_world.specs.Durable.{is_within_limits}
-use Rattle.ktm_restart.proofs.Holding.{event-tested, limits-counted}
+use Rattle.ktm_restart.proofs.Taking.{event-tested, limits-counted}
 use Rattle.ktm_restart.proofs.replayed.Replayed.apply.Goals as goal
 
 pub returns-clause-applies : goal.returns-clause-applies

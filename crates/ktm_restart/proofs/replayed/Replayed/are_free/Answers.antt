@@ -1,5 +1,5 @@
 use Rattle.std.proofs.Common.{◌∙◌, sym}
-use Rattle.ktm_restart.proofs.Holding.{changes-alone, free-ok}
+use Rattle.ktm_waiting.proofs.offered.Beside.{changes-alone, free-ok}
 use Rattle.ktm_restart.proofs.replayed.Replayed.are_free.Goals as goal
 
 pub returns-then-not-others_change-clause-free : goal.returns-then-not-others_change-clause-free

@@ -2,8 +2,8 @@ use Rattle.std.proofs.Common.{◌∷◌, ◌∙◌, [], sym, ap, refl, None}
 use Rattle.ktm_types.specs.declared.event.Event.TheVariants.{Plain}
 use Rattle.ktm_world.specs.Durable.{recorded_changes_apply}
 use Rattle.ktm_restart.specs.Replayed.{ReplayedState}
-use Rattle.ktm_restart.specs.Waiting.{passes_units}
-use Rattle.ktm_restart.proofs.Holding.{takes-ok, takes-none}
+use Rattle.ktm_restart.specs.Replayed.{passes_units}
+use Rattle.ktm_restart.proofs.Taking.{takes-ok, takes-none}
 use Rattle.ktm_restart.proofs.Past.{past_units}
 use Rattle.ktm_restart.proofs.replayed.Replayed.change_plainly.Goals as goal
 

@@ -1,6 +1,6 @@
 use Rattle.std.proofs.Common.{◌∷◌, [], None}
-use Rattle.ktm_restart.proofs.Holding.{made-ok, tested-apply}
-use Rattle.ktm_restart.proofs.Keeping.{spared-plain}
+use Rattle.ktm_waiting.proofs.offered.Beside.{made-ok, tested-apply}
+use Rattle.ktm_waiting.proofs.offered.Keeping.{spared-plain}
 use Rattle.ktm_restart.proofs.replayed.Replayed.commit_change.Goals as goal
 
 pub make_one-requires : goal.make_one-requires

@@ -1,9 +1,9 @@
 use Rattle.std.proofs.Common.{◌∙◌, Some, ap, sym}
 use Rattle.std.proofs.lemmas.Bool.{true≢false}
 use Rattle.ktm_world.specs.Durable.{Durable, recorded_at}
-use Rattle.ktm_restart.specs.Waiting.{others_change}
-use Rattle.ktm_restart.proofs.Holding.{others-less, tested-apply}
-use Rattle.ktm_restart.proofs.Keeping.{spared-new}
+use Rattle.ktm_waiting.specs.Waiting.{others_change}
+use Rattle.ktm_waiting.proofs.offered.Beside.{others-less, tested-apply}
+use Rattle.ktm_waiting.proofs.offered.Keeping.{spared-new}
 use Rattle.ktm_restart.proofs.replayed.Replayed.commit_changes.Goals as goal
 
 pub make_all-requires : goal.make_all-requires

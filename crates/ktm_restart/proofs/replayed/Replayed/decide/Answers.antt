@@ -3,14 +3,14 @@ use Rattle.std.specs.List.{list_all}
 use Rattle.ktm_world.specs.Changes.{changes_apply}
 use Rattle.ktm_world.specs.Durable.{Recorded, is_new_in, recorded_at}
 use Rattle.txf_tree.specs.TreeState.{tree_of}
-use Rattle.ktm_restart.specs.Table.{decided_in}
-use Rattle.ktm_restart.specs.Waiting.{AreHeld, AreSpared}
-use Rattle.ktm_restart.proofs.Keeping.{changes-apply-at, changes-new-at, decide-spared, found-kept}
-use Rattle.ktm_restart.proofs.Reserving.{held-decided, held-idle}
+use Rattle.ktm_waiting.specs.Table.{decided_in}
+use Rattle.ktm_waiting.specs.Waiting.{AreHeld, AreSpared}
+use Rattle.ktm_waiting.proofs.offered.Keeping.{changes-apply-at, changes-new-at, decide-spared}
+use Rattle.ktm_waiting.proofs.offered.Reserving.{held-decided, held-idle}
 use Rattle.ktm_restart.proofs.replayed.Replayed.decide.Goals as goal
 
 pub decide-changes-requires : goal.decide-changes-requires
-decide-changes-requires c t found = (found-kept (tree_of c.self.inside.files.tree) c.self.inside.transactions.transactions c.args.transaction t c.self.invariant.kept found).parts
+decide-changes-requires c = c.self.invariant.kept.each
 
 pub release_changes-requires : goal.release_changes-requires
 release_changes-requires c none =

@@ -1,7 +1,7 @@
 use Rattle.std.proofs.Common.{sym, subst}
 use Rattle.txf_tree.specs.TreeState.{tree_of}
-use Rattle.ktm_restart.specs.Waiting.{AreHeld}
-use Rattle.ktm_restart.proofs.Reserving.{held-none}
+use Rattle.ktm_waiting.specs.Waiting.{AreHeld}
+use Rattle.ktm_waiting.proofs.offered.Reserving.{held-none}
 use Rattle.ktm_restart.proofs.replayed.Replayed.empty.Goals as goal
 
 pub invariant_of-result : goal.invariant_of-result

@@ -4,7 +4,7 @@ use Rattle.ktm_types.specs.declared.event.Event.TheVariants.{Done}
 use Rattle.ktm_world.specs.Durable.{Durable, after_events}
 use Rattle.ktm_world.specs.World.{own_events}
 use Rattle.ktm_restart.specs.Replayed.{ReplayedState}
-use Rattle.ktm_restart.specs.Table.{IsByRisingId}
+use Rattle.ktm_waiting.specs.Table.{IsByRisingId}
 use Rattle.ktm_restart.proofs.OwnDones.{Made, made-all, own-step, own-undone}
 use Rattle.ktm_restart.proofs.replayed.Replayed.finish_first.Goals as goal
 

@@ -1,8 +1,8 @@
 use Rattle.std.proofs.Common.{◌∷◌, ◌∙◌, [], None, not, ap, sym, subst}
 use Rattle.txf_durable.specs.Waiting.{is_met}
 use Rattle.ktm_restart.specs.Replayed.{ReplayedState}
-use Rattle.ktm_restart.specs.Waiting.{AreHeld}
-use Rattle.ktm_restart.proofs.Holding.{changes-alone, changes-met, tested-with}
+use Rattle.ktm_waiting.specs.Waiting.{AreHeld}
+use Rattle.ktm_waiting.proofs.offered.Beside.{changes-alone, changes-met, tested-with}
 use Rattle.ktm_restart.proofs.replayed.Replayed.is_free.Goals as goal
 
 pub returns-then-not-others_change : goal.returns-then-not-others_change

@@ -6,8 +6,8 @@ use Rattle.ktm_world.specs.Durable.{is_new_in}
 use Rattle.ktm_world.specs.Tree.{IsWellFormed}
 use Rattle.txf_tree.specs.TreeState.{tree_of}
 use Rattle.ktm_restart.specs.Replayed.{ReplayedState}
-use Rattle.ktm_restart.specs.Waiting.{AreSpared}
-use Rattle.ktm_restart.proofs.Reserving.{held-commit}
+use Rattle.ktm_waiting.specs.Waiting.{AreSpared}
+use Rattle.ktm_waiting.proofs.offered.Reserving.{held-commit}
 use Rattle.ktm_restart.proofs.replayed.Replayed.make_one.Goals as goal
 
 pub invariant_of-self : goal.invariant_of-self

@@ -2,8 +2,8 @@ use Rattle.std.proofs.Common.{◌&&◌, ◌∙◌, sym, subst}
 use Rattle.std.specs.Prelude.{IfOk, ◌≡◌}
 use Rattle.txf_durable.specs.Waiting.{is_met}
 use Rattle.ktm_restart.specs.Replayed.{ReplayedState}
-use Rattle.ktm_restart.specs.Waiting.{AreHeld}
-use Rattle.ktm_restart.proofs.Holding.{changes-alone, changes-met, met-ok}
+use Rattle.ktm_waiting.specs.Waiting.{AreHeld}
+use Rattle.ktm_waiting.proofs.offered.Beside.{changes-alone, changes-met, met-ok}
 use Rattle.ktm_restart.proofs.replayed.Replayed.meet_others.Goals as goal
 
 pub returns-then-not-others_change : goal.returns-then-not-others_change

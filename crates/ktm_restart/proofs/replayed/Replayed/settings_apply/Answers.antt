@@ -2,8 +2,8 @@ use Rattle.std.proofs.Common.{◌&&◌, ◌∙◌, not, ap, subst}
 use Rattle.ktm_world.specs.Durable.{settings_apply}
 use Rattle.txf_laws.specs.Elements.{IsIn}
 use Rattle.ktm_restart.specs.Replayed.{ReplayedState}
-use Rattle.ktm_restart.specs.Waiting.{others_set}
-use Rattle.ktm_restart.proofs.Holding.{settings-tested}
+use Rattle.ktm_waiting.specs.Waiting.{others_set}
+use Rattle.ktm_waiting.proofs.offered.Beside.{settings-tested}
 use Rattle.ktm_restart.proofs.replayed.Replayed.settings_apply.Goals as goal
 
 pub others_set-requires-clause-parts : goal.others_set-requires-clause-parts

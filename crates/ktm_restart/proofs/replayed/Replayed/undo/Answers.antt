@@ -1,8 +1,11 @@
 use Rattle.std.proofs.Common.{sym, subst}
 use Rattle.txf_tree.specs.TreeState.{tree_of}
-use Rattle.ktm_restart.specs.Waiting.{AreHeld}
-use Rattle.ktm_restart.proofs.Reserving.{held-without}
+use Rattle.ktm_waiting.specs.Waiting.{AreHeld}
+use Rattle.ktm_waiting.proofs.offered.Reserving.{held-without}
 use Rattle.ktm_restart.proofs.replayed.Replayed.undo.Goals as goal
+
+pub forget-requires : goal.forget-requires
+forget-requires c = c.self.invariant.kept.each
 
 pub invariant_of-self : goal.invariant_of-self
 invariant_of-self c =

@@ -1,0 +1,9 @@
+pub mod Buffers
+pub mod Bytes
+pub mod offered
+pub mod Rows
+pub mod Splices
+pub mod TakenUnits
+pub mod Told
+pub mod UnitBytes
+pub mod Uses

@@ -1,0 +1,4 @@
+mod Bytes
+mod Placed
+mod Steps
+mod Left

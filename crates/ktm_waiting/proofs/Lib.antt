@@ -1,0 +1,7 @@
+mod Fitting
+mod Made
+mod OneOfKind
+mod Others
+mod Placing
+mod Together
+pub mod offered

@@ -1,0 +1,4 @@
+pub mod Table
+pub mod Totals
+pub mod Waiting
+pub mod Work

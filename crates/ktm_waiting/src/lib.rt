@@ -1,0 +1,19 @@
+//! The transactions that a log has left undecided or unfinished, while it is read, and the durable resource managers: what
+//! waits in their parts, what that holds of the files, and how much it takes.
+#![tactic(auto)]
+
+mod amounts;
+mod beside;
+mod holds;
+mod managers;
+mod parts;
+mod table;
+mod transactions;
+
+pub use amounts::{Amounts, fits_in, limits, without};
+pub use beside::{others_change, others_set};
+pub use holds::{hold_changes, release_changes, release_ready};
+pub use managers::Managers;
+pub use parts::changes_in;
+pub use table::has_undone;
+pub use transactions::Transactions;
