@@ -83,6 +83,7 @@ impl Extent {
         ensures value { OnOk result (IfSome (P.told io.old) (λ r. IsUnit (contents r.seen self.now) unit buf.new)) }
         ensures same { P.told io.new ≡ P.told io.old }
         ensures count { P.count io.new ≡ P.count io.old }
+        ensures keeps { P.keeps io.old io.new }
         ensures calls { DeviceCalls 2 (P.status io.old) (P.status io.new) (is_err result) }
     {
         if let Err(Down) = io.read_page(self.pages[unit as usize], buf) {
@@ -107,6 +108,7 @@ impl Extent {
         ensures value { OnOk result (IfSome (P.told io.old) (λ r. Stays (contents r.seen self.now) at end unit buf.new)) }
         ensures same { P.told io.new ≡ P.told io.old }
         ensures count { P.count io.new ≡ P.count io.old }
+        ensures keeps { P.keeps io.old io.new }
         ensures calls { DeviceCalls (read_calls self.now.size at end (unit * 4096)) (P.status io.old) (P.status io.new) (is_err result) }
     {
         if !self.keeps(at, end, unit * UNIT_BYTES) {
@@ -134,6 +136,7 @@ impl Extent {
         ensures filled { OnOk result (IfSome (P.told io.old) (λ r. IsFilled (contents r.seen self.now) at buf.old (unit * 4096) → IsFilled (contents r.seen self.now) at buf.new ((unit + 1) * 4096))) }
         ensures same { P.told io.new ≡ P.told io.old }
         ensures count { P.count io.new ≡ P.count io.old }
+        ensures keeps { P.keeps io.old io.new }
         ensures calls { DeviceCalls 2 (P.status io.old) (P.status io.new) (is_err result) }
     {
         let start = unit * UNIT_BYTES;
@@ -156,6 +159,7 @@ impl Extent {
         ensures filled { OnOk result (IfSome (P.told io.old) (λ r. IsFilled (contents r.seen self.now) at buf.new (at + length buf.old))) }
         ensures same { P.told io.new ≡ P.told io.old }
         ensures count { P.count io.new ≡ P.count io.old }
+        ensures keeps { P.keeps io.old io.new }
         ensures calls { DeviceCalls (2 * touched self.now.size at (length buf.old)) (P.status io.old) (P.status io.new) (is_err result) }
     {
         let last = (at + buf.len() as u64 - 1) / UNIT_BYTES;
@@ -174,6 +178,7 @@ impl Extent {
         ensures bytes { IfOk result (λ n. IfSome (P.told io.old) (λ r. buf.new ≡ slice_range (contents r.seen self.now) at (at + n) ++ drop n buf.old)) }
         ensures same { P.told io.new ≡ P.told io.old }
         ensures count { P.count io.new ≡ P.count io.old }
+        ensures keeps { P.keeps io.old io.new }
         ensures calls { DeviceCalls (2 * touched self.now.size at (min (length buf.old) (self.now.size - at))) (P.status io.old) (P.status io.new) (is_err result) }
     {
         let len = self.size.saturating_sub(at).min(buf.len() as u64) as usize;
@@ -205,6 +210,7 @@ impl Extent {
         ensures err { OnErr result (IsUnchanged self.old self.new (G.holders pages.old) (G.holders pages.new)) }
         ensures fault { IfErr result (λ fault. NotWritten fault ((at + length bytes.now - 1) / 4096 + 1 - first_unit self.old.size at) (G.count pages.old) (G.holders pages.old) (P.told io.old) (P.told io.new) (P.status io.old) (P.status io.new)) }
         ensures row { P.count io.new ≡ P.count io.old }
+        ensures keeps { P.keeps io.old io.new }
         ensures count { G.count pages.new ≡ G.count pages.old }
     {
         let end = at + bytes.len() as u64;
@@ -243,6 +249,7 @@ impl Extent {
         ensures err { OnErr result (IsUnchanged self.old self.new (G.holders pages.old) (G.holders pages.new)) }
         ensures fault { IfErr result (λ fault. NotWritten fault (touched self.old.size at (length bytes.now)) (G.count pages.old) (G.holders pages.old) (P.told io.old) (P.told io.new) (P.status io.old) (P.status io.new)) }
         ensures row { P.count io.new ≡ P.count io.old }
+        ensures keeps { P.keeps io.old io.new }
         ensures count { G.count pages.new ≡ G.count pages.old }
     {
         if bytes.is_empty() {
@@ -268,6 +275,7 @@ impl Extent {
         ensures err { OnErr result (IsUnchanged self.old self.new (G.holders pages.old) (G.holders pages.new)) }
         ensures fault { IfErr result (λ fault. NotWritten fault (touched self.old.size self.old.size (len - self.old.size)) (G.count pages.old) (G.holders pages.old) (P.told io.old) (P.told io.new) (P.status io.old) (P.status io.new)) }
         ensures row { P.count io.new ≡ P.count io.old }
+        ensures keeps { P.keeps io.old io.new }
         ensures count { G.count pages.new ≡ G.count pages.old }
     {
         if len == self.size {

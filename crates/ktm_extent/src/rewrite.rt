@@ -45,6 +45,7 @@ fn take_unit<P: PageIo, G: PageSpace>(
     ensures lost { OnErr result (Goes (OnlyFree (G.count pages.old) (G.holders pages.old)) (P.told io.old) (P.told io.new)) }
     ensures calls { DeviceCalls (2 + read_calls old.now.size at (at + length bytes.now) (unit * 4096)) (P.status io.old) (P.status io.new) (is_err result) }
     ensures row { P.count io.new ≡ P.count io.old }
+    ensures keeps { P.keeps io.old io.new }
     ensures count { G.count pages.new ≡ G.count pages.old }
 {
     let Some(page) = pages.take() else {
@@ -79,6 +80,7 @@ pub(crate) fn take_units<P: PageIo, G: PageSpace>(
     ensures lost { OnErr result (Goes (OnlyFree (G.count pages.old) (G.holders pages.old)) (P.told io.old) (P.told io.new)) }
     ensures calls { DeviceCalls (most_calls (length taken.old)) (P.status io.old) (P.status io.new) (is_err result) }
     ensures row { P.count io.new ≡ P.count io.old }
+    ensures keeps { P.keeps io.old io.new }
     ensures count { G.count pages.new ≡ G.count pages.old }
 {
     let first = old.first_unit(at);

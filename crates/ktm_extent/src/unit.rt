@@ -22,6 +22,7 @@ pub(crate) fn read_part<P: PageIo>(
     ensures value { OnOk result (IfSome (P.told io.old) (λ r. part.new ≡ slice_range (page_of r.seen page) from (from + length part.old))) }
     ensures same { P.told io.new ≡ P.told io.old }
     ensures count { P.count io.new ≡ P.count io.old }
+    ensures keeps { P.keeps io.old io.new }
     ensures calls { DeviceCalls 2 (P.status io.old) (P.status io.new) (is_err result) }
 {
     if let Some(whole) = part.first_chunk_mut() {
@@ -91,6 +92,7 @@ pub(crate) fn write_unit<P: PageIo>(
     ensures ok { OnOk result (Goes (WroteUnit (target old.now at bytes.now) unit page) (P.told io.old) (P.told io.new)) }
     ensures err { OnErr result (Goes (LostPage page) (P.told io.old) (P.told io.new)) }
     ensures count { P.count io.new ≡ P.count io.old }
+    ensures keeps { P.keeps io.old io.new }
     ensures calls { DeviceCalls (2 + read_calls old.now.size at (at + length bytes.now) (unit * 4096)) (P.status io.old) (P.status io.new) (is_err result) }
 {
     let start = unit * UNIT_BYTES;

@@ -19,12 +19,16 @@ pub trait PageIo {
     /// How many pages there are.
     ghost count: { Self → ℕ };
 
+    /// The one is the other after calls: it lies over the same disk, of which what is no page of the row stays.
+    ghost keeps: { Self → Self → Type 0 };
+
     /// Fills the buffer with the bytes of the page.
     fn read_page(&mut self, page: u32, buf: &mut [u8; 4096]) -> Result<(), Down>
         requires { page < count self.old }
         ensures value { OnOk result (IfSome (told self.old) (λ r. buf.new ≡ page_of r.seen page)) }
         ensures same { told self.new ≡ told self.old }
         ensures count { count self.new ≡ count self.old }
+        ensures keeps { keeps self.old self.new }
         ensures calls { DeviceCalls 2 (status self.old) (status self.new) (is_err result) };
 
     /// Writes over the page. Where it answers Down the page may hold anything.
@@ -33,8 +37,15 @@ pub trait PageIo {
         ensures ok { OnOk result (Goes (WrotePage page bytes.now) (told self.old) (told self.new)) }
         ensures err { OnErr result (Goes (LostPage page) (told self.old) (told self.new)) }
         ensures count { count self.new ≡ count self.old }
+        ensures keeps { keeps self.old self.new }
         ensures calls { DeviceCalls 2 (status self.old) (status self.new) (is_err result) };
 
     /// The bytes are those of the pages.
     ghost lengths: { (row : Self) → IfSome (told row) (λ r. length r.seen ≡ count row * UNIT_BYTES) };
+
+    /// After no call it is what it was.
+    ghost keeps_none: { (row : Self) → keeps row row };
+
+    /// And one call may follow the other.
+    ghost keeps_then: { (first next last : Self) → keeps first next → keeps next last → keeps first last };
 }

@@ -157,6 +157,7 @@ impl Cache {
         ensures used { OnOk result (self.new.kept ≡ used page buf.new self.old.kept) }
         ensures err { OnErr result (self.new ≡ self.old) }
         ensures count { P.count io.new ≡ P.count io.old }
+        ensures row { P.keeps io.old io.new }
         ensures calls { DeviceCalls 2 (P.status io.old) (P.status io.new) (is_err result) }
     {
         if self.find(page, buf) {
@@ -185,6 +186,7 @@ impl Cache {
         ensures used { OnOk result (self.new.kept ≡ used page bytes.now self.old.kept) }
         ensures forgotten { OnErr result (self.new.kept ≡ without page self.old.kept) }
         ensures count { P.count io.new ≡ P.count io.old }
+        ensures row { P.keeps io.old io.new }
         ensures calls { DeviceCalls 2 (P.status io.old) (P.status io.new) (is_err result) }
     {
         if let Err(Down) = io.write_page(page, bytes) {

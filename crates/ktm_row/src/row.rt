@@ -11,9 +11,8 @@ use crate::place::{get_page, put_page};
 use ktm_base::{Disk, Down, MOST_PENDING};
 use ktm_page::PageIo;
 
-/// Pages of 4,096 bytes that stand on a disk from an offset on, one behind another. Nothing else of the disk is written.
-/// Who lent the disk learns what became of it where each call on the row is made at its type: the clauses of a call by
-/// the trait do not say that the row still has the same disk.
+/// Pages of 4,096 bytes that stand on a disk from an offset on, one behind another. Nothing else of the disk is written:
+/// who lent it learns so by what the row keeps in each call, made at its type or by the trait.
 #[derive(Drop)]
 pub struct Row<'a, D: Disk> {
     disk: &'a mut D,
@@ -60,6 +59,7 @@ impl<'a, D: Disk> Row<'a, D> {
         ensures err { OnErr result (D.told self.new.disk.now ≡ D.told self.old.disk.now) }
         ensures behind { Goes (StaysBehind self.old.begin self.old.pages) (D.told self.old.disk.now) (D.told self.new.disk.now) }
         ensures call { DeviceCall (D.status self.old.disk.now) (D.status self.new.disk.now) (is_err result) }
+        ensures keeps { (self.new.disk.ghost_name ≡ self.old.disk.ghost_name) × (self.new.begin ≡ self.old.begin) × (self.new.pages ≡ self.old.pages) × Goes (StaysBehind self.old.begin self.old.pages) (D.told self.old.disk.now) (D.told self.new.disk.now) }
     {
         if let Err(Down) = self.disk.sync() {
             return Err(Down);
@@ -74,6 +74,32 @@ impl<'a, D: Disk> Row<'a, D> {
         ensures stands { IfSome (D.told self.exit.0.now) (Stands self.entry.begin self.entry.pages) }
         ensures pending { (D.status self.exit.0.now).pending ≤ self.entry.waits }
     {}
+
+    // The row that stands there already.
+    pub(crate) fn again(disk: &'a mut D, begin: u64, pages: u32, waits: usize) -> Row<'a, D>
+        requires whole { end_of begin pages < 2 ^ 64 }
+        requires stands { IfSome (D.told disk.old) (Stands begin pages) }
+        requires counted { (D.status disk.old).pending ≤ waits }
+        requires few { waits ≤ MOST_PENDING }
+        ensures same_reference { result.disk.ghost_name ≡ disk.entry.ghost_name }
+        ensures same { result.disk.now ≡ disk.old }
+        ensures begin { result.begin ≡ begin }
+        ensures pages { result.pages ≡ pages }
+    {
+        Row {
+            disk,
+            begin,
+            pages,
+            waits,
+        }
+    }
+
+    // How many writes there were since the last sync, or more.
+    pub(crate) fn waits(&self) -> usize
+        ensures { result ≡ self.now.waits }
+    {
+        self.waits
+    }
 
     // Makes what was written stay where as many writes wait for it as may.
     fn make_room(&mut self) -> Result<(), Down>
@@ -102,6 +128,8 @@ impl<'a, D: Disk> PageIo for Row<'a, D> {
 
     ghost count = { λ r. r.pages };
 
+    ghost keeps = { λ s t. (t.disk.ghost_name ≡ s.disk.ghost_name) × (t.begin ≡ s.begin) × (t.pages ≡ s.pages) × Goes (StaysBehind s.begin s.pages) (D.told s.disk.now) (D.told t.disk.now) };
+
     fn read_page(&mut self, page: u32, buf: &mut [u8; 4096]) -> Result<(), Down>
         requires { page < self.old.pages }
         ensures value { OnOk result (IfSome (row_told self.old.begin self.old.pages (D.told self.old.disk.now)) (λ r. buf.new ≡ page_of r.seen page)) }
@@ -111,6 +139,7 @@ impl<'a, D: Disk> PageIo for Row<'a, D> {
         ensures same_reference { self.new.disk.ghost_name ≡ self.old.disk.ghost_name }
         ensures begin { self.new.begin ≡ self.old.begin }
         ensures unchanged { D.told self.new.disk.now ≡ D.told self.old.disk.now }
+        ensures keeps { (self.new.disk.ghost_name ≡ self.old.disk.ghost_name) × (self.new.begin ≡ self.old.begin) × (self.new.pages ≡ self.old.pages) × Goes (StaysBehind self.old.begin self.old.pages) (D.told self.old.disk.now) (D.told self.new.disk.now) }
         ensures call { DeviceCall (D.status self.old.disk.now) (D.status self.new.disk.now) (is_err result) }
     {
         if let Err(Down) = get_page(self.disk, self.begin, self.pages, page, buf) {
@@ -128,6 +157,7 @@ impl<'a, D: Disk> PageIo for Row<'a, D> {
         ensures same_reference { self.new.disk.ghost_name ≡ self.old.disk.ghost_name }
         ensures begin { self.new.begin ≡ self.old.begin }
         ensures behind { Goes (StaysBehind self.old.begin self.old.pages) (D.told self.old.disk.now) (D.told self.new.disk.now) }
+        ensures keeps { (self.new.disk.ghost_name ≡ self.old.disk.ghost_name) × (self.new.begin ≡ self.old.begin) × (self.new.pages ≡ self.old.pages) × Goes (StaysBehind self.old.begin self.old.pages) (D.told self.old.disk.now) (D.told self.new.disk.now) }
     {
         if let Err(Down) = self.make_room() {
             return Err(Down);
@@ -142,4 +172,11 @@ impl<'a, D: Disk> PageIo for Row<'a, D> {
     ghost use Rattle.ktm_row.specs.Lengths.{row_lengths};
 
     ghost lengths = { λ r. row_lengths r.begin r.pages (D.told r.disk.now) r.stands };
+
+    ghost use Rattle.std.proofs.Common.{refl, ◌∙◌};
+    ghost use Rattle.ktm_row.specs.Keeping.{stays_none, stays_then};
+
+    ghost keeps_none = { λ r. (refl, refl, refl, stays_none r.begin r.pages (D.told r.disk.now)) };
+
+    ghost keeps_then = { λ r s t k l. (l.0 ∙ k.0, l.1 ∙ k.1, l.2 ∙ k.2, stays_then r.begin r.pages s.begin s.pages (D.told r.disk.now) (D.told s.disk.now) (D.told t.disk.now) k.1 k.2 k.3 l.3) };
 }

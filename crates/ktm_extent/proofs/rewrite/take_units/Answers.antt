@@ -32,6 +32,7 @@ loop-i-preserved g c =
       calls = subst (λ (n : ℕ). DeviceCalls (calls_upto n (i + 1)) (g.P.PageIo.status c.args.io.now) (g.P.PageIo.status c.take_unit.new.io) false) (sym (length-set taken i c.in-Ok.page))
           (calls-more c.args.old.now.size c.args.at end c.first_unit-first.result (length taken) i _ _ _ false c.first_unit-first.ensures (omega (arith, c.first_unit-first.ensures, c.requires.units, c.loop-i.auto.taken)) low c.loop-i.invariant.calls c.in-Ok.ensures.calls);
       row = cc;
+      keeps = g.met.P.PageIo.keeps_then c.args.io.now c.loop-i.io c.take_unit.new.io c.loop-i.invariant.keeps c.in-Ok.ensures.keeps;
       count = cc;
     }
 
@@ -57,6 +58,7 @@ returns-in-Err g c =
       calls = rw (← c.loop-i.auto.taken) (calls-all (length taken) (i + 1) _ _ true (omega (arith, low))
           (calls-more c.args.old.now.size c.args.at end c.first_unit-first.result (length taken) i _ _ _ true c.first_unit-first.ensures (omega (arith, c.first_unit-first.ensures, c.requires.units, c.loop-i.auto.taken)) low c.loop-i.invariant.calls c.in-Err.ensures.calls));
       row = cc;
+      keeps = g.met.P.PageIo.keeps_then c.args.io.now c.loop-i.io c.take_unit.new.io c.loop-i.invariant.keeps c.in-Err.ensures.keeps;
       count = cc;
     }
 
@@ -70,5 +72,6 @@ returns g c =
       lost = tt;
       calls = rw (← c.loop-i.auto.taken) (calls-all (length c.loop-i.taken) c.loop-i.i _ _ false (omega (arith, c.loop-i.auto.i-end, c.loop-i.auto.taken)) c.loop-i.invariant.calls);
       row = c.loop-i.invariant.row;
+      keeps = c.loop-i.invariant.keeps;
       count = c.loop-i.invariant.count;
     }

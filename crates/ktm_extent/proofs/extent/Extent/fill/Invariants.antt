@@ -10,5 +10,6 @@ invariant-loop-unit g l = record {
   bytes : IfSome (g.P.PageIo.told l.initial.io) (λ r. IsFilled (contents r.seen l.self) l.at l.buf (l.unit * 4096));
   same : g.P.PageIo.told l.io ≡ g.P.PageIo.told l.initial.io;
   count : g.P.PageIo.count l.io ≡ g.P.PageIo.count l.initial.io;
+  keeps : g.P.PageIo.keeps l.initial.io l.io;
   calls : DeviceCalls (2 * (l.unit - l.at / 4096)) (g.P.PageIo.status l.initial.io) (g.P.PageIo.status l.io) false;
 }
