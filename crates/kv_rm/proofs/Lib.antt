@@ -1,7 +1,4 @@
-pub mod FreePlaces
-pub mod Owners
-pub mod Holding
-pub mod Indexing
+pub mod Places
 pub mod Counts
 pub mod Merges
 pub mod Restoring

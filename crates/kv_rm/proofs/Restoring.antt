@@ -1,14 +1,27 @@
--- Settings that a transaction has again, counted with the others.
-use Rattle.std.proofs.Common.{◌≡◌, ℕ, ◌+◌, ◌<◌, ◌^◌, [], ◌∷◌, arith}
+-- Settings by rising key, put into a list one after another, and counted with the others.
+use Rattle.std.proofs.Common.{◌≡◌, ℕ, ◌+◌, ◌<◌, ◌^◌, true, List, [], ◌∷◌, ◌++◌, refl, ap, arith}
 use Rattle.std.specs.Prelude.{count_by}
+use Rattle.std.proofs.lemmas.Bool.{and_parts}
 use Rattle.std.proofs.lemmas.List.Sums.{sum_by-append, sum_by-cons}
 use Rattle.ktm_base.specs.declared.id.Id.{Id}
+use Rattle.ktm_keyed.specs.declared.keyed.Keyed.{Keyed}
+use Rattle.ktm_keyed.specs.Keyed.{comes_first, is_rising, put}
 use Rattle.ktm_world.specs.Keys.{changes_pending, keys_used, KeysNow, Own, OwnSettings}
+use Rattle.ktm_keyed.proofs.KeyedLemmas.{comes_before-differs, comes_before-after}
 use Rattle.kv_rm.specs.Count.{is_of_kind, own_count, AreCounts, AreFew}
 use Rattle.kv_rm.specs.Restored.{keys_restored}
 use Rattle.kv_rm.specs.declared.count.Counts.{Counts}
 use Rattle.kv_rm.specs.declared.count.Kind.{Kind}
 use Rattle.kv_rm.specs.declared.count.Kind.TheVariants.{Value, Unset}
+use Rattle.kv_rm.proofs.Merges.{before_it}
+
+-- a value whose key comes behind all others is put at the end
+pub put-next : {V : Type 0} (xs : List (Keyed V)) (s : Keyed V) (rest : List (Keyed V)) → is_rising (xs ++ s ∷ rest) ≡ true → put xs s.key s.value ++ rest ≡ xs ++ s ∷ rest
+put-next [] s rest rises = refl
+put-next (x ∷ xs) s rest rises =
+    let parts = and_parts (comes_first x.key (xs ++ s ∷ rest)) (is_rising (xs ++ s ∷ rest)) rises in
+    let before = before_it s rest x.key xs parts.0 parts.1 in
+    rw (comes_before-differs x.key s.key before, comes_before-after x.key s.key before) (ap (λ l. x ∷ l) (put-next xs s rest parts.1))
 
 -- the count of what all have set, once a transaction has these settings too
 pub own_count-restored : (kind : Kind) (keys : KeysNow) (id : Id) (settings : OwnSettings)

@@ -1,4 +1,3 @@
-pub mod Undecided
 pub mod Place
 pub mod Count
 pub mod KvState

@@ -1,15 +1,30 @@
--- Where a setting of a transaction's goes among its own.
-use Rattle.std.specs.Prelude.{◌≡◌, ℕ, List, Option, Some, None, ⊤}
+-- Where a transaction's own settings stand in the list.
+use Rattle.std.specs.Prelude.{◌≡◌, ℕ, ◌<◌, List, [], ◌∷◌, ◌++◌, length, Option, Some, None, MatchOption, ⊤, slice_index_or, slice_set}
+use Rattle.std.specs.List.{remove}
 use Rattle.std.specs.Option.{option_map}
 use Rattle.ktm_base.specs.declared.id.Id.{Id}
-use Rattle.ktm_keyed.specs.Keyed.{value_at}
+use Rattle.ktm_keyed.specs.Keyed.{put, value_at}
+use Rattle.ktm_world.specs.Keys.{Own, own_settings, with_own, without_own}
 use Rattle.ktm_keyed.specs.Slot.{IsSlot}
-use Rattle.ktm_world.specs.Keys.{Own, own_settings}
 use Rattle.kv_rm.specs.Count.{kind_of}
 use Rattle.kv_rm.specs.declared.own.Seat.{Seat}
 
--- the transaction's setting under this key goes there
+-- the transaction's settings are the first of its own at this place, and are looked up, changed and taken away there
+pub record IsPlace (own : List Own) (id : Id) (i : ℕ) : Type 0 where
+  pub within : i < length own
+  pub settings : (d : Own) → own_settings own id ≡ (slice_index_or own i d).settings
+  pub changes : (key : List ℕ) (value : Option (List ℕ)) (d : Own) → with_own own id key value ≡ slice_set own i (record (slice_index_or own i d) { settings = put (slice_index_or own i d).settings key value })
+  pub removes : without_own own id ≡ remove own i
+
+-- the transaction has set nothing, and what it sets is added at the end
+pub record IsAbsent (own : List Own) (id : Id) : Type 0 where
+  pub settings : own_settings own id ≡ []
+  pub adds : (key : List ℕ) (value : Option (List ℕ)) → with_own own id key value ≡ own ++ record { transaction = id; settings = put [] key value } ∷ []
+  pub keeps : without_own own id ≡ own
+
+-- a setting of the transaction's under this key goes there
 pub record IsSeat (own : List Own) (id : Id) (key : List ℕ) (seat : Seat) : Type 0 where
+  pub place : MatchOption seat.place (IsAbsent own id) (IsPlace own id)
   pub slot : IsSlot (own_settings own id) key seat.slot
   pub was : seat.was ≡ option_map kind_of (value_at (own_settings own id) key)
 

@@ -3,12 +3,9 @@
 
 mod call;
 mod count;
-mod holders;
 mod list;
 mod own;
 mod rm;
-mod setting_list;
-mod undecided;
 
 pub use call::{KvCall, Room};
 pub use rm::KvRm;

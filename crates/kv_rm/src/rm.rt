@@ -1,11 +1,11 @@
 // The manager.
-ghost use Rattle.std.specs.Prelude.{◌≡◌, ◌+◌, ◌^◌, ◌<◌, ◌≤◌, ℕ, List, [], Option, IfOk, OnOk, OnErr, IsOk, is_none, length, nat_lt, true, false};
+ghost use Rattle.std.specs.Prelude.{◌≡◌, ◌+◌, ◌^◌, ◌<◌, ◌≤◌, ℕ, List, [], Option, IfOk, OnOk, OnErr, IsOk, is_none, length, nat_lt, true};
 ghost use Rattle.std.specs.Option.{option_copied};
 ghost use Rattle.ktm_base.specs.declared.id.Id.{Id};
 ghost use Rattle.ktm_types.specs.declared.reply.Reply.TheVariants.{Done};
 ghost use Rattle.ktm_world.specs.KeyCalls.{KeyRoom, is_key_held, keys_with, with_setting};
 ghost use Rattle.ktm_keyed.specs.Keyed.{is_rising};
-ghost use Rattle.ktm_world.specs.Keys.{changes_pending, is_bad_key, keys_used, Own, own_settings, without_own, value_seen, stored_all, store_seen, keys_of};
+ghost use Rattle.ktm_world.specs.Keys.{changes_pending, keys_used, Own, own_settings, without_own, value_seen, stored_all, store_seen, keys_of};
 ghost use Rattle.ktm_world.specs.Phases.{has_settings};
 ghost use Rattle.kv_rm.specs.Calls.{is_refused, key_outcome};
 ghost use Rattle.kv_rm.specs.Count.{kind_of, AreCounts, AreFew};
@@ -17,9 +17,8 @@ ghost use Rattle.kv_rm.specs.declared.count.Kind.{Kind};
 use crate::call::{KvCall, Room};
 use crate::count::{Counts, Kind};
 use crate::list::keys_with;
-use crate::own::Seat;
-use crate::undecided::{
-    Undecided, is_held, own_value, seat_of, set_for, settings_before, settings_of, take_own,
+use crate::own::{
+    OwnKeys, Seat, is_held, own_value, seat_of, set_for, settings_before, settings_of, take_own,
 };
 use ktm_base::{Bytes, Id, NoMemory, Refusal, Text, TextList};
 use ktm_keyed::KeyedList;
@@ -40,7 +39,7 @@ struct Plan {
 pub struct KvRm {
     alloc: Global,
     store: KeyedList<Bytes>,
-    own: Undecided,
+    own: Vec<OwnKeys>,
     // Of what the transactions have set.
     counts: Counts,
 }
@@ -48,17 +47,16 @@ pub struct KvRm {
 impl Model for KvRm {
     ghost use Rattle.kv_rm.specs.Count.{AreCounts, AreFew};
     ghost use Rattle.kv_rm.specs.KvState.{KvState};
-    ghost use Rattle.kv_rm.specs.Undecided.{own_of};
 
     ghost Value = { KvState };
 
     ghost view = { λ k. record {
-      keys = record { store = k.store.items; own = own_of k.own };
+      keys = record { store = k.store.items; own = k.own.items };
       room = k.store.spare;
     } };
 
     ghost invariant = { λ k. record {
-      counted : AreCounts (own_of k.own) k.counts;
+      counted : AreCounts k.own.items k.counts;
       few : AreFew k.counts;
     } };
 }
@@ -93,7 +91,7 @@ impl KvRm {
         KvRm {
             alloc,
             store,
-            own: Undecided::new(alloc),
+            own: Vec::new(alloc),
             counts: Counts {
                 values: 0,
                 unsets: 0,
@@ -102,8 +100,7 @@ impl KvRm {
     }
 
     /// The transaction has these settings of its own from now on, behind those of the others: it is brought back by a restart.
-    /// At want of memory nothing has changed. There is none for what no restart brings back: a transaction that has settings
-    /// here, a key that another one holds, or one that is no good key.
+    /// At want of memory nothing has changed.
     pub fn restore(&mut self, transaction: Id, settings: Vec<Setting>) -> Result<(), NoMemory>
         requires rising { is_rising settings.items ≡ true }
         requires few_values { keys_used (keys_restored self.old.keys transaction settings.items) < 2 ^ 32 }
@@ -113,7 +110,8 @@ impl KvRm {
         ensures room { self.new.room ≡ self.old.room }
     {
         let counts = self.counts.more(&settings);
-        self.own.restore(transaction, settings)?;
+        let own = OwnKeys::with_settings(self.alloc, transaction, settings)?;
+        self.own.push(own)?;
         self.counts = counts;
         Ok(())
     }
@@ -216,8 +214,6 @@ impl KvRm {
         value: Option<Bytes>,
     ) -> Result<Reply, NoMemory>
         requires seat { IsSeatOf self.old.keys.own who key plan.seat }
-        requires free { is_key_held self.old.keys.own who key ≡ false }
-        requires good { is_bad_key key ≡ false }
         requires counts { AreCounts (with_setting self.old.keys.own who key value) plan.counts }
         requires few { AreFew plan.counts }
         ensures reply { IfOk result (λ reply. reply ≡ Done) }

@@ -1,17 +1,16 @@
 use Rattle.std.proofs.Common.{arith}
 use Rattle.kv_rm.specs.declared.count.Kind.TheVariants.{Value, Unset}
-use Rattle.kv_rm.specs.Undecided.{own_of}
 use Rattle.kv_rm.proofs.Counts.{own_count-without, are_counts-without}
 use Rattle.kv_rm.proofs.rm.KvRm.take.Goals as goal
 
 pub less-self-inside-requires-clause-values : goal.less-self-inside-requires-clause-values
 less-self-inside-requires-clause-values c =
-    let gone = own_count-without Value (own_of c.self.inside.own) c.args.transaction in
+    let gone = own_count-without Value c.self.inside.own.items c.args.transaction in
     rw (c.deref.ensures.value, c.take_own-settings.ensures.settings) (omega (arith, gone, c.self.invariant.counted.values))
 
 pub less-self-inside-requires-clause-unsets : goal.less-self-inside-requires-clause-unsets
 less-self-inside-requires-clause-unsets c =
-    let gone = own_count-without Unset (own_of c.self.inside.own) c.args.transaction in
+    let gone = own_count-without Unset c.self.inside.own.items c.args.transaction in
     rw (c.deref.ensures.value, c.take_own-settings.ensures.settings) (omega (arith, gone, c.self.invariant.counted.unsets))
 
 pub invariant_of-self : goal.invariant_of-self
