@@ -1,6 +1,8 @@
 // The rows of a table.
 use crate::events::{event_of, group_of};
+use crate::extents::contents_of;
 use crate::files::calls_of;
+use crate::pages::{cached_of, row_of, taken_of, told};
 use crate::picks::left_by;
 use crate::texts::{line_of, reply_of};
 use ktm_base::NoMemory;
@@ -14,6 +16,10 @@ fn answer(alloc: Global, kind: &str, asked: &str) -> Result<String, NoMemory> {
         "groups" => group_of(alloc, asked),
         "picks" => left_by(alloc, asked),
         "calls" => calls_of(alloc, asked),
+        "spaces" => taken_of(alloc, asked),
+        "rows" => told(alloc, row_of(alloc, asked)),
+        "cached" => told(alloc, cached_of(alloc, asked)),
+        "extents" => contents_of(alloc, asked),
         _ => Ok(String::from_str(alloc, "a table of no kind")?),
     }
 }

@@ -1,6 +1,7 @@
 // What a loss of power leaves of a disk, by the number of its pick.
 ghost use Rattle.std.specs.Prelude.{◌+◌, ◌<◌, ◌≤◌};
 
+use crate::words::digits;
 use ktm_base::{Bytes, Disk, Down, NoMemory, PowerDisk};
 use ktm_cut::CutDisk;
 use ktm_mem::{Calls, MemBlock};
@@ -32,9 +33,5 @@ pub fn left_by(alloc: Global, number: &str) -> Result<String, NoMemory> {
     disk.plan_room(alloc)?;
     disk.off();
     let _ = disk.power(number.parse::<u64>().unwrap_or(0));
-    let mut digits = String::new(alloc);
-    for byte in disk.into_block().bytes() {
-        digits.push_str(&format!(in alloc; "{byte:02x}")?)?;
-    }
-    Ok(digits)
+    digits(alloc, disk.into_block().bytes())
 }

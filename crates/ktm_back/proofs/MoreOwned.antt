@@ -1,18 +1,15 @@
 -- Files and keys, of which more is transactions' own.
-use Rattle.std.proofs.Common.{◌≡◌, ◌==◌, ◌&&◌, not, Bool, true, List, [], ◌∷◌, ◌++◌, append_assoc, filter, length, map, refl, sym, ◌∙◌, ap, arith}
+use Rattle.std.proofs.Common.{◌≡◌, ◌==◌, ◌&&◌, not, Bool, true, List, [], ◌∷◌, ◌++◌, append_assoc, filter, length, map, sym, ◌∙◌, ap, arith}
 use Rattle.std.proofs.lemmas.Bool.{and_parts, ne_eqb, not_from_false, true≢false}
 use Rattle.std.proofs.lemmas.List.{append-nil, map-append}
 use Rattle.std.proofs.lemmas.List.Elements.{filter-append}
-use Rattle.ktm_base.specs.declared.id.Id.{Id}
 use Rattle.ktm_types.specs.declared.change.Change.{Change}
 use Rattle.ktm_world.specs.Changes.{has_changes}
 use Rattle.ktm_world.specs.Durable.{Recorded, are_recorded_changes, ends_in_bytes, gives_bytes, is_held, made_files}
 use Rattle.ktm_world.specs.Files.{FilesNow, OwnChanges}
-use Rattle.ktm_world.specs.Keys.{KeysNow, Own, OwnSettings}
+use Rattle.ktm_world.specs.Keys.{KeysNow, Own}
 use Rattle.std.specs.List.{list_all}
-use Rattle.kv_rm.specs.Restored.{keys_restored}
-use Rattle.txf_volume.specs.Restoring.{files_restored}
-use Rattle.ktm_back.specs.Restoring.{files_with_own, keys_with_own, own_if_changed, own_if_set}
+use Rattle.ktm_back.specs.Restoring.{files_with_own, keys_with_own}
 
 -- ---- nothing more, and more twice
 
@@ -38,12 +35,6 @@ recorded-some cs recorded = (and_parts (has_changes cs) (ends_in_bytes cs) (and_
 pub not-empty : (cs : List Change) → has_changes cs ≡ true → not (length cs == 0) ≡ true
 not-empty [] some = absurd (true≢false (sym some))
 not-empty (c ∷ cs) some = not_from_false _ (ne_eqb (length (c ∷ cs)) 0 (λ e. omega (arith, e)))
-
-pub files-given : (files : FilesNow) (id : Id) (cs : List Change) → has_changes cs ≡ true → files_restored files id cs ≡ files_with_own files (own_if_changed id cs)
-files-given files id cs some = rw (not-empty cs some) refl
-
-pub keys-given : (keys : KeysNow) (id : Id) (ss : OwnSettings) → not (length ss == 0) ≡ true → keys_restored keys id ss ≡ keys_with_own keys (own_if_set id ss)
-keys-given keys id ss some = rw some refl
 
 -- ---- what several are given
 

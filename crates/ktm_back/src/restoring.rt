@@ -34,9 +34,9 @@ fn restore_part(
     part: Part,
 ) -> Result<(), NoMemory>
     requires changes { is_part_of OfFiles part ≡ true → CanBeRestored (files_of files.old) transaction (changes_in part) }
-    requires settings { is_part_of OfKeys part ≡ true → CanBeSetAgain keys.old.keys transaction (settings_in part) }
+    requires settings { is_part_of OfKeys part ≡ true → CanBeSetAgain keys.old transaction (settings_in part) }
     ensures files { OnOk result (files_of files.new ≡ files_with_own (files_of files.old) (own_if_changed transaction (changes_in part))) }
-    ensures keys { OnOk result (keys.new.keys ≡ keys_with_own keys.old.keys (own_if_set transaction (settings_in part))) }
+    ensures keys { OnOk result (keys.new ≡ keys_with_own keys.old (own_if_set transaction (settings_in part))) }
 {
     match part {
         Part::Changes(changes) => files.restore(transaction, changes.into_vec()),
@@ -55,9 +55,9 @@ fn restore_parts(
     requires one_of_files { count_by (λ p. is_part_of OfFiles p.part) parts.items ≤ 1 }
     requires one_of_keys { count_by (λ p. is_part_of OfKeys p.part) parts.items ≤ 1 }
     requires changes { list_any (λ p. is_part_of OfFiles p.part) parts.items ≡ true → CanBeRestored (files_of files.old) transaction (flat_map (λ p. changes_in p.part) parts.items) }
-    requires settings { list_any (λ p. is_part_of OfKeys p.part) parts.items ≡ true → CanBeSetAgain keys.old.keys transaction (flat_map (λ p. settings_in p.part) parts.items) }
+    requires settings { list_any (λ p. is_part_of OfKeys p.part) parts.items ≡ true → CanBeSetAgain keys.old transaction (flat_map (λ p. settings_in p.part) parts.items) }
     ensures files { OnOk result (files_of files.new ≡ files_with_own (files_of files.old) (own_if_changed transaction (flat_map (λ p. changes_in p.part) parts.items))) }
-    ensures keys { OnOk result (keys.new.keys ≡ keys_with_own keys.old.keys (own_if_set transaction (flat_map (λ p. settings_in p.part) parts.items))) }
+    ensures keys { OnOk result (keys.new ≡ keys_with_own keys.old (own_if_set transaction (flat_map (λ p. settings_in p.part) parts.items))) }
 {
     for p in parts {
         restore_part(files, keys, transaction, p.part)?;
@@ -67,9 +67,9 @@ fn restore_parts(
 
 // The same of a transaction, if it is in doubt.
 fn restore_if_held(files: &mut Files, keys: &mut KvRm, t: Recorded) -> Result<(), NoMemory>
-    requires { CanHaveItsOwn (files_of files.old) keys.old.keys t }
+    requires { CanHaveItsOwn (files_of files.old) keys.old t }
     ensures files { OnOk result (files_of files.new ≡ files_with_own (files_of files.old) (own_changes_of (t ∷ []))) }
-    ensures keys { OnOk result (keys.new.keys ≡ keys_with_own keys.old.keys (own_settings_of (t ∷ []))) }
+    ensures keys { OnOk result (keys.new ≡ keys_with_own keys.old (own_settings_of (t ∷ []))) }
 {
     let Recorded {
         id,
@@ -89,9 +89,9 @@ fn restore_all(
     keys: &mut KvRm,
     transactions: Vec<Recorded>,
 ) -> Result<(), NoMemory>
-    requires { CanHaveTheirOwn (files_of files.old) keys.old.keys transactions.items }
+    requires { CanHaveTheirOwn (files_of files.old) keys.old transactions.items }
     ensures files { OnOk result (files_of files.new ≡ files_with_own (files_of files.old) (own_changes_of transactions.items)) }
-    ensures keys { OnOk result (keys.new.keys ≡ keys_with_own keys.old.keys (own_settings_of transactions.items)) }
+    ensures keys { OnOk result (keys.new ≡ keys_with_own keys.old (own_settings_of transactions.items)) }
 {
     for t in transactions {
         restore_if_held(files, keys, t)?;
@@ -111,7 +111,7 @@ pub fn restore(
     requires units { committed.units ≡ tree_units (tree_of committed.tree) }
     requires good { AreOfGoodState (tree_of committed.tree) committed.next_node store.items transactions.items }
     ensures files { IfOk result (λ back. files_of back.files ≡ files_back (tree_of committed.tree) committed.next_node transactions.items) }
-    ensures keys { IfOk result (λ back. back.keys.keys ≡ keys_back store.items transactions.items) }
+    ensures keys { IfOk result (λ back. back.keys ≡ keys_back store.items transactions.items) }
 {
     law_of_limits();
     let FilesRead {

@@ -2,7 +2,7 @@
 use Rattle.std.proofs.Common.{◌≡◌, ◌&&◌, ◌||◌, Bool, true, false, List, [], ◌∷◌, Option, Some, None, refl, eq-eqb}
 use Rattle.std.proofs.lemmas.Bool.{and_from}
 use Rattle.ktm_base.specs.declared.id.Id.{Id}
-use Rattle.ktm_event.specs.Work.{changes_of}
+use Rattle.ktm_event.specs.Work.{FinalFile, changes_of}
 use Rattle.ktm_types.specs.declared.options.EnlistmentKind.{EnlistmentKind}
 use Rattle.ktm_world.specs.Enlistments.{Enlistment, Manager}
 use Rattle.ktm_world.specs.Steps.{Basis}
@@ -38,11 +38,11 @@ managers_of None = []
 managers_of (Some enlisted) = record { id = enlisted.manager; is_durable = enlisted.is_durable; queue = [] } ∷ []
 
 -- the parts are those of this basis
-basis_for : Id → Bool → Parts → Basis
-basis_for id is_recorded parts = record {
+basis_for : {F : Type 0} → (F → List FinalFile) → Id → Bool → Parts F → Basis
+basis_for files_of id is_recorded parts = record {
   id = id;
   is_recorded = is_recorded;
-  changes = changes_of parts.names.now parts.files.now;
+  changes = changes_of parts.names.now (files_of parts.files.now);
   settings = parts.settings.now;
   managers = managers_of parts.caller;
   superior = enlistment_of id parts.superior;
@@ -68,12 +68,12 @@ unfolding enlistment_of enlistment_for
 is_superior_for id None = tt
 is_superior_for id (Some enlisted) = record { id = refl; manager = refl; information = refl }
 
-pub some_basis : (id : Id) (is_recorded : Bool) (parts : Parts) → (b : Basis) × IsBasis b id is_recorded parts
+pub some_basis : {F : Type 0} (files_of : F → List FinalFile) (id : Id) (is_recorded : Bool) (parts : Parts F) → (b : Basis) × IsBasis files_of b id is_recorded parts
 unfolding basis_for
-some_basis id is_recorded parts =
-    (basis_for id is_recorded parts, record { id = refl; recorded = refl; changes = refl; settings = refl; caller = is_caller_for id parts.caller; superior = is_superior_for id parts.superior })
+some_basis files_of id is_recorded parts =
+    (basis_for files_of id is_recorded parts, record { id = refl; recorded = refl; changes = refl; settings = refl; caller = is_caller_for id parts.caller; superior = is_superior_for id parts.superior })
 
 -- ---- once the log has a Ready or a Held of it, or has none
 
-pub recorded_basis : (b : Basis) (id : Id) (before after : Bool) (parts : Parts) → IsBasis b id before parts → IsBasis (record b { is_recorded = after }) id after parts
+pub recorded_basis : {F : Type 0} {files_of : F → List FinalFile} (b : Basis) (id : Id) (before after : Bool) (parts : Parts F) → IsBasis files_of b id before parts → IsBasis files_of (record b { is_recorded = after }) id after parts
 recorded_basis b id before after parts is = record { id = is.id; recorded = refl; changes = is.changes; settings = is.settings; caller = is.caller; superior = is.superior }

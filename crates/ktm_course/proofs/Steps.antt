@@ -1,8 +1,7 @@
 -- Steps one after another.
 use Rattle.std.proofs.Common.{◌≡◌, ℕ, suc, Bool, true, false, ◌==◌, not, List, [], ◌∷◌, ◌++◌, length, refl, sym, ◌∙◌, ap, append_assoc, arith}
 use Rattle.std.proofs.lemmas.Bool.{eqb-true, false_from_ne_true}
-use Rattle.ktm_event.specs.Work.{bytes_changes, changes_of}
-use Rattle.ktm_event.specs.declared.work.FileBytes.{FileBytes}
+use Rattle.ktm_event.specs.Work.{FinalFile, bytes_changes, changes_of}
 use Rattle.ktm_types.specs.declared.change.Change.{Change}
 use Rattle.ktm_types.specs.declared.event.Event.{Event}
 use Rattle.ktm_types.specs.declared.step.Step.{Step}
@@ -41,16 +40,16 @@ some_there : (n : ℕ) → (suc n == 0) ≡ false
 some_there n = false_from_ne_true (suc n == 0) (λ empty. absurd (omega (arith, eqb-true (suc n) 0 empty)))
 
 -- by whether it changed names
-pub by_names : (names : List Change) (files : List FileBytes) (none : Bool) → none ≡ (length names == 0) → none ≡ false → not none ≡ has_changes (changes_of names files)
+pub by_names : (names : List Change) (files : List FinalFile) (none : Bool) → none ≡ (length names == 0) → none ≡ false → not none ≡ has_changes (changes_of names files)
 by_names [] files none is some = absurd (cc)
 by_names (n ∷ ns) files none is some = ap not some
 
 -- and else by whether it wrote files
-pub by_files : (names : List Change) (files : List FileBytes) (none unwritten : Bool) → none ≡ (length names == 0) → none ≡ true → unwritten ≡ (length files == 0) → not unwritten ≡ has_changes (changes_of names files)
+pub by_files : (names : List Change) (files : List FinalFile) (none unwritten : Bool) → none ≡ (length names == 0) → none ≡ true → unwritten ≡ (length files == 0) → not unwritten ≡ has_changes (changes_of names files)
 by_files (n ∷ ns) files none unwritten is all written = let there = some_there (length ns) in absurd (cc)
 by_files [] [] none unwritten is all written = ap not written
 by_files [] (f ∷ fs) none unwritten is all written =
-    ap not (written ∙ some_there (length fs)) ∙ sym (some_bytes f.file f.bytes.now _)
+    ap not (written ∙ some_there (length fs)) ∙ sym (some_bytes f.file f.bytes _)
   where
     some_bytes : (file : ℕ) (bytes : List ℕ) (rest : List Change) → has_changes (bytes_changes file bytes ++ rest) ≡ true
     some_bytes file [] rest = refl

@@ -5,7 +5,7 @@ use Rattle.ktm_course.specs.declared.parts.Enlisted.{Enlisted}
 use Rattle.ktm_course.specs.declared.parts.Entry.{Entry}
 use Rattle.ktm_course.specs.declared.parts.Entry.TheVariants.{Work, Held, Decide, Undo, Done}
 use Rattle.ktm_course.specs.declared.parts.Parts.{Parts}
-use Rattle.ktm_event.specs.Work.{changes_of, part_of, work_event}
+use Rattle.ktm_event.specs.Work.{FinalFile, changes_of, part_of, work_event}
 use Rattle.ktm_types.specs.declared.event.Event.{Event}
 use Rattle.ktm_types.specs.declared.step.Step.{Step}
 use Rattle.ktm_types.specs.declared.step.Step.TheVariants.{Record}
@@ -30,11 +30,11 @@ IsSuperior None None = Unit {0}
 IsSuperior (Some e) (Some enlisted) = IsEnlisted e enlisted
 IsSuperior _ _ = ⊥
 
--- from this a transaction with such parts records, of which the log has a Ready or a Held, or has none
-pub record IsBasis (b : Basis) (transaction : Id) (is_recorded : Bool) (parts : Parts) : Type 0 where
+-- from this a transaction with such parts, whose files are these, records, of which the log has a Ready or a Held, or has none
+pub record IsBasis {F : Type 0} (files_of : F → List FinalFile) (b : Basis) (transaction : Id) (is_recorded : Bool) (parts : Parts F) : Type 0 where
   pub id : b.id ≡ transaction
   pub recorded : b.is_recorded ≡ is_recorded
-  pub changes : b.changes ≡ changes_of parts.names.now parts.files.now
+  pub changes : b.changes ≡ changes_of parts.names.now (files_of parts.files.now)
   pub settings : b.settings ≡ parts.settings.now
   pub caller : IsCaller b.managers b.caller parts.caller
   pub superior : IsSuperior b.superior parts.superior
@@ -46,14 +46,14 @@ recorded_after (Record fact ∷ steps) b = recorded_after steps (record b { is_r
 recorded_after (_ ∷ steps) b = recorded_after steps b
 
 -- the event of an entry
-abbrev pub entry_event : Id → Entry → Event
-entry_event id (Work stage work) = work_event stage id (part_of work)
-entry_event id (Held enlistment manager information) = Event.Held id enlistment manager information.now
-entry_event id Decide = Event.Decide id
-entry_event id Undo = Event.Undo id
-entry_event id (Done done) = Event.Done id done
+abbrev pub entry_event : {F : Type 0} → (F → List FinalFile) → Id → Entry F → Event
+entry_event files_of id (Work stage work) = work_event stage id (part_of files_of work)
+entry_event files_of id (Held enlistment manager information) = Event.Held id enlistment manager information.now
+entry_event files_of id Decide = Event.Decide id
+entry_event files_of id Undo = Event.Undo id
+entry_event files_of id (Done done) = Event.Done id done
 
 -- the events of an entry, if there is one
-abbrev pub entries : Id → Option Entry → List Event
-entries id None = []
-entries id (Some entry) = entry_event id entry ∷ []
+abbrev pub entries : {F : Type 0} → (F → List FinalFile) → Id → Option (Entry F) → List Event
+entries files_of id None = []
+entries files_of id (Some entry) = entry_event files_of id entry ∷ []

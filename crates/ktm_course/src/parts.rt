@@ -14,7 +14,7 @@ ghost use Rattle.ktm_world.specs.Changes.{has_changes};
 ghost use Rattle.ktm_world.specs.Phases.{enlistment_part, has_settings};
 
 use ktm_base::Id;
-use ktm_event::{Events, FileBytes, Stage, Work, event_size, held_size, work_size};
+use ktm_event::{Events, NoFiles, Stage, Work, WrittenFiles, event_size, held_size, work_size};
 use ktm_types::{Change, DonePart, Event, Fact, Setting, Step};
 
 /// An enlistment, as it is recorded.
@@ -29,12 +29,12 @@ pub struct Enlisted<'a> {
 }
 
 /// Who takes part in a transaction, as far as that is recorded.
-#[derive(Clone, Copy)]
-pub struct Parts<'a> {
+#[derive_where(Clone, Copy)]
+pub struct Parts<'a, F> {
     /// What the files made, moved and dropped, in order.
     pub names: &'a [Change],
     /// The files that were written, with all of their bytes.
-    pub files: &'a [FileBytes<'a>],
+    pub files: &'a F,
     /// What was set of the keys.
     pub settings: &'a [Setting],
     /// The enlistment that calls.
@@ -44,9 +44,9 @@ pub struct Parts<'a> {
 }
 
 // What one event says of a transaction.
-#[derive(Clone, Copy)]
-enum Entry<'a> {
-    Work(Stage, Work<'a>),
+#[derive_where(Clone, Copy)]
+enum Entry<'a, F> {
+    Work(Stage, Work<'a, F>),
     Held {
         enlistment: Id,
         manager: Id,
@@ -57,10 +57,10 @@ enum Entry<'a> {
     Done(DonePart),
 }
 
-impl Entry<'_> {
+impl<F: WrittenFiles> Entry<'_, F> {
     // How many bytes its event takes.
     fn size(self, transaction: Id) -> usize
-        ensures { result ≡ min (event_size (entry_event transaction self.entry)) (2 ^ 64 - 1) }
+        ensures { result ≡ min (event_size (entry_event F.files transaction self.entry)) (2 ^ 64 - 1) }
     {
         match self {
             Entry::Work(_, work) => work_size(work),
@@ -73,10 +73,10 @@ impl Entry<'_> {
 
     // Puts its event into the list.
     fn push(self, transaction: Id, events: &mut Events)
-        requires spelled { IsSpellableEvent (entry_event transaction self) }
-        requires fits { event_size (entry_event transaction self) ≤ events.old.spare }
-        ensures adds { (group : List Recorded) → Holds events.old group → Holds events.new (group ++ entry_event transaction self.entry ∷ []) }
-        ensures spare { events.new.spare + event_size (entry_event transaction self.entry) ≡ events.old.spare }
+        requires spelled { IsSpellableEvent (entry_event F.files transaction self) }
+        requires fits { event_size (entry_event F.files transaction self) ≤ events.old.spare }
+        ensures adds { (group : List Recorded) → Holds events.old group → Holds events.new (group ++ entry_event F.files transaction self.entry ∷ []) }
+        ensures spare { events.new.spare + event_size (entry_event F.files transaction self.entry) ≡ events.old.spare }
         ensures room { events.new.room ≡ events.old.room }
     {
         match self {
@@ -94,9 +94,9 @@ impl Entry<'_> {
 }
 
 // The event by which the caller is prepared, where its resource manager is durable.
-fn ready_entry<'a>(caller: Option<Enlisted<'a>>) -> Option<Entry<'a>>
+fn ready_entry<'a, F: WrittenFiles>(caller: Option<Enlisted<'a>>) -> Option<Entry<'a, F>>
     ensures { (id : OfTransaction) (ms : List Manager) (e : Option Enlistment) → IsCaller ms e caller.entry
-        → entries id result ≡ event_of_caller e ms (λ e. Recorded.Ready id (enlistment_part e)) }
+        → entries F.files id result ≡ event_of_caller e ms (λ e. Recorded.Ready id (enlistment_part e)) }
 {
     match caller {
         Some(caller) if caller.is_durable => {
@@ -112,9 +112,9 @@ fn ready_entry<'a>(caller: Option<Enlisted<'a>>) -> Option<Entry<'a>>
 }
 
 // The event by which the caller is done, where its resource manager is durable.
-fn done_entry(caller: Option<Enlisted<'_>>) -> Option<Entry<'static>>
+fn done_entry<'a, F: WrittenFiles>(caller: Option<Enlisted<'a>>) -> Option<Entry<'a, F>>
     ensures { (id : OfTransaction) (ms : List Manager) (e : Option Enlistment) → IsCaller ms e caller.entry
-        → entries id result ≡ event_of_caller e ms (λ e. Recorded.Done id (OfDone.Enlistment e.id)) }
+        → entries F.files id result ≡ event_of_caller e ms (λ e. Recorded.Done id (OfDone.Enlistment e.id)) }
 {
     match caller {
         Some(caller) if caller.is_durable => {
@@ -125,8 +125,8 @@ fn done_entry(caller: Option<Enlisted<'_>>) -> Option<Entry<'static>>
 }
 
 // The event by which the superior has prepared the transaction.
-fn held_entry<'a>(superior: Option<Enlisted<'a>>) -> Option<Entry<'a>>
-    ensures { (id : OfTransaction) (e : Option Enlistment) → IsSuperior e superior.entry → entries id result ≡ held_event id e }
+fn held_entry<'a, F: WrittenFiles>(superior: Option<Enlisted<'a>>) -> Option<Entry<'a, F>>
+    ensures { (id : OfTransaction) (e : Option Enlistment) → IsSuperior e superior.entry → entries F.files id result ≡ held_event id e }
 {
     match superior {
         Some(superior) => Some(Entry::Held {
@@ -138,18 +138,18 @@ fn held_entry<'a>(superior: Option<Enlisted<'a>>) -> Option<Entry<'a>>
     }
 }
 
-impl Parts<'static> {
+impl Parts<'static, NoFiles> {
     /// Nobody takes part, or what they have is not recorded.
     pub fn none() -> Self
         ensures names { result.names.now ≡ [] }
-        ensures files { result.files.now ≡ [] }
+        ensures files { ⟦<NoFiles as WrittenFiles>⟧.files result.files.now ≡ [] }
         ensures settings { result.settings.now ≡ [] }
         ensures caller { result.caller ≡ None }
         ensures superior { result.superior ≡ None }
     {
         Parts {
             names: &[],
-            files: &[],
+            files: &NoFiles,
             settings: &[],
             caller: None,
             superior: None,
@@ -157,10 +157,10 @@ impl Parts<'static> {
     }
 }
 
-impl<'a> Parts<'a> {
+impl<'a, F: WrittenFiles> Parts<'a, F> {
     // Do the files take part.
     fn has_changes(&self) -> bool
-        ensures { result ≡ has_changes (changes_of self.now.names.now self.now.files.now) }
+        ensures { result ≡ has_changes (changes_of self.now.names.now (F.files self.now.files.now)) }
     {
         !self.names.is_empty() || !self.files.is_empty()
     }
@@ -183,8 +183,8 @@ impl<'a> Parts<'a> {
     }
 
     // What is recorded by a fact, if anything is.
-    fn entry(&self, fact: Fact, is_recorded: bool) -> Option<Entry<'a>>
-        ensures { (id : OfTransaction) (b : Basis) → IsBasis b id is_recorded self.now → entries id result ≡ events_of fact b }
+    fn entry(&self, fact: Fact, is_recorded: bool) -> Option<Entry<'a, F>>
+        ensures { (id : OfTransaction) (b : Basis) → IsBasis F.files b id is_recorded self.now → entries F.files id result ≡ events_of fact b }
     {
         let changes = Work::Changes {
             names: self.names,
@@ -209,7 +209,7 @@ impl<'a> Parts<'a> {
 
     // Has the log a Ready or a Held once a fact is recorded.
     fn is_recorded_by(&self, fact: Fact, is_recorded: bool) -> bool
-        ensures { (id : OfTransaction) (b : Basis) → IsBasis b id is_recorded self.now → result ≡ is_recorded_by fact b }
+        ensures { (id : OfTransaction) (b : Basis) → IsBasis F.files b id is_recorded self.now → result ≡ is_recorded_by fact b }
     {
         match fact {
             Fact::ReadyFiles => is_recorded || self.has_changes(),
@@ -222,7 +222,7 @@ impl<'a> Parts<'a> {
 
     // The same, once a step is carried out.
     fn is_recorded_after(&self, step: &Step, is_recorded: bool) -> bool
-        ensures { (id : OfTransaction) (b : Basis) → IsBasis b id is_recorded self.now → result ≡ recorded_after (step.now ∷ []) b }
+        ensures { (id : OfTransaction) (b : Basis) → IsBasis F.files b id is_recorded self.now → result ≡ recorded_after (step.now ∷ []) b }
     {
         match step {
             Step::Record(fact) => self.is_recorded_by(*fact, is_recorded),
@@ -232,7 +232,7 @@ impl<'a> Parts<'a> {
 
     // How many bytes the events take that a step records of a transaction.
     fn step_size(&self, transaction: Id, is_recorded: bool, step: &Step) -> usize
-        ensures { (b : Basis) → IsBasis b transaction is_recorded self.now
+        ensures { (b : Basis) → IsBasis F.files b transaction is_recorded self.now
             → result ≡ min (sum_by event_size (events_ahead (step.now ∷ []) b)) (2 ^ 64 - 1) }
     {
         let Step::Record(fact) = step else {
@@ -247,7 +247,7 @@ impl<'a> Parts<'a> {
     /// How many bytes the events take that the steps record of a transaction, or 2^64 - 1, where they take more. The flag
     /// says whether the log has a Ready or a Held of it before.
     pub fn size(&self, transaction: Id, is_recorded: bool, steps: &[Step]) -> usize
-        ensures { (b : Basis) → IsBasis b transaction is_recorded self.now
+        ensures { (b : Basis) → IsBasis F.files b transaction is_recorded self.now
             → result ≡ min (sum_by event_size (events_ahead steps.now b)) (2 ^ 64 - 1) }
     {
         let mut size = 0usize;
@@ -261,11 +261,11 @@ impl<'a> Parts<'a> {
 
     // Puts the events into the list that a step records of a transaction.
     fn record_step(&self, transaction: Id, is_recorded: bool, step: &Step, events: &mut Events)
-        requires spelled { (b : Basis) → IsBasis b transaction is_recorded self.now → All IsSpellableEvent (events_ahead (step.now ∷ []) b) }
-        requires fits { (b : Basis) → IsBasis b transaction is_recorded self.now → sum_by event_size (events_ahead (step.now ∷ []) b) ≤ events.old.spare }
-        ensures adds { (b : Basis) (group : List Recorded) → IsBasis b transaction is_recorded self.now → Holds events.old group
+        requires spelled { (b : Basis) → IsBasis F.files b transaction is_recorded self.now → All IsSpellableEvent (events_ahead (step.now ∷ []) b) }
+        requires fits { (b : Basis) → IsBasis F.files b transaction is_recorded self.now → sum_by event_size (events_ahead (step.now ∷ []) b) ≤ events.old.spare }
+        ensures adds { (b : Basis) (group : List Recorded) → IsBasis F.files b transaction is_recorded self.now → Holds events.old group
             → Holds events.new (group ++ events_ahead (step.now ∷ []) b) }
-        ensures spare { (b : Basis) → IsBasis b transaction is_recorded self.now
+        ensures spare { (b : Basis) → IsBasis F.files b transaction is_recorded self.now
             → events.new.spare + sum_by event_size (events_ahead (step.now ∷ []) b) ≡ events.old.spare }
         ensures room { events.new.room ≡ events.old.room }
     {
@@ -278,11 +278,11 @@ impl<'a> Parts<'a> {
 
     /// Puts the events into the list that the steps record of a transaction.
     pub fn record(&self, transaction: Id, is_recorded: bool, steps: &[Step], events: &mut Events)
-        requires spelled { (b : Basis) → IsBasis b transaction is_recorded self.now → All IsSpellableEvent (events_ahead steps.now b) }
-        requires fits { (b : Basis) → IsBasis b transaction is_recorded self.now → sum_by event_size (events_ahead steps.now b) ≤ events.old.spare }
-        ensures adds { (b : Basis) (group : List Recorded) → IsBasis b transaction is_recorded self.now → Holds events.old group
+        requires spelled { (b : Basis) → IsBasis F.files b transaction is_recorded self.now → All IsSpellableEvent (events_ahead steps.now b) }
+        requires fits { (b : Basis) → IsBasis F.files b transaction is_recorded self.now → sum_by event_size (events_ahead steps.now b) ≤ events.old.spare }
+        ensures adds { (b : Basis) (group : List Recorded) → IsBasis F.files b transaction is_recorded self.now → Holds events.old group
             → Holds events.new (group ++ events_ahead steps.now b) }
-        ensures spare { (b : Basis) → IsBasis b transaction is_recorded self.now
+        ensures spare { (b : Basis) → IsBasis F.files b transaction is_recorded self.now
             → events.new.spare + sum_by event_size (events_ahead steps.now b) ≡ events.old.spare }
         ensures room { events.new.room ≡ events.old.room }
     {

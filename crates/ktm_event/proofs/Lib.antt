@@ -9,7 +9,8 @@ pub mod ChangeReadings
 pub mod PartReadings
 pub mod EventReadings
 pub mod Rows
-pub mod WrittenFiles
+pub mod FileChanges
+pub mod FilesShown
 pub mod Writings
 pub mod Groups
 pub mod KeptLemmas

@@ -1,11 +1,7 @@
--- Rows of items that are written at the end, one behind the other, and how many bytes they take.
-use Rattle.std.proofs.Common.{◌≡◌, ◌+◌, ◌<◌, ◌≤◌, ℕ, List, [], ◌∷◌, ◌++◌, length, take, drop, get_or, sum_by, refl, sym, ◌∙◌, ap, subst, arith, append_assoc, append-nil, length-append, get_or-append-add, take-append-drop}
-use Rattle.std.proofs.lemmas.Grind.{flat_map-append}
+-- Rows of items that are written at the end, one behind the other.
+use Rattle.std.proofs.Common.{◌≡◌, ◌+◌, ◌<◌, ◌≤◌, ℕ, List, [], ◌∷◌, ◌++◌, length, take, get_or, refl, sym, ◌∙◌, ap, subst, arith, append_assoc, append-nil, length-append, get_or-append-add}
 use Rattle.std.proofs.lemmas.List.{take_more, take_all, get_or_append_left}
-use Rattle.std.proofs.lemmas.List.Concat.{flat_map-cons, get_or-flat_map}
-use Rattle.std.proofs.lemmas.List.Folds.{length-flat_map-take}
-use Rattle.std.proofs.lemmas.List.Sums.{sum_by-append}
-use Rattle.std.specs.List.{All, flat_map}
+use Rattle.std.specs.List.{All}
 use Rattle.ktm_base.specs.Grammar.{IsRow}
 use Rattle.ktm_codec.specs.Spans.{Adds}
 
@@ -37,30 +33,6 @@ module _ {X : Type 0} (Item : X → List ℕ → Type 0) where
 
   pub adds_all : (xs : List X) {i : ℕ} {a b : List ℕ} → length xs ≤ i → Adds (IsRow Item (take i xs)) a b → Adds (IsRow Item xs) a b
   adds_all xs {i} {a} {b} all row = subst (λ (ys : List X). Adds (IsRow Item ys) a b) (take_all i xs all) row
-
--- the items that the things of a list so far stand for
-module _ {X A : Type 0} (f : X → List A) (xs : List X) (i : ℕ) (d : X) (inside : i < length xs) where
-  flat_map-next : flat_map f (take (i + 1) xs) ≡ flat_map f (take i xs) ++ f (get_or xs i d)
-  flat_map-next =
-      ap (flat_map f) (take_more xs i d inside) ∙ flat_map-append f (take i xs) (get_or xs i d ∷ [])
-      ∙ ap (λ (l : List A). flat_map f (take i xs) ++ l) (flat_map-cons f (get_or xs i d) [] ∙ append-nil (f (get_or xs i d)))
-
-  pub adds_next : (Item : A → List ℕ → Type 0) {a b c : List ℕ} → Adds (IsRow Item (flat_map f (take i xs))) a b
-      → Adds (IsRow Item (f (get_or xs i d))) b c → Adds (IsRow Item (flat_map f (take (i + 1) xs))) a c
-  adds_next Item {a} {b} {c} row more = subst (λ (ys : List A). Adds (IsRow Item ys) a c) (sym flat_map-next) (adds_row Item (flat_map f (take i xs)) (f (get_or xs i d)) row more)
-
-  pub size-next : (size : A → ℕ) → sum_by size (flat_map f (take (i + 1) xs)) ≡ sum_by size (flat_map f (take i xs)) + sum_by size (f (get_or xs i d))
-  size-next size = ap (sum_by size) flat_map-next ∙ sum_by-append size (flat_map f (take i xs)) (f (get_or xs i d))
-
-  pub size-within : (size : A → ℕ) → sum_by size (flat_map f (take i xs)) + sum_by size (f (get_or xs i d)) ≤ sum_by size (flat_map f xs)
-  size-within size =
-      let parts : flat_map f xs ≡ flat_map f (take (i + 1) xs) ++ flat_map f (drop (i + 1) xs) =
-      ap (flat_map f) (sym (take-append-drop (i + 1) xs)) ∙ flat_map-append f (take (i + 1) xs) (drop (i + 1) xs) in
-      omega (arith, ap (sum_by size) parts, sum_by-append size (flat_map f (take (i + 1) xs)) (flat_map f (drop (i + 1) xs)), size-next size)
-
-  pub all-next : (P : A → Type 0) → All P (flat_map f xs) → All P (f (get_or xs i d))
-  all-next P all k e lt =
-      subst P (get_or-flat_map f xs i k d e inside lt) (all (length (flat_map f (take i xs)) + k) e (omega (arith, length-flat_map-take f xs i d inside, lt)))
 
 pub each_of : {X : Type 0} (P : X → Type 0) (xs : List X) (i : ℕ) {x : X} → i < length xs → x ≡ get_or xs i x → All P xs → P x
 each_of P xs i {x} inside at all = subst P (sym at) (all i x inside)

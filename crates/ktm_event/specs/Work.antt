@@ -1,5 +1,5 @@
 -- What a transaction has to record of its work.
-use Rattle.std.specs.Prelude.{ℕ, List, [], ◌∷◌, ◌++◌}
+use Rattle.std.specs.Prelude.{ℕ, ◌<◌, List, [], ◌∷◌, ◌++◌, Option, Some, None, find, nat_lt}
 use Rattle.std.specs.List.{flat_map}
 use Rattle.ktm_base.specs.declared.id.Id.{Id}
 use Rattle.ktm_types.specs.declared.change.Change.{Change}
@@ -14,24 +14,52 @@ use Rattle.ktm_event.specs.declared.work.Work.TheVariants.{Changes, Settings, En
 use Rattle.ktm_event.specs.declared.work.Stage.{Stage}
 use Rattle.ktm_event.specs.declared.work.Stage.TheVariants.{Ready as Prepared, Single as Alone}
 
+-- a file that a transaction wrote, with all of its bytes
+pub record FinalFile : Type 0 where
+  pub file : ℕ
+  pub bytes : List ℕ
+
+-- the one that is shown
+abbrev pub final_file : FileBytes → FinalFile
+final_file f = record { file = f.file; bytes = f.bytes.now }
+
+-- the first of the files
+abbrev pub first_of : List FinalFile → Option FinalFile
+first_of [] = None
+first_of (f ∷ fs) = Some f
+
+-- the first of those whose numbers are above this one
+abbrev pub first_above : List FinalFile → ℕ → Option FinalFile
+first_above fs number = find (λ f. nat_lt number f.file) fs
+
+-- each has a greater number
+abbrev pub AreAbove : ℕ → List FinalFile → Type 0
+AreAbove number [] = Unit {0}
+AreAbove number (f ∷ fs) = (number < f.file) × AreAbove number fs
+
+-- the numbers rise
+abbrev pub AreRising : List FinalFile → Type 0
+AreRising [] = Unit {0}
+AreRising (f ∷ fs) = AreAbove f.file fs × AreRising fs
+
 -- a cut to nothing, and the bytes where there are any: by cases the same as `final_bytes` of the worlds
 abbrev pub bytes_changes : ℕ → List ℕ → List Change
 bytes_changes file [] = Cut file 0 [] ∷ []
 bytes_changes file (b ∷ bs) = Cut file 0 [] ∷ Put file 0 (Whole (b ∷ bs)) ∷ []
 
 -- the changes that give a file the bytes that were written
-abbrev pub changes_of_file : FileBytes → List Change
-changes_of_file f = bytes_changes f.file f.bytes.now
+abbrev pub changes_of_file : FinalFile → List Change
+changes_of_file f = bytes_changes f.file f.bytes
 
 -- the changes of names, and then those of the files
-abbrev pub changes_of : List Change → List FileBytes → List Change
+abbrev pub changes_of : List Change → List FinalFile → List Change
 changes_of names files = names ++ flat_map changes_of_file files
 
--- the part that the work is
-abbrev pub part_of : Work → Part
-part_of (Changes names files) = Part.Changes (changes_of names.now files.now)
-part_of (Settings settings) = Part.Settings settings.now
-part_of (Enlistment enlistment manager information) = Part.Enlistment enlistment manager information.now
+-- the part that the work is, where its files are these
+abbrev pub part_of : {F : Type 0} → (F → List FinalFile) → Work F → Part
+part_of files_of (Changes names files) = Part.Changes (changes_of names.now (files_of files.now))
+part_of files_of (Settings settings) = Part.Settings settings.now
+part_of files_of (Enlistment enlistment manager information) = Part.Enlistment enlistment manager information.now
 
 -- the event of a participant that is prepared, or of a transaction that has this one part alone and commits
 abbrev pub work_event : Stage → Id → Part → Event

@@ -16,7 +16,7 @@ use crate::part::{
     done_at, part_at, put_done, put_enlistment, put_names_and_files_part, put_part, put_record,
     put_settings_part, record_at, sole_at,
 };
-use crate::{EventFault, Stage, Work};
+use crate::{EventFault, Stage, Work, WrittenFiles};
 use ktm_base::{Id, NoMemory};
 use ktm_codec::{put_u8, put_u32};
 use ktm_types::{Change, DonePart, Event, Part};
@@ -228,17 +228,17 @@ fn put_finished(out: &mut Vec<u8>, transaction: Id, done: DonePart) -> Result<()
 }
 
 // What a participant has to record of a transaction's work.
-pub(crate) fn put_work(
+pub(crate) fn put_work<F: WrittenFiles>(
     out: &mut Vec<u8>,
     stage: Stage,
     transaction: Id,
-    work: Work<'_>,
+    work: Work<'_, F>,
 ) -> Result<(), NoMemory>
-    requires { IsSpellableEvent (work_event stage transaction (part_of work)) }
-    ensures adds { OnOk result (Adds (IsEventOf (work_event stage transaction (part_of work.entry))) out.old.items out.new.items) }
-    ensures len { OnOk result (vec_len out.new ≡ vec_len out.old + event_size (work_event stage transaction (part_of work.entry))) }
+    requires { IsSpellableEvent (work_event stage transaction (part_of F.files work)) }
+    ensures adds { OnOk result (Adds (IsEventOf (work_event stage transaction (part_of F.files work.entry))) out.old.items out.new.items) }
+    ensures len { OnOk result (vec_len out.new ≡ vec_len out.old + event_size (work_event stage transaction (part_of F.files work.entry))) }
     ensures room { vec_capacity out.old ≤ vec_capacity out.new }
-    ensures full { OnErr result (vec_capacity out.old < vec_len out.old + event_size (work_event stage transaction (part_of work.entry))) }
+    ensures full { OnErr result (vec_capacity out.old < vec_len out.old + event_size (work_event stage transaction (part_of F.files work.entry))) }
 {
     put_tagged_id(out, stage.tag(), transaction)?;
     match work {

@@ -12,7 +12,7 @@ ghost use Rattle.ktm_event.specs.Spelling.{IsSpellableEvent};
 ghost use Rattle.ktm_event.specs.Work.{part_of, work_event};
 
 use crate::event::{put_held, put_work, write_event};
-use crate::{Stage, Work};
+use crate::{Stage, Work, WrittenFiles};
 use ktm_base::{Id, NoMemory};
 use ktm_types::Event;
 use std::alloc::Global;
@@ -153,12 +153,12 @@ impl Events {
     }
 
     /// Adds what a participant has to record of a transaction's work.
-    pub fn push_work(&mut self, stage: Stage, transaction: Id, work: Work<'_>)
-        requires spellable { IsSpellableEvent (work_event stage transaction (part_of work)) }
-        requires fits { event_size (work_event stage transaction (part_of work)) ≤ self.old.spare }
+    pub fn push_work<F: WrittenFiles>(&mut self, stage: Stage, transaction: Id, work: Work<'_, F>)
+        requires spellable { IsSpellableEvent (work_event stage transaction (part_of F.files work)) }
+        requires fits { event_size (work_event stage transaction (part_of F.files work)) ≤ self.old.spare }
         ensures adds { (events : List Event) → Holds self.old events
-            → Holds self.new (events ++ work_event stage transaction (part_of work.entry) ∷ []) }
-        ensures spare { self.new.spare + event_size (work_event stage transaction (part_of work.entry)) ≡ self.old.spare }
+            → Holds self.new (events ++ work_event stage transaction (part_of F.files work.entry) ∷ []) }
+        ensures spare { self.new.spare + event_size (work_event stage transaction (part_of F.files work.entry)) ≡ self.old.spare }
         ensures room { self.new.room ≡ self.old.room }
         ensures capacity { self.old.capacity ≤ self.new.capacity }
     {

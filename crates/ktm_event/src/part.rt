@@ -13,7 +13,7 @@ use crate::field::{id_at, information_at, put_id, tag_at};
 use crate::files::put_names_and_files;
 use crate::setting::{put_settings, settings_at};
 use crate::size::done_size;
-use crate::{EventFault, FileBytes};
+use crate::{EventFault, WrittenFiles};
 use ktm_base::{Bytes, Id, NoMemory};
 use ktm_codec::{put_text, put_u8};
 use ktm_types::{Change, DonePart, Part, Setting};
@@ -128,16 +128,16 @@ pub(crate) fn put_enlistment(
     put_record(out, enlistment, manager, information)
 }
 
-pub(crate) fn put_names_and_files_part(
+pub(crate) fn put_names_and_files_part<F: WrittenFiles>(
     out: &mut Vec<u8>,
     names: &[Change],
-    files: &[FileBytes<'_>],
+    files: &F,
 ) -> Result<(), NoMemory>
-    requires { AreSpellableChanges (changes_of names.now files.now) }
-    ensures adds { OnOk result (Adds (IsPartOf (Changes (changes_of names.now files.now))) out.old.items out.new.items) }
-    ensures len { OnOk result (vec_len out.new ≡ vec_len out.old + 5 + sum_by change_size (changes_of names.now files.now)) }
+    requires { AreSpellableChanges (changes_of names.now (F.files files.now)) }
+    ensures adds { OnOk result (Adds (IsPartOf (Changes (changes_of names.now (F.files files.now)))) out.old.items out.new.items) }
+    ensures len { OnOk result (vec_len out.new ≡ vec_len out.old + 5 + sum_by change_size (changes_of names.now (F.files files.now))) }
     ensures room { vec_capacity out.old ≤ vec_capacity out.new }
-    ensures full { OnErr result (vec_capacity out.old < vec_len out.old + 5 + sum_by change_size (changes_of names.now files.now)) }
+    ensures full { OnErr result (vec_capacity out.old < vec_len out.old + 5 + sum_by change_size (changes_of names.now (F.files files.now))) }
 {
     out.push(CHANGES)?;
     put_names_and_files(out, names, files)

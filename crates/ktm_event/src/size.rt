@@ -5,10 +5,10 @@ ghost use Rattle.std.specs.List.{flat_map};
 ghost use Rattle.ktm_base.specs.declared.id.Id.{Id};
 ghost use Rattle.ktm_types.specs.Sizes.{change_size, done_size, event_size, part_size, put_size, record_size, set_to_size, setting_size};
 ghost use Rattle.ktm_types.specs.declared.event.Event.TheVariants.{Held};
-ghost use Rattle.ktm_event.specs.Work.{changes_of_file, part_of, work_event};
+ghost use Rattle.ktm_event.specs.Work.{changes_of_file, final_file, part_of, work_event};
 ghost use Rattle.ktm_event.specs.declared.work.Stage.{Stage};
 
-use crate::{FileBytes, Work};
+use crate::{FileBytes, Work, WrittenFiles};
 use ktm_base::Bytes;
 use ktm_types::{Change, Contents, DonePart, Event, Part, Setting};
 
@@ -71,7 +71,7 @@ fn changes_size(changes: &[Change]) -> usize
 
 // A cut, and a put where there are bytes.
 fn file_size(file: &FileBytes<'_>) -> usize
-    ensures { result ≡ min (sum_by change_size (changes_of_file file.now)) (2 ^ 64 - 1) }
+    ensures { result ≡ min (sum_by change_size (changes_of_file (final_file file.now))) (2 ^ 64 - 1) }
 {
     if file.bytes.is_empty() {
         return 17;
@@ -79,12 +79,14 @@ fn file_size(file: &FileBytes<'_>) -> usize
     file.bytes.len().saturating_add(38)
 }
 
-fn files_size(files: &[FileBytes<'_>]) -> usize
-    ensures { result ≡ min (sum_by change_size (flat_map changes_of_file files.now)) (2 ^ 64 - 1) }
+fn files_size<F: WrittenFiles>(files: &F) -> usize
+    ensures { result ≡ min (sum_by change_size (flat_map changes_of_file (F.files files.now))) (2 ^ 64 - 1) }
 {
     let mut size = 0usize;
-    for file in files {
-        size = size.saturating_add(file_size(file));
+    let mut next = files.first();
+    while let Some(file) = next {
+        next = files.behind(file.file);
+        size = size.saturating_add(file_size(&file));
     }
     size
 }
@@ -133,9 +135,9 @@ pub fn event_size(event: &Event) -> usize
 }
 
 /// The same of what a participant has to record of a transaction's work, which is the same for a Ready and a Single.
-pub fn work_size(work: Work<'_>) -> usize
+pub fn work_size<F: WrittenFiles>(work: Work<'_, F>) -> usize
     ensures { (stage : Stage) (transaction : Id)
-        → result ≡ min (event_size (work_event stage transaction (part_of work.entry))) (2 ^ 64 - 1) }
+        → result ≡ min (event_size (work_event stage transaction (part_of F.files work.entry))) (2 ^ 64 - 1) }
 {
     let part = match work {
         Work::Changes { names, files } => {

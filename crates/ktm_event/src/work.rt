@@ -1,6 +1,6 @@
 // What is recorded of a transaction's work.
-ghost use Rattle.std.specs.Prelude.{◌≡◌};
-ghost use Rattle.ktm_event.specs.Work.{stage_tag};
+ghost use Rattle.std.specs.Prelude.{◌≡◌, ◌==◌, List, [], length, option_map};
+ghost use Rattle.ktm_event.specs.Work.{AreRising, FinalFile, final_file, first_above, first_of, stage_tag};
 
 use crate::event::{READY, SINGLE};
 use ktm_base::Id;
@@ -13,14 +13,56 @@ pub struct FileBytes<'a> {
     pub bytes: &'a [u8],
 }
 
-/// What one participant has to record of a transaction.
+/// The files that a transaction wrote or made, each with all of its bytes, by rising number. They are shown where they stand.
+pub trait WrittenFiles {
+    /// The files.
+    ghost files: { Self → List FinalFile };
+
+    fn is_empty(&self) -> bool
+        ensures { result ≡ (length (files self.now) == 0) };
+
+    /// The first of them.
+    fn first(&self) -> Option<FileBytes<'_>>
+        ensures { option_map final_file result ≡ first_of (files self.now) };
+
+    /// The first whose number is above this one.
+    fn behind(&self, file: u64) -> Option<FileBytes<'_>>
+        ensures { option_map final_file result ≡ first_above (files self.now) file };
+
+    /// Their numbers rise.
+    ghost rising: { (these : Self) → AreRising (files these) };
+}
+
+/// No files.
 #[derive(Clone, Copy)]
-pub enum Work<'a> {
+pub struct NoFiles;
+
+impl WrittenFiles for NoFiles {
+    ghost files = { λ _. [] };
+
+    ghost rising = { λ _. tt };
+
+    fn is_empty(&self) -> bool {
+        true
+    }
+
+    fn first(&self) -> Option<FileBytes<'_>> {
+        None
+    }
+
+    fn behind(&self, _file: u64) -> Option<FileBytes<'_>> {
+        None
+    }
+}
+
+/// What one participant has to record of a transaction.
+#[derive_where(Clone, Copy)]
+pub enum Work<'a, F> {
     /// Changes of names in order, and behind them the bytes of the files that were written. A file's bytes are recorded as a
     /// cut to nothing and, where there are any, a put of them all.
     Changes {
         names: &'a [Change],
-        files: &'a [FileBytes<'a>],
+        files: &'a F,
     },
     /// Settings of keys.
     Settings(&'a [Setting]),

@@ -1,5 +1,5 @@
 -- What a restart finds on a disk, and what it makes of it.
-use Rattle.std.proofs.Common.{◌≡◌, ℕ, ◌+◌, ◌-◌, ◌*◌, ◌^◌, ◌≤◌, ◌<◌, true, false, List, [], ◌∷◌, ◌++◌, length, Bool, Result, Ok, Err, Option, None, Some, refl, sym, ◌∙◌, ap, subst, arith, inl, inr, append_assoc}
+use Rattle.std.proofs.Common.{◌≡◌, ℕ, ◌+◌, ◌-◌, ◌*◌, ◌^◌, ◌≤◌, ◌<◌, true, false, List, [], ◌∷◌, ◌++◌, length, Result, Ok, Err, Option, None, Some, refl, sym, ◌∙◌, ap, subst, arith, inl, inr, append_assoc}
 use Rattle.std.proofs.lemmas.Bool.{and_from, and_parts, both_ways, ltb-false}
 use Rattle.std.proofs.lemmas.List.Folds.{list_all-append}
 use Rattle.std.proofs.lemmas.List.Sums.{sum_by-cons}
@@ -287,10 +287,6 @@ module _ (units image : ℕ) (before log : List Group) (state : Durable) (is : I
 
 -- ---- a restart, by what was loaded
 
--- the journal of a memory that recorded a list has as many units as before, and so the list has room for whatever its log has room for
-pub roomy_recorded : (events : EventsState) (old new : OnDisk MemoryState) (group : Group) → Holds events group → AreRecorded events old new → HasRoom old.it.journal events → HasRoom new.it.journal events
-roomy_recorded events old new group holds recorded roomy = subst (λ (m : MemoryState). HasRoom m.journal events) (sym (recorded.grows group holds)) (record { most = roomy.most; room = roomy.room })
-
 -- the list of a start has that room
 pub roomy_begun : (loaded : Loaded) (events : EventsState) (m : MemoryState) → MayStart loaded.state → IsJournalOf loaded.state loaded.journal → Begun loaded events m → HasRoom m.journal events
 roomy_begun loaded events m may is begun =
@@ -429,10 +425,6 @@ least_err (Err e) n m k less is = omega (arith, less, is)
 -- the disk went down in the load
 pub unloaded : {Z : Type 0} (most : ℕ) (old new : OnDisk (Vec ℕ Z)) → ReadsInto most old new true → IsUnpowered old new
 unloaded most old new reads = record { leaves = λ units image before log holds. rw reads.reads.same (unwritten_leaves units image before log old.told holds); kept = reads.kept }
-
--- no memory was there for it, or the image was bad: nothing was written
-pub unread : {Z : Type 0} (most : ℕ) (old new : OnDisk (Vec ℕ Z)) (refused : Bool) → ReadsInto most old new refused → IsUnwritten old new
-unread most old new refused reads = record { told = reads.reads.same; pending = reads.reads.pending; kept = reads.kept }
 
 -- a load makes fewer device calls than a restart may
 more_calls : (s t : DiskStatus) → DeviceCalls (8 * MOST_UNITS + 64) s t false → DeviceCalls (8 * MOST_UNITS + 68) s t false

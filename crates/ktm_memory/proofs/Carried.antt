@@ -1,7 +1,7 @@
 -- What memory shows once a transaction has gone on by steps.
 use Rattle.ktm_object.specs.Table.{HandleTable}
 use Rattle.std.specs.Prelude.{if◌then◌else◌}
-use Rattle.std.proofs.Common.{◌≡◌, ◌||◌, ◌++◌, Bool, true, false, cond, not, List, [], ◌∷◌, fold, map, length, ◌≤◌, Option, Some, None, refl, sym, ◌∙◌, ap, subst, inl, inr}
+use Rattle.std.proofs.Common.{◌≡◌, ◌||◌, ◌++◌, Bool, true, false, cond, not, List, [], ◌∷◌, fold, map, Option, Some, None, refl, sym, ◌∙◌, ap, inl, inr}
 use Rattle.std.proofs.lemmas.Bool.{cases_Bool}
 use Rattle.std.specs.List.{list_any}
 use Rattle.ktm_base.specs.declared.id.Id.{Id}
@@ -34,14 +34,11 @@ use Rattle.ktm_world.specs.Rows.{aborts}
 use Rattle.ktm_world.specs.Steps.{Basis, basis, carried, event_of_caller, events_ahead, events_of, held_event, is_recorded_by, run}
 use Rattle.ktm_world.specs.Transactions.{change_at, is_undecided, same_id, transaction_at}
 use Rattle.ktm_world.specs.TransactionCalls.{arrived, course_of}
-use Rattle.kv_rm.specs.KvState.{KvState}
 use Rattle.txf_laws.proofs.offered.Tables.{same_id-from}
-use Rattle.txf_laws.specs.FileEffects.{AreUnopened, AreVersionsFew, CanBeCounted, LeavesOthers, forgotten}
+use Rattle.txf_laws.specs.FileEffects.{forgotten}
 use Rattle.txf_laws.specs.Reservations.{files_committed}
-use Rattle.txf_volume.specs.Commit.{MayCommit}
-use Rattle.txf_volume.specs.Held.{FilesHeld, files_of}
-use Rattle.ktm_world.specs.Changes.{changes_apply}
-use Rattle.ktm_memory.specs.Memory.{CanCommit, IsReleased, MemoryState, Shows, course_then, is_known}
+use Rattle.txf_volume.specs.Held.{files_of}
+use Rattle.ktm_memory.specs.Memory.{IsReleased, MemoryState, Shows, course_then, is_known}
 
 -- ---- no step records a boot
 
@@ -134,7 +131,7 @@ pub record HasGoneOn (old new : MemoryState) (t : Transaction) (steps : List Ste
   pub boot : new.tm.boot ≡ old.tm.boot
   pub now : new.tm.now ≡ record old.tm.now { items = change_at old.tm.now.items t.id (λ u. c.transaction); enlistments = c.enlistments }
   pub managers : new.tm.managers ≡ map (served None c.sent) old.tm.managers
-  pub traces : new.trace.transactions ≡ fold traces_after old.trace.transactions (events_ahead steps b)
+  pub traces : new.trace ≡ fold traces_after old.trace (events_ahead steps b)
 
 -- memory shows it once the steps are carried out
 pub carried_shows : (old gone new : MemoryState) (x : Present) (t : Transaction) (caller : Option Id) (steps : List Step) (commits : Bool) → Shows old x → transaction_at old.tm.now.items t.id ≡ Some t
@@ -159,13 +156,13 @@ carried_shows old gone new x t caller steps commits shows there leads next where
       transactions = ap (λ tm. tm.now) released.rest.tm ∙ gone_on.now ∙ ap (λ (ts : Transactions). record ts { items = change_at ts.items t.id (λ u. c.transaction); enlistments = c.enlistments }) shows.transactions
           ∙ ap (λ (id : Id). record x.transactions { items = change_at x.transactions.items id (λ u. c.transaction); enlistments = c.enlistments }) (sym stays_id) ∙ ap (λ (p : Present). p.transactions) same;
       managers = ap (λ tm. tm.managers) released.rest.tm ∙ gone_on.managers ∙ ap (map (served None c.sent)) shows.managers ∙ ap (λ (p : Present). p.managers) same;
-      traces = ap (λ trace. trace.transactions) released.rest.trace ∙ gone_on.traces ∙ ap (λ ts. fold traces_after ts (events_ahead steps (basis start))) shows.traces ∙ sym (traces_law.events x.recorded (events_ahead steps (basis start)))
+      traces = released.rest.trace ∙ gone_on.traces ∙ ap (λ ts. fold traces_after ts (events_ahead steps (basis start))) shows.traces ∙ sym (traces_law.events x.recorded (events_ahead steps (basis start)))
           ∙ sym (ap (λ es. traces_of (after_events x.recorded es)) ahead) ∙ ap traces_of events;
       files = released.files ∙ files commits (is_known gone.tm.now t.id) (not (is_undecided c.transaction)) (files_of gone.files) x.files t.id c.transaction.id (ap files_of gone_on.files ∙ shows.files) known (sym stays_id)
           ∙ sym left.files ∙ ap (λ (p : Present). p.files) same;
       next_node = released.rest.next_node ∙ gone_on.next_node ∙ ap (λ n. cond (records_files steps) (next_after_all n (own_changes (files_of old.files).table.own t.id)) n) shows.next_node
           ∙ ap (λ (fs : FilesNow). cond (records_files steps) (next_after_all x.recorded.next_node (own_changes fs.table.own t.id)) x.recorded.next_node) shows.files ∙ sym next ∙ ap (λ s. s.next_node) events;
-      keys = keys commits (is_known gone.tm.now t.id) (not (is_undecided c.transaction)) new.keys.keys gone.keys.keys x.keys t.id c.transaction.id (ap (λ (k : KvState). k.keys) gone_on.keys ∙ shows.keys) known (sym stays_id) z.keys released.store released.own left.store left.own
+      keys = keys commits (is_known gone.tm.now t.id) (not (is_undecided c.transaction)) new.keys gone.keys x.keys t.id c.transaction.id (gone_on.keys ∙ shows.keys) known (sym stays_id) z.keys released.store released.own left.store left.own
           ∙ ap (λ (p : Present). p.keys) same;
       handles = ap (λ (t : HandleTable). t.handles) (released.rest.handles ∙ gone_on.handles) ∙ shows.handles ∙ sym left.handles ∙ ap (λ (p : Present). p.handles) same;
     }
@@ -184,18 +181,6 @@ carried_shows old gone new x t caller steps commits shows there leads next where
       store = (store ∙ (λ l. if commits then stored_all (are l).store (own_settings (are l).own (same l)) else (are l).store) ∙ sym store_left) k;
       own = (own ∙ (λ l. if commits || is l then without_own (are l).own (same l) else (are l).own) ∙ sym own_left) k;
     }
-
--- what can be committed can be where the files and the keys are the same
-pub can_commit-same : (m n : MemoryState) (id : Id) → n.keys ≡ m.keys → n.files ≡ m.files → CanCommit m id → CanCommit n id
-can_commit-same m n id keys files can = record {
-  keys = subst (λ (k : KvState). length (own_settings k.keys.own id) ≤ k.room) (sym keys) can.keys;
-  files = subst (λ (f : FilesHeld). MayCommit f id) (sym files) can.files;
-  applies = subst (λ (f : FilesHeld). changes_apply (files_of f).tree (own_changes (files_of f).table.own id) ≡ true) (sym files) can.applies;
-  left = subst (λ (f : FilesHeld). LeavesOthers (files_of f) id) (sym files) can.left;
-  unopened = subst (λ (f : FilesHeld). AreUnopened (files_of f) id) (sym files) can.unopened;
-  counted = subst (λ (f : FilesHeld). CanBeCounted (files_committed (files_of f) id)) (sym files) can.counted;
-  few = subst (λ (f : FilesHeld). AreVersionsFew (files_of f).versions) (sym files) can.few;
-}
 
 -- what a rollback records leaves the number of the next node
 pub aborts_log : (x : Present) (t : Transaction) → LogsNext x t None aborts

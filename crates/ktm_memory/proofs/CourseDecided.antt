@@ -1,5 +1,5 @@
--- How a transaction goes on is decided: by the row of what is seen of it, and what memory it takes to carry the steps out.
-use Rattle.std.proofs.Common.{◌≡◌, ◌≢◌, ◌≤◌, All, Bool, true, false, cond, List, length, Option, None, refl, sym, ap, subst, ◌∙◌}
+-- How a transaction goes on is decided: by the row of what is seen of it.
+use Rattle.std.proofs.Common.{◌≡◌, ◌≢◌, ◌≤◌, All, Bool, true, false, cond, List, Option, None, refl, sym, ap, subst, ◌∙◌}
 use Rattle.arrayvec.specs.ArrayVec.{ArrayVec}
 use Rattle.std.specs.List.{list_any}
 use Rattle.ktm_base.specs.declared.id.Id.{Id}
@@ -14,8 +14,11 @@ use Rattle.ktm_event.specs.Spelling.{IsSpellableEvent}
 use Rattle.ktm_records.proofs.offered.AgreementOfCourses.{arrival}
 use Rattle.ktm_steps.proofs.offered.Ways.{if_cases}
 use Rattle.ktm_tm.specs.Courses.{caller_of}
+use Rattle.ktm_states.specs.GoodState.{IsGoodState}
 use Rattle.ktm_trace.specs.Contents.{KeptLaw}
+use Rattle.ktm_trace.specs.Few.{AreFew, FewLaw}
 use Rattle.ktm_trace.specs.Recordings.{steps_room}
+use Rattle.ktm_trace.specs.declared.room.TheConstants.{MOST_NOTED}
 use Rattle.ktm_types.specs.declared.input.PhaseInput.{PhaseInput}
 use Rattle.ktm_types.specs.declared.input.Seen.{Seen}
 use Rattle.ktm_types.specs.declared.object.Transaction.{Transaction}
@@ -23,7 +26,6 @@ use Rattle.ktm_types.specs.declared.reply.Reply.{Reply}
 use Rattle.ktm_types.specs.declared.reply.Reply.TheVariants.{Committed, Done, Pending, Refused}
 use Rattle.ktm_types.specs.declared.step.Step.{Step}
 use Rattle.ktm_world.specs.Enlistments.{Enlistment, is_ended}
-use Rattle.ktm_world.specs.Keys.{own_settings}
 use Rattle.ktm_world.specs.Outcome.{Outcome, apply, is_full}
 use Rattle.ktm_world.specs.Phases.{Course as Going}
 use Rattle.ktm_world.specs.Present.{Present}
@@ -34,7 +36,7 @@ use Rattle.ktm_world.specs.Transactions.{is_undecided}
 use Rattle.txf_volume.specs.Commit.{MayCommit}
 use Rattle.txf_volume.specs.Held.{files_of}
 use Rattle.ktm_memory.specs.Decided.{Decides}
-use Rattle.ktm_memory.specs.Memory.{CanCommit, CanGoOn, Held, MemoryState, Shows, course_then, held, present_of}
+use Rattle.ktm_memory.specs.Memory.{CanGoOn, MemoryState, Shows, course_then, held, present_of}
 use Rattle.ktm_memory.specs.Routed.{IsReadyCourse, course_to, reply_to}
 use Rattle.ktm_memory.specs.declared.settlement.Settlement.TheVariants.{Course}
 
@@ -47,25 +49,11 @@ shows_present kept m = record {
   boot = refl;
   transactions = refl;
   managers = refl;
-  traces = sym (kept m.tm.now.enlistments (files_of m.files).table.own m.keys.keys.own m.trace.transactions);
+  traces = sym (kept m.tm.now.enlistments (files_of m.files).table.own m.keys.own m.trace);
   files = refl;
   next_node = refl;
   keys = refl;
   handles = refl;
-}
-
--- memory that holds the same shows the same
-pub shows_same : (m n : MemoryState) → held m ≡ held n → (x : Present) → Shows m x → Shows n x
-shows_same m n same x shows = record {
-  is_up = sym (ap (λ (h : Held). h.is_up) same) ∙ shows.is_up;
-  boot = sym (ap (λ (h : Held). h.boot) same) ∙ shows.boot;
-  transactions = sym (ap (λ (h : Held). h.transactions) same) ∙ shows.transactions;
-  managers = sym (ap (λ (h : Held). h.managers) same) ∙ shows.managers;
-  traces = sym (ap (λ (h : Held). h.traces) same) ∙ shows.traces;
-  files = sym (ap (λ (h : Held). h.files) same) ∙ shows.files;
-  next_node = sym (ap (λ (h : Held). h.next_node) same) ∙ shows.next_node;
-  keys = sym (ap (λ (h : Held). h.keys) same) ∙ shows.keys;
-  handles = sym (ap (λ (h : Held). h.handles) same) ∙ shows.handles;
 }
 
 -- ---- the steps
@@ -106,36 +94,33 @@ answers : (input : PhaseInput) (c : Going) (refusal : Refusal) → reply_to inpu
 answers PhaseInput.CommitTransaction c refusal = no_refusal (is_ended c.transaction.phase) refusal
 answers _ c refusal = done_refuses_nothing refusal
 
--- what a transaction changed and set can be committed, where memory has room for it
-pub can_commit : (m : MemoryState) (t : Transaction) → MayCommitNow (present_of m) t → length (own_settings m.keys.keys.own t.id) ≤ m.keys.room → MayCommit m.files t.id → CanCommit m t.id
-can_commit m t may room ready = record { keys = room; files = ready; applies = may.applies; left = may.left; unopened = may.unopened; counted = may.counted; few = may.few }
+-- what a transaction changed can be committed
+may_commit : (x : Present) (t : Transaction) → MayCommitNow x t → MayCommit x.files t.id
+may_commit x t may = record { applies = may.applies; left = may.left; unopened = may.unopened; counted = may.counted; few = may.few }
 
--- memory is ready for the steps
-pub record IsReserved (m : MemoryState) (t : Transaction) (steps : List Step) : Type 0 where
-  pub places : steps_room steps ≤ m.trace.places
-  pub spare : steps_room steps ≤ m.trace.spare
-  pub keys : list_any is_commit steps ≡ true → length (own_settings m.keys.keys.own t.id) ≤ m.keys.room
-  pub files : list_any is_commit steps ≡ true → MayCommit m.files t.id
+-- what memory keeps of the log is few enough, where what was recorded is good
+pub few_traces : KeptLaw → FewLaw → (m : MemoryState) → IsGoodState (present_of m).recorded → AreFew m.trace
+few_traces kept few m good = subst AreFew (sym (shows_present kept m).traces) (few (present_of m).recorded good)
 
 module _ (kept : KeptLaw) (m : MemoryState) (t : Transaction) (caller : Option Id) (input : PhaseInput) (steps : ArrayVec Step) (s : Seen) (sees : IsSeenIn m t s) (is : steps.items ≡ row s input) where
   same : course_then (present_of m) t caller steps.items ≡ course_to (present_of m) t caller input
   same = comes_to (present_of m) t caller input steps.items s (sees (present_of m) (caller_of m.tm.now.enlistments caller) (shows_present kept m)) is
 
-  can_go_on : IsReadyCourse (present_of m) t caller input → IsReserved m t steps.items → is_full (present_of m).machine.left (course_to (present_of m) t caller input).events ≡ false → CanGoOn m t caller steps.items
-  can_go_on ready reserved room = record {
+  can_go_on : IsReadyCourse (present_of m) t caller input → AreFew m.trace → steps_room steps.items ≤ MOST_NOTED → is_full (present_of m).machine.left (course_to (present_of m) t caller input).events ≡ false → CanGoOn m t caller steps.items
+  can_go_on ready few noted room = record {
     there = ready.there;
     leads = leads_on m t caller input steps.items s sees is;
-    places = reserved.places;
-    spare = reserved.spare;
+    few = λ some. few;
+    noted = noted;
     commits = λ commits.
-        can_commit m t (ready.may (ap (list_any is_commit) (sym (is ∙ ap (λ (u : Seen). row u input) (sees (present_of m) None (shows_present kept m)))) ∙ commits) room) (reserved.keys commits) (reserved.files commits);
+        may_commit (present_of m) t (ready.may (ap (list_any is_commit) (sym (is ∙ ap (λ (u : Seen). row u input) (sees (present_of m) None (shows_present kept m)))) ∙ commits) room);
   }
 
   -- what is left to do comes to what the call comes to
   pub course_decided : (reply : Reply) (events : EventsState) → reply ≡ reply_to input (course_to (present_of m) t caller input) → Holds events (course_then (present_of m) t caller steps.items).events
-      → is_full (present_of m).machine.left (course_then (present_of m) t caller steps.items).events ≡ false → IsReadyCourse (present_of m) t caller input → IsReserved m t steps.items
+      → is_full (present_of m).machine.left (course_then (present_of m) t caller steps.items).events ≡ false → IsReadyCourse (present_of m) t caller input → AreFew m.trace → steps_room steps.items ≤ MOST_NOTED
       → (let c = course_to (present_of m) t caller input in Decides (held m) (arrived (present_of m) c (reply_to input c)) reply (Course t caller steps) events m)
-  course_decided reply events says holds room ready reserved =
+  course_decided reply events says holds room ready few noted =
       let x = present_of m in
       let c = course_to x t caller input in
       let d = course_then x t caller steps.items in
@@ -149,7 +134,7 @@ module _ (kept : KeptLaw) (m : MemoryState) (t : Transaction) (caller : Option I
         group = (arrival x d Done).events ∙ sym are;
         tells = arrived-sent x d Done ∙ ap (λ (g : Going). g.sent) same ∙ sym (arrived-sent x c (reply_to input c));
         comes_to = ap (λ (g : Going). apply x (arrived x g Done)) same ∙ arrived-apply x c Done (reply_to input c);
-        may = can_go_on ready reserved (ap (λ (g : Going). is_full x.machine.left g.events) (sym same) ∙ room);
+        may = can_go_on ready few noted (ap (λ (g : Going). is_full x.machine.left g.events) (sym same) ∙ room);
         waits = λ some. refl;
         answers = λ some refusal. subst (λ (r : Reply). r ≢ Refused refusal) (sym says) (answers input c refusal);
       }

@@ -86,7 +86,7 @@ pub may_settle : (h : Held) (n : MemoryState) (process : Pid) (label : Option La
     → IsReady n.files o copy → option_map open_of opened ≡ o.opened → (is_some opened ≡ true → 1 ≤ n.handles.spare) → IsFreeLabel (now_of h) process label → MaySettle n (PlainChange process label (record o { reply = Done }) copy)
 may_settle h n process label o opened copy same may ready is room unbound = (
   subst (λ (files : FilesNow). CanMakePlain files (record o { reply = Done })) (ap (λ g. g.files) (sym same)) (record { plain = record { change = may.plain.change; opened = may.plain.opened }; left = may.left; counted = may.counted }),
-  record { change = ready.change; opened = ready.opened; copy_is = ready.copy_is },
+  record { change = ready.change; room = ready.room; opened = ready.opened; copy_is = ready.copy_is },
   subst (λ (file : Option OpenFile). MayBind n process label file) is (may_bind_plain n process label opened room (subst (λ (g : Held). IsFreeLabel (now_of g) process label) (sym same) unbound)),
 )
 

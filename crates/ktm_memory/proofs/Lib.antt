@@ -13,9 +13,9 @@ mod Closings
 mod Ticks
 mod UndoneLive
 mod CourseRecords
-mod CourseIdle
 mod CourseDecided
 mod Showing
 mod Carried
+mod Finished
 mod Making
 pub mod offered

@@ -14,7 +14,7 @@ use Rattle.ktm_types.specs.declared.object.Transaction.{Transaction}
 use Rattle.ktm_types.specs.declared.options.Durability.{Durability}
 use Rattle.ktm_types.specs.declared.options.EnlistmentKind.{EnlistmentKind}
 use Rattle.ktm_types.specs.declared.reply.Reply.{Reply}
-use Rattle.ktm_types.specs.declared.reply.Reply.TheVariants.{Contents, Done, Guid, Notification, Refused}
+use Rattle.ktm_types.specs.declared.reply.Reply.TheVariants.{Contents, Done, Guid, Notification}
 use Rattle.ktm_world.specs.Enlistments.{Enlistment, Manager, Note, enlistment_at, manager_at}
 use Rattle.ktm_world.specs.Labels.{holds_of}
 use Rattle.ktm_world.specs.Outcome.{Outcome, first_refusal, is_full, only_reply, refuse_or}
@@ -22,10 +22,10 @@ use Rattle.ktm_world.specs.Present.{Present}
 use Rattle.ktm_world.specs.TransactionCalls.{create_enlistment, create_resource_manager, get_information, get_notification, has_empty_queue, note_reply, recover_resource_manager, set_information}
 use Rattle.ktm_world.specs.Transactions.{transaction_at}
 use Rattle.ktm_slots.specs.Slots.{granted_in}
-use Rattle.ktm_memory.specs.declared.settlement.Settlement.TheVariants.{Enlist, Inform, MakeManager, Nothing, Recover, Take}
+use Rattle.ktm_memory.specs.declared.settlement.Settlement.TheVariants.{Enlist, Inform, MakeManager, Recover, Take}
 use Rattle.ktm_memory.specs.Decided.{Decides, IsDone, manager_events}
 use Rattle.ktm_memory.specs.Memory.{Held, MaySettle, MemoryState, held, now_of, present_of}
-use Rattle.ktm_memory.proofs.offered.Decided.{decided, only_decided, quiet_decided}
+use Rattle.ktm_memory.proofs.offered.Decided.{decided, quiet_decided}
 
 -- ---- CreateResourceManager
 
@@ -111,14 +111,6 @@ note_decided m manager note reply events there is says holds =
     let found = note_says x (manager_at x.managers manager) note is in
     subst (λ (b : Bool). Decides (held m) (refuse_or x (first_refusal ((b, WaitTimeout) ∷ [])) taken) reply (Take manager) events m) (sym found.0)
     (quiet_decided (held m) m taken reply (Take manager) events (says ∙ found.1) (note_quiet x (manager_at x.managers manager)) refl refl refl refl there holds)
-
-pub none_decided : (m : MemoryState) (manager : Id) (events : EventsState) → is_some (manager_at m.tm.managers manager) ≡ true → first_of (manager_at m.tm.managers manager) ≡ None → Holds events []
-    → Decides (held m) (taking (present_of m) manager) (Refused WaitTimeout) Nothing events m
-none_decided m manager events there none holds =
-    let x = present_of m in
-    let waits = none_waits (manager_at x.managers manager) there none in
-    only_decided m (taking x manager) (Refused WaitTimeout) events
-    (ap (λ (b : Bool). refuse_or x (first_refusal ((b, WaitTimeout) ∷ [])) (get_notification x (manager_at x.managers manager))) waits) holds
 
 -- ---- CreateEnlistment
 

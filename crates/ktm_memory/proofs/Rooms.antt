@@ -5,10 +5,7 @@ use Rattle.ktm_event.specs.Kept.{EventsState, Holds}
 use Rattle.ktm_journal.specs.Image.{JournalState}
 use Rattle.ktm_types.specs.Sizes.{area_len, event_size, frame_size}
 use Rattle.ktm_memory.specs.Memory.{IsRoomy}
-use Rattle.ktm_base.specs.declared.id.Id.{Id}
-use Rattle.ktm_types.specs.declared.event.DonePart.TheVariants.{Files, Keys}
 use Rattle.ktm_types.specs.declared.event.Event.{Event}
-use Rattle.ktm_types.specs.declared.event.Event.TheVariants.{Decide, Done}
 use Rattle.ktm_world.specs.Logs.{Group}
 use Rattle.ktm_world.specs.Outcome.{is_full}
 
@@ -24,12 +21,6 @@ some_room left group false iff is = absurd (cc)
 -- the size of one event
 pub one_size : (e : Event) (size : ℕ) → size ≡ min (event_size e) (2 ^ 64 - 1) → min (sum_by event_size (e ∷ [])) (2 ^ 64 - 1) ≡ size
 one_size e size is = ap (λ n. min n (2 ^ 64 - 1)) (omega arith) ∙ sym is
-
--- the size of two works, and of what ends their commit
-pub both_size : (id : Id) (a b s t w ends size : ℕ) → s ≡ min a (2 ^ 64 - 1) → t ≡ min b (2 ^ 64 - 1) → w ≡ min (s + t) (2 ^ 64 - 1)
-    → ends ≡ event_size (Decide id) + event_size (Done id Files) + event_size (Done id Keys) → size ≡ min (w + ends) (2 ^ 64 - 1)
-    → min (0 + a + b + event_size (Decide id) + event_size (Done id Files) + event_size (Done id Keys)) (2 ^ 64 - 1) ≡ size
-both_size id a b s t w ends size s_is t_is w_is ends_are is = omega (arith, s_is, t_is, w_is, ends_are, is)
 
 -- events of this size fit into an empty list, where the log has room for them
 pub fits : (j : JournalState) (events : EventsState) (n size : ℕ) → IsRoomy j events → Holds events [] → size ≡ min n (2 ^ 64 - 1) → size + frame_size [] < area_len j.units → n ≤ events.spare

@@ -29,7 +29,7 @@ shows_held m = record {
   boot = refl;
   transactions = refl;
   managers = refl;
-  traces = sym (kept_law m.tm.now.enlistments (files_of m.files).table.own m.keys.keys.own m.trace.transactions);
+  traces = sym (kept_law m.tm.now.enlistments (files_of m.files).table.own m.keys.own m.trace);
   files = refl;
   next_node = refl;
   keys = refl;
@@ -40,7 +40,7 @@ shows_held m = record {
 
 -- the course is the transaction's by what memory holds
 pub course_in : (m : MemoryState) (x : Present) (t : Transaction) (caller : Option Id) (has_files has_keys : Bool) → Shows m x → has_files ≡ has_changes (own_changes (files_of m.files).table.own t.id)
-    → has_keys ≡ has_settings (own_settings m.keys.keys.own t.id) → IsCourseIn m.tm t caller has_files has_keys (course_of x t (caller_of x.transactions.enlistments caller))
+    → has_keys ≡ has_settings (own_settings m.keys.own t.id) → IsCourseIn m.tm t caller has_files has_keys (course_of x t (caller_of x.transactions.enlistments caller))
 course_in m x t caller has_files has_keys shows files keys = record {
   transaction = refl;
   enlistments = ap (λ (ts : Transactions). ts.enlistments) (sym shows.transactions);
@@ -99,7 +99,7 @@ sent-alike (Step.EndWhereFinished outcome ∷ steps) c changes settings events w
 
 -- each course of the transaction sends the same
 pub sent_in : (m : MemoryState) (t : Transaction) (caller : Option Id) (steps : List Step) (has_files has_keys : Bool) (c : Course) → has_files ≡ has_changes (own_changes (files_of m.files).table.own t.id)
-    → has_keys ≡ has_settings (own_settings m.keys.keys.own t.id) → IsCourseIn m.tm t caller has_files has_keys c → (run steps c).sent ≡ (course_then (present_of m) t caller steps).sent
+    → has_keys ≡ has_settings (own_settings m.keys.own t.id) → IsCourseIn m.tm t caller has_files has_keys c → (run steps c).sent ≡ (course_then (present_of m) t caller steps).sent
 sent_in m t caller steps has_files has_keys c files keys is =
     (λ i. (run steps (record c { transaction = is.transaction i; enlistments = is.enlistments i; managers = is.managers i; caller = is.calls i; sent = is.nothing_sent i })).sent)
     ∙ sent-alike steps (course_of (present_of m) t (caller_of m.tm.now.enlistments caller)) c.changes c.settings c.events c.works (is.files ∙ files) (is.keys ∙ keys)

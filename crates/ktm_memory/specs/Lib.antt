@@ -5,4 +5,3 @@ pub mod Recorded
 pub mod Takes
 pub mod Routed
 pub mod Decided
-pub mod Looked

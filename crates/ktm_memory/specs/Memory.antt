@@ -18,7 +18,9 @@ use Rattle.ktm_tm.specs.Courses.{caller_of}
 use Rattle.ktm_tm.specs.TmState.{TmState}
 use Rattle.ktm_trace.specs.Contents.{expanded}
 use Rattle.ktm_trace.specs.Recordings.{steps_room}
-use Rattle.ktm_trace.specs.Traces.{TraceState, Traced, traces_of}
+use Rattle.ktm_trace.specs.declared.room.TheConstants.{MOST_NOTED}
+use Rattle.ktm_trace.specs.Few.{AreFew}
+use Rattle.ktm_trace.specs.Traces.{Traced, traces_of}
 use Rattle.ktm_types.specs.declared.event.Event.{Event}
 use Rattle.ktm_types.specs.declared.object.Handle.{Handle}
 use Rattle.ktm_types.specs.declared.object.Transaction.{Transaction}
@@ -28,17 +30,15 @@ use Rattle.ktm_world.specs.Outcome.{Outcome, apply}
 use Rattle.ktm_world.specs.Phases.{Course as Going}
 use Rattle.ktm_world.specs.Steps.{run}
 use Rattle.txf_laws.specs.Reservations.{files_committed}
-use Rattle.ktm_world.specs.Changes.{changes_apply}
 use Rattle.ktm_world.specs.FileOutcome.{FileOutcome, files_after}
-use Rattle.ktm_world.specs.Files.{FilesNow, OpenFile, own_changes}
+use Rattle.ktm_world.specs.Files.{FilesNow, OpenFile}
 use Rattle.ktm_world.specs.Handles.{object_at}
 use Rattle.ktm_world.specs.Keys.{KeysNow, own_settings, stored_all, without_own}
 use Rattle.ktm_world.specs.Logs.{as_groups}
 use Rattle.ktm_world.specs.Present.{Present, Transactions}
 use Rattle.ktm_world.specs.TransactionCalls.{course_of, no_enlistment_left, no_manager_left, no_transaction_left}
 use Rattle.ktm_world.specs.Transactions.{is_live, is_undecided, transaction_at}
-use Rattle.kv_rm.specs.KvState.{KvState}
-use Rattle.txf_laws.specs.FileEffects.{forgotten, AreUnopened, AreVersionsFew, LeavesOthers, IsPlain, LeavesOwn, CanBeCounted}
+use Rattle.txf_laws.specs.FileEffects.{forgotten, IsPlain, LeavesOwn, CanBeCounted}
 use Rattle.txf_volume.specs.Commit.{MayCommit}
 use Rattle.txf_volume.specs.Held.{FilesHeld, files_of}
 use Rattle.txf_volume.specs.Plain.{IsReady}
@@ -54,11 +54,11 @@ pub record MemoryState : Type 0 where
   pub handles : HandleTable
   pub tm : TmState
   -- of the transactions that the log has, what is to be seen nowhere else
-  pub trace : TraceState
+  pub trace : List Traced
   pub files : FilesHeld
   -- the number of the next node, by what was recorded
   pub next_node : ℕ
-  pub keys : KvState
+  pub keys : KeysNow
 
 -- the same, but for the room that each layer has
 pub record Held : Type 0 where
@@ -82,10 +82,10 @@ held m = record {
   boot = m.tm.boot;
   transactions = m.tm.now;
   managers = m.tm.managers;
-  traces = m.trace.transactions;
+  traces = m.trace;
   files = files_of m.files;
   next_node = m.next_node;
-  keys = m.keys.keys;
+  keys = m.keys;
 }
 
 -- the Ids of the durable resource managers
@@ -130,10 +130,10 @@ pub record Shows (m : MemoryState) (x : Present) : Type 0 where
   pub boot : m.tm.boot ≡ x.recorded.boots
   pub transactions : m.tm.now ≡ x.transactions
   pub managers : m.tm.managers ≡ x.managers
-  pub traces : m.trace.transactions ≡ traces_of x.recorded
+  pub traces : m.trace ≡ traces_of x.recorded
   pub files : files_of m.files ≡ x.files
   pub next_node : m.next_node ≡ x.recorded.next_node
-  pub keys : m.keys.keys ≡ x.keys
+  pub keys : m.keys ≡ x.keys
   pub handles : m.handles.handles ≡ x.handles
 
 -- memory has the room for what an outcome tells, on whatever it shows
@@ -167,16 +167,6 @@ pub record CanMakePlain (files : FilesNow) (o : FileOutcome) : Type 0 where
   pub left : LeavesOwn files (files_after files None o)
   pub counted : CanBeCounted (files_after files None o)
 
--- what the transaction changed and set can be committed, and the memory for it is there
-pub record CanCommit (m : MemoryState) (id : Id) : Type 0 where
-  pub keys : length (own_settings m.keys.keys.own id) ≤ m.keys.room
-  pub files : MayCommit m.files id
-  pub applies : changes_apply (files_of m.files).tree (own_changes (files_of m.files).table.own id) ≡ true
-  pub left : LeavesOthers (files_of m.files) id
-  pub unopened : AreUnopened (files_of m.files) id
-  pub counted : CanBeCounted (files_committed (files_of m.files) id)
-  pub few : AreVersionsFew (files_of m.files).versions
-
 -- all but the files and the keys is as it was
 pub record KeepsRest (old new : MemoryState) : Type 0 where
   pub is_up : new.is_up ≡ old.is_up
@@ -193,22 +183,22 @@ is_known now id = elim (transaction_at now.items id) [ None ↦ true | Some t �
 -- what a transaction changed and set is committed, or it is known how it ends and this is forgotten, or it is kept
 pub record IsReleased (id : Id) (commits is_known : Bool) (old new : MemoryState) : Type 0 where
   pub files : files_of new.files ≡ (if commits then files_committed (files_of old.files) id else (if is_known then forgotten (files_of old.files) id else files_of old.files))
-  pub store : new.keys.keys.store ≡ (if commits then stored_all old.keys.keys.store (own_settings old.keys.keys.own id) else old.keys.keys.store)
-  pub own : new.keys.keys.own ≡ (if commits || is_known then without_own old.keys.keys.own id else old.keys.keys.own)
+  pub store : new.keys.store ≡ (if commits then stored_all old.keys.store (own_settings old.keys.own id) else old.keys.store)
+  pub own : new.keys.own ≡ (if commits || is_known then without_own old.keys.own id else old.keys.own)
   pub rest : KeepsRest old new
 
 -- where a transaction has come to by steps, where this enlistment calls, if one does
 abbrev pub course_then : Present → Transaction → Option Id → List Step → Going
 course_then x t caller steps = run steps (course_of x t (caller_of x.transactions.enlistments caller))
 
--- the transaction is there, its steps lead it on, there is room for what they add to what the log has of it, and what they commit can be
--- committed
+-- the transaction is there, its steps lead it on, what memory keeps of the log is few enough for what they add to it, and what they commit
+-- can be committed
 pub record CanGoOn (m : MemoryState) (t : Transaction) (caller : Option Id) (steps : List Step) : Type 0 where
   pub there : transaction_at m.tm.now.items t.id ≡ Some t
   pub leads : (x : Present) → Shows m x → LeadsOn x t (caller_of x.transactions.enlistments caller) steps
-  pub places : steps_room steps ≤ m.trace.places
-  pub spare : steps_room steps ≤ m.trace.spare
-  pub commits : list_any is_commit steps ≡ true → CanCommit m t.id
+  pub few : 1 ≤ steps_room steps → AreFew m.trace
+  pub noted : steps_room steps ≤ MOST_NOTED
+  pub commits : list_any is_commit steps ≡ true → MayCommit (files_of m.files) t.id
 
 -- a label that is to be bound to a file that is opened is free, and there is room for it
 abbrev pub MayBind : MemoryState → Pid → Option Label → Option OpenFile → Type 0

@@ -3,10 +3,9 @@ use Rattle.std.specs.Prelude.{Bool, List, [], ◌∷◌, Option, Some, None}
 use Rattle.ktm_base.specs.declared.refusal.Refusal.{Refusal}
 use Rattle.ktm_base.specs.declared.id.Label.{Label}
 use Rattle.ktm_base.specs.declared.id.Pid.{Pid}
-use Rattle.ktm_standing.specs.Effects.{handles_with, with_files_made}
+use Rattle.ktm_standing.specs.Effects.{handles_with}
 use Rattle.ktm_types.specs.declared.object.Handle.{Handle}
 use Rattle.ktm_types.specs.declared.reply.Reply.TheVariants.{Done}
-use Rattle.ktm_world.specs.FileOutcome.{FileOutcome}
 use Rattle.ktm_world.specs.Files.{OpenFile}
 use Rattle.ktm_world.specs.HandleCalls.{close_handle, duplicate_handle, exit}
 use Rattle.ktm_world.specs.Outcome.{Outcome, only_reply}
@@ -55,7 +54,3 @@ left_to_do x (Inform enlistment information) = set_information x (enlistment_at 
 abbrev pub handles_then : List Handle → Pid → Option Label → Option OpenFile → List Handle
 handles_then handles process None opened = handles
 handles_then handles process (Some label) opened = handles_with handles process label opened
-
--- what is so once a plain call has changed the files, but for the group in the log
-abbrev pub with_change_made : Present → Pid → Option Label → FileOutcome → Present
-with_change_made x process label plan = record (with_files_made x None plan) { handles = handles_then x.handles process label plan.opened }

@@ -1,15 +1,9 @@
 -- Which calls may take memory, once their labels are known: where it is wanting, they alone may give up.
-use Rattle.std.specs.Prelude.{◌&&◌, ◌||◌, not, Bool, true, false, [], ◌∷◌, Option, Some, None, is_none}
+use Rattle.std.specs.Prelude.{◌&&◌, ◌||◌, not, Bool, true, false, [], ◌∷◌, Option, is_none}
 use Rattle.ktm_base.specs.declared.id.Id.{Id}
-use Rattle.ktm_standing.specs.Effects.{changes_of, settings_of}
-use Rattle.ktm_types.specs.declared.input.PhaseInput.{PhaseInput}
-use Rattle.ktm_types.specs.declared.object.Transaction.{Transaction}
-use Rattle.ktm_world.specs.Changes.{has_changes}
 use Rattle.ktm_world.specs.Decide.{events_of}
-use Rattle.ktm_world.specs.Enlistments.{superior_of}
 use Rattle.ktm_world.specs.FileOutcome.{FileOutcome}
 use Rattle.ktm_world.specs.Outcome.{first_refusal, is_full}
-use Rattle.ktm_world.specs.Phases.{has_settings}
 use Rattle.ktm_world.specs.Present.{Present}
 use Rattle.ktm_world.specs.TransactionCalls.{handle_test, no_enlistment_left, no_manager_left, no_transaction_left, quota_test}
 use Rattle.ktm_world.specs.Uses.{file_room, key_room}
@@ -20,11 +14,6 @@ use Rattle.ktm_memory.specs.declared.routed.Routed.{Routed}
 use Rattle.ktm_memory.specs.declared.routed.Routed.TheVariants.{Create, Course, Information, MakeManager, Recover, Take, Enlist, Inform, Tell, Handles, Keys, Files}
 use Rattle.ktm_memory.specs.declared.settlement.Labels.{Labels}
 use Rattle.ktm_memory.specs.declared.settlement.Labels.TheVariants.{Bind, Duplicate, Unbind, UnbindAll}
-
--- has the transaction changed a file or set a key, if there is one
-abbrev pub has_work : Present → Option Transaction → Bool
-has_work x None = false
-has_work x (Some t) = has_changes (changes_of x t) || has_settings (settings_of x t)
 
 -- does what a call on files comes to only answer
 abbrev pub is_quiet : FileOutcome → Bool
@@ -48,15 +37,7 @@ labels_take_memory x UnbindAll = false
 -- may a call take memory whose labels are known
 abbrev pub routed_takes_memory : Present → Routed → Bool
 routed_takes_memory x (Create label timeout) = is_none (first_refusal (quota_test x (no_transaction_left x.transactions) ∷ []))
-routed_takes_memory x (Course t caller PhaseInput.CommitTransaction) = has_work x (Some t)
-routed_takes_memory x (Course t caller PhaseInput.Rollback) = false
-routed_takes_memory x (Course t caller PhaseInput.SinglePhaseReject) = false
-routed_takes_memory x (Course t caller PhaseInput.CommitComplete) = false
-routed_takes_memory x (Course t caller PhaseInput.RollbackComplete) = false
-routed_takes_memory x (Course t caller PhaseInput.PrePrepare) = is_none (superior_of x.transactions.enlistments t.id)
-routed_takes_memory x (Course t caller PhaseInput.Recover) = false
-routed_takes_memory x (Course t caller PhaseInput.RecoverSuperior) = false
-routed_takes_memory x (Course t caller input) = true
+routed_takes_memory x (Course t caller input) = false
 routed_takes_memory x (Information t) = false
 routed_takes_memory x (MakeManager label durability) = is_none (first_refusal (quota_test x (no_manager_left x.managers x.transactions) ∷ []))
 routed_takes_memory x (Recover manager) = true

@@ -1,24 +1,48 @@
 // A transaction that goes on by steps.
-ghost use Rattle.std.specs.Prelude.{◌≡◌, true, false, None, Some, Option};
-ghost use Rattle.std.specs.List.{list_any};
+ghost use Rattle.std.specs.Prelude.{◌≡◌, true, None, Some, Option, if◌then◌else◌};
 ghost use Rattle.ktm_standing.specs.Courses.{LogsNext};
-ghost use Rattle.ktm_course.specs.Moved.{is_commit};
-ghost use Rattle.ktm_memory.specs.Memory.{CanCommit, CanGoOn, IsReleased, Settles, SettlesWhere, Shows, TellsWithin, course_then, is_known};
+ghost use Rattle.ktm_memory.specs.Memory.{CanGoOn, IsReleased, Settles, SettlesWhere, Shows, TellsWithin, course_then, is_known};
 ghost use Rattle.ktm_tm.specs.Courses.{caller_of};
 ghost use Rattle.ktm_trace.specs.Recordings.{durable_caller, recording_of};
 ghost use Rattle.ktm_types.specs.declared.reply.Reply.TheVariants.{Done};
 ghost use Rattle.ktm_world.specs.Enlistments.{Enlistment as Caller, id_of, superior_of};
+ghost use Rattle.ktm_world.specs.Keys.{own_settings, stored_all, without_own};
 ghost use Rattle.ktm_world.specs.Present.{Present};
 ghost use Rattle.ktm_world.specs.Steps.{basis, seen};
 ghost use Rattle.ktm_world.specs.TransactionCalls.{aborted_by, arrived, course_of};
 ghost use Rattle.ktm_world.specs.Transactions.{transaction_at};
+ghost use Rattle.txf_laws.specs.FileEffects.{forgotten};
+ghost use Rattle.txf_laws.specs.Reservations.{files_committed};
+ghost use Rattle.txf_volume.specs.Commit.{MayCommit};
+ghost use Rattle.txf_volume.specs.Held.{files_of};
 
 use crate::memory::Memory;
 use ktm_base::Id;
 use ktm_course::{commits, is_undecided, records_files};
+use ktm_participant::finish;
 use ktm_phase::step;
 use ktm_trace::Recording;
 use ktm_types::{PhaseInput, Seen, Step, Transaction};
+use kv_rm::KvRm;
+use txf_volume::Files;
+
+// What the transaction changed of the files is committed or undone, and it holds nothing of them.
+fn finish_files(files: &mut Files, id: Id, commits: bool)
+    requires { commits ≡ true → MayCommit (files_of files.old) id }
+    ensures { files_of files.new ≡ (if commits then files_committed (files_of files.old) id else forgotten (files_of files.old) id) }
+{
+    if !finish(files, id, commits) {
+        files.forget(id);
+    }
+}
+
+// What the transaction set of the keys is committed or undone.
+fn finish_keys(keys: &mut KvRm, id: Id, commits: bool)
+    ensures store { keys.new.store ≡ (if commits then stored_all keys.old.store (own_settings keys.old.own id) else keys.old.store) }
+    ensures own { keys.new.own ≡ without_own keys.old.own id }
+{
+    let _ = finish(keys, id, commits);
+}
 
 impl Memory {
     /// What counts of a transaction when something comes to it.
@@ -66,23 +90,6 @@ impl Memory {
         }
     }
 
-    // What the transaction changed and set is committed.
-    fn commit_work(&mut self, id: Id)
-        requires { CanCommit self.old id }
-        ensures { IsReleased id true true self.old self.new }
-    {
-        self.files.commit(id);
-        self.keys.commit(id);
-    }
-
-    // What the transaction changed, opened and set is forgotten.
-    fn forget_work(&mut self, id: Id)
-        ensures { IsReleased id false true self.old self.new }
-    {
-        self.files.forget(id);
-        self.keys.forget(id);
-    }
-
     // Is it known how the transaction ends, as it stands now.
     fn is_known(&self, id: Id) -> bool
         ensures { result ≡ is_known self.now.tm.now id }
@@ -96,13 +103,12 @@ impl Memory {
     // Once its steps are carried out, what a transaction changed and set is committed, where they commit, and it holds nothing,
     // where its outcome is known.
     fn release(&mut self, id: Id, commits: bool)
-        requires { commits ≡ true → CanCommit self.old id }
+        requires { commits ≡ true → MayCommit (files_of self.old.files) id }
         ensures { IsReleased id commits (is_known self.old.tm.now id) self.old self.new }
     {
-        if commits {
-            self.commit_work(id);
-        } else if self.is_known(id) {
-            self.forget_work(id);
+        if commits || self.is_known(id) {
+            finish_files(&mut self.files, id, commits);
+            finish_keys(&mut self.keys, id, commits);
         }
     }
 

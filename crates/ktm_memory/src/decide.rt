@@ -1,5 +1,5 @@
 // Deciding what a call comes to whose labels are known, and the passing of time.
-ghost use Rattle.std.specs.Prelude.{◌≡◌, ◌+◌, ◌≤◌, ◌∷◌, true, false, None, Some, [], IfOk, IsOk, OnErr, OnOk, is_none, is_some};
+ghost use Rattle.std.specs.Prelude.{◌≡◌, ◌+◌, ◌≤◌, ◌∷◌, true, false, None, Some, [], IfOk, IsOk, OnErr, is_none, is_some};
 ghost use Rattle.ktm_standing.specs.Standing.{IsStandingNow};
 ghost use Rattle.ktm_event.specs.Kept.{EventsState, Holds};
 ghost use Rattle.ktm_memory.specs.Decided.{Decides, DecidesIf, IsDone};
@@ -110,10 +110,10 @@ impl Memory {
     fn decide_keys(&mut self, who: Option<Id>, call: KvCall) -> Result<Decision, NoMemory>
         requires standing { IsStandingNow (present_of self.old) }
         requires active { IsActiveCaller (present_of self.old) who }
-        ensures ok { IfOk result (λ d. (events : EventsState) → Holds events [] → Decides (held self.old) (of_keys (present_of self.old) (key_outcome self.old.keys.keys (key_room (present_of self.old)) who call)) d.reply d.settlement events self.new) }
+        ensures ok { IfOk result (λ d. (events : EventsState) → Holds events [] → Decides (held self.old) (of_keys (present_of self.old) (key_outcome self.old.keys (key_room (present_of self.old)) who call)) d.reply d.settlement events self.new) }
         ensures slots { self.old.tm.slots ≤ self.new.tm.slots }
         ensures no_memory { OnErr result (held self.new ≡ held self.old) }
-        ensures enough { is_refused (key_outcome self.old.keys.keys (key_room (present_of self.old)) who call).reply ≡ true → IsOk result }
+        ensures enough { is_refused (key_outcome self.old.keys (key_room (present_of self.old)) who call).reply ≡ true → IsOk result }
     {
         let room = self.key_room();
         Ok(Decision::only(self.keys.call(who, call, room)?))
@@ -148,7 +148,7 @@ impl Memory {
                 transaction,
                 caller,
                 input,
-            } => self.decide_course(alloc, transaction, caller, input, events),
+            } => Ok(self.decide_course(transaction, caller, input, events)),
             Routed::Information(t) => Ok(Some(Decision::only(self.information(&t)))),
             Routed::MakeManager { label, durability } => {
                 self.decide_manager(process, label, durability, events)

@@ -2,7 +2,7 @@
 use Rattle.std.proofs.Common.{◌≡◌, ◌&&◌, ◌||◌, ℕ, not, Bool, true, false, All, List, [], ◌∷◌, ◌++◌, length, nat_lt, Option, Some, None, Result, Ok, Err, is_some, is_none, refl, sym, ◌∙◌, ap, subst, inl, inr}
 use Rattle.std.specs.List.{list_any}
 use Rattle.std.proofs.Math.Bool.{and-true}
-use Rattle.std.proofs.lemmas.Bool.{and_from, and_parts, cases_Bool, true≢false}
+use Rattle.std.proofs.lemmas.Bool.{and_parts, cases_Bool, true≢false}
 use Rattle.std.proofs.lemmas.Option.{same_Some}
 use Rattle.std.specs.Prelude.{if◌then◌else◌}
 use Rattle.ktm_base.specs.declared.id.Id.{Id}
@@ -28,7 +28,7 @@ use Rattle.ktm_types.specs.declared.step.Owed.{Owed}
 use Rattle.ktm_event.specs.Spelling.{IsSpellableEvent}
 use Rattle.ktm_world.specs.Decide.{command_effect, command_tests, decide, with_room}
 use Rattle.ktm_world.specs.Durable.{is_before}
-use Rattle.ktm_world.specs.Enlistments.{Enlistment, Manager, enlistment_at, is_durable_at, is_live_enlistment, is_live_in, is_superior, manager_at, owes_commit, owes_pre_prepare, owes_prepare, owes_rollback, superior_of}
+use Rattle.ktm_world.specs.Enlistments.{Enlistment, Manager, enlistment_at, is_durable_at, is_live_enlistment, is_live_in, is_superior, manager_at, owes_commit, owes_pre_prepare, owes_prepare, owes_rollback}
 use Rattle.ktm_world.specs.Labels.{enlistment_named, holds_of, is_bound, manager_named, transaction_named, transaction_tests}
 use Rattle.ktm_world.specs.OneOutcome.{told_outcome}
 use Rattle.ktm_world.specs.Outcome.{Outcome, first_refusal, is_full, only_reply, refuse_or, within_log}
@@ -47,7 +47,6 @@ use Rattle.ktm_course.specs.Moved.{is_commit}
 use Rattle.ktm_courses.specs.SoundCourse.{IsSoundCourse}
 use Rattle.ktm_courses.proofs.offered.Arrivals.{brought-now, stands-now}
 use Rattle.ktm_courses.proofs.offered.Calls.{enlistment-named, transaction_at-found}
-use Rattle.ktm_courses.proofs.offered.Endings.{superior-found}
 use Rattle.ktm_courses.proofs.offered.EnlistmentAnswers.{answer_in, is-aborting, is-committing, is-pre_preparing, is-preparing, phase-owing}
 use Rattle.ktm_courses.proofs.offered.Moves.{find-found, same-by_id}
 use Rattle.ktm_courses.proofs.offered.Outcomes.{known-in}
@@ -61,7 +60,6 @@ use Rattle.ktm_standing.specs.Standing.{IsStandingNow}
 use Rattle.ktm_standing.proofs.offered.Found.{found_again}
 use Rattle.ktm_standing.proofs.offered.Named.{named_law}
 use Rattle.ktm_memory.specs.Routed.{IsReadyCourse, course_to, reply_to}
-use Rattle.ktm_memory.specs.Takes.{routed_takes_memory}
 use Rattle.ktm_memory.specs.declared.routed.Routed.TheVariants.{Course, Enlist, Handles, Inform, Tell}
 use Rattle.ktm_memory.specs.declared.settlement.Labels.TheVariants.{Bind}
 use Rattle.ktm_memory.proofs.offered.Standing.{kept}
@@ -282,11 +280,6 @@ unknown_undecided t = go t.outcome
 
 -- ---- what comes from an enlistment
 
--- one that is there is not none
-not_none : {X : Type 0} (o : Option X) → is_some o ≡ true → is_none o ≡ false
-not_none None some = absurd (true≢false (sym some))
-not_none (Some x) some = refl
-
 -- what comes where it is allowed is that
 allowed_input : (b : Bool) (a input : PhaseInput) → if_allowed b a ≡ Ok input → input ≡ a
 allowed_input true a input same = cc
@@ -296,11 +289,6 @@ allowed_input false a input same = absurd (cc)
 commanded_input : (above b : Bool) (a input : PhaseInput) → (if above then if_allowed b a else Err EnlistmentNotSuperior) ≡ Ok input → input ≡ a
 commanded_input true b a input same = allowed_input b a input same
 commanded_input false b a input same = absurd (cc)
-
--- and then it is one
-commanded_above : (above b : Bool) (a input : PhaseInput) → (if above then if_allowed b a else Err EnlistmentNotSuperior) ≡ Ok input → above ≡ true
-commanded_above true b a input same = refl
-commanded_above false b a input same = absurd (cc)
 
 -- it is done, where nobody asked to commit
 done_by : (input : PhaseInput) (c : Going) → (input ≡ PhaseInput.CommitTransaction → ⊥) → Done ≡ reply_to input c
@@ -318,10 +306,10 @@ within_log-fits x o fits = elim (cases_Bool (is_full x.machine.left o.events)) [
   | inr room ↦ rw room refl
 ]
 
--- it goes by the tests of its command, and is not CommitTransaction
-pub record IsPlainly (x : Present) (process : Pid) (command : Command) (t : Transaction) (caller : Option Id) (input : PhaseInput) : Type 0 where
+-- it goes by the tests of its command, takes no memory, and is not CommitTransaction
+pub record IsPlainly (x : Present) (process : Pid) (command : Command) (input : PhaseInput) : Type 0 where
   pub early : early_tests x process command ≡ command_tests x process command
-  pub takes : effect_takes_memory x process command ≡ routed_takes_memory x (Course t caller input)
+  pub takes : effect_takes_memory x process command ≡ false
   pub unasked : input ≡ PhaseInput.CommitTransaction → ⊥
 
 module _ (x : Present) (process : Pid) (up : x.machine.is_up ≡ true) where
@@ -358,7 +346,7 @@ module _ (x : Present) (process : Pid) (up : x.machine.is_up ≡ true) where
     refused_by command result refusal comes is = comes_by x process command up (Some refusal) (comes.refused ∙ ap refusal_in is)
 
     module _ (files : FilesLaw) (spelled : SpelledLaw) (command : Command) (is : IsCommand command) (input : PhaseInput) (result : Result PhaseInput Refusal)
-        (comes : ComesTo x t e (command_tests x process command) (command_effect x process command) result) (came : result ≡ Ok input) (may : MayCome (told_outcome t.outcome) t.phase input) (plainly : IsPlainly x process command t (Some e.id) input) where
+        (comes : ComesTo x t e (command_tests x process command) (command_effect x process command) result) (came : result ≡ Ok input) (may : MayCome (told_outcome t.outcome) t.phase input) (plainly : IsPlainly x process command input) where
       abbrev going : Going
       going = course_to x t (Some e.id) input
 
@@ -396,7 +384,7 @@ module _ (x : Present) (process : Pid) (up : x.machine.is_up ≡ true) where
 
     module _ (calls : CallsLaw) (coming : ComingLaw) (files : FilesLaw) (spelled : SpelledLaw) where
       -- a reply is plainly one
-      reply_plainly : (vote : Vote) → IsPlainly x process (reply_call vote label) t (Some e.id) (input_of e vote)
+      reply_plainly : (vote : Vote) → IsPlainly x process (reply_call vote label) (input_of e vote)
       reply_plainly Vote.PrePrepareComplete = record { early = refl; takes = refl; unasked = λ same. absurd (cc) }
       reply_plainly Vote.PrepareComplete = record { early = refl; takes = refl; unasked = λ same. absurd (cc) }
       reply_plainly Vote.ReadOnly = record { early = refl; takes = refl; unasked = λ same. absurd (cc) }
@@ -410,36 +398,31 @@ module _ (x : Present) (process : Pid) (up : x.machine.is_up ≡ true) where
       replies vote input is came =
           goes files spelled (reply_call vote label) is input (replied t.phase e vote) (calls.replies x process label e t vote names) came
           (coming.replies t.phase (told_outcome t.outcome) e vote input (known-in t.phase t (stands-now x t (Some e) sound is_in).outcome) owed came)
-          (subst (IsPlainly x process (reply_call vote label) t (Some e.id)) (sym (allowed_input (allows t.phase e vote) (input_of e vote) input came)) (reply_plainly vote))
+          (subst (IsPlainly x process (reply_call vote label)) (sym (allowed_input (allows t.phase e vote) (input_of e vote) input came)) (reply_plainly vote))
 
       -- and one that is not is refused
       pub reply_refused : (vote : Vote) (refusal : Refusal) → replied t.phase e vote ≡ Err refusal → with_room x process (reply_call vote label) ≡ only_reply x (Refused refusal)
       reply_refused vote refusal is = refused_by (reply_call vote label) (replied t.phase e vote) refusal (calls.replies x process label e t vote names) is
 
-      -- the transaction of a superior has one
-      is_led : is_superior e ≡ true → is_none (superior_of es t.id) ≡ false
-      is_led above = not_none (superior_of es t.id) (superior-found t.id es e (enlistment-named x process label e names.enlistment) (and_from (same_id e.transaction t.id) (is_superior e) (same_id-from e.transaction t.id own) above))
-
       -- so is a call of a superior
-      command_plainly : is_superior e ≡ true → (call : SuperiorCall) → IsPlainly x process (superior_call call label) t (Some e.id) (input_by call)
-      command_plainly above SuperiorCall.PrePrepare = record { early = refl; takes = sym (is_led above); unasked = λ same. absurd (cc) }
-      command_plainly above SuperiorCall.Prepare = record { early = refl; takes = refl; unasked = λ same. absurd (cc) }
-      command_plainly above SuperiorCall.Commit = record { early = refl; takes = refl; unasked = λ same. absurd (cc) }
+      command_plainly : (call : SuperiorCall) → IsPlainly x process (superior_call call label) (input_by call)
+      command_plainly SuperiorCall.PrePrepare = record { early = refl; takes = refl; unasked = λ same. absurd (cc) }
+      command_plainly SuperiorCall.Prepare = record { early = refl; takes = refl; unasked = λ same. absurd (cc) }
+      command_plainly SuperiorCall.Commit = record { early = refl; takes = refl; unasked = λ same. absurd (cc) }
 
       -- one that is allowed is the course of its transaction
       pub commands : (call : SuperiorCall) (input : PhaseInput) → IsCommand (superior_call call label) → commanded t.phase e call ≡ Ok input → IsRouted x process (superior_call call label) (Course t (Some e.id) input)
       commands call input is came =
           goes files spelled (superior_call call label) is input (commanded t.phase e call) (calls.superiors x process label e t call names) came
           (coming.superiors t.phase (told_outcome t.outcome) e call input (known-in t.phase t (stands-now x t (Some e) sound is_in).outcome) came)
-          (subst (IsPlainly x process (superior_call call label) t (Some e.id)) (sym (commanded_input (is_superior e) (lets t.phase call) (input_by call) input came))
-          (command_plainly (commanded_above (is_superior e) (lets t.phase call) (input_by call) input came) call))
+          (subst (IsPlainly x process (superior_call call label)) (sym (commanded_input (is_superior e) (lets t.phase call) (input_by call) input came)) (command_plainly call))
 
       -- and one that is not is refused
       pub command_refused : (call : SuperiorCall) (refusal : Refusal) → commanded t.phase e call ≡ Err refusal → with_room x process (superior_call call label) ≡ only_reply x (Refused refusal)
       command_refused call refusal is = refused_by (superior_call call label) (commanded t.phase e call) refusal (calls.superiors x process label e t call names) is
 
       -- so is a recovery
-      recovery_plainly : (above : Bool) → IsPlainly x process (RecoverEnlistment label) t (Some e.id) (if above then PhaseInput.RecoverSuperior else PhaseInput.Recover)
+      recovery_plainly : (above : Bool) → IsPlainly x process (RecoverEnlistment label) (if above then PhaseInput.RecoverSuperior else PhaseInput.Recover)
       recovery_plainly true = record { early = refl; takes = refl; unasked = λ same. absurd (cc) }
       recovery_plainly false = record { early = refl; takes = refl; unasked = λ same. absurd (cc) }
 
@@ -448,7 +431,7 @@ module _ (x : Present) (process : Pid) (up : x.machine.is_up ≡ true) where
       recovery input is came =
           goes files spelled (RecoverEnlistment label) is input (recovered t.phase e) (calls.recoveries x process label e t names) came
           (coming.recoveries t.phase (told_outcome t.outcome) e input (known-in t.phase t (stands-now x t (Some e) sound is_in).outcome) came)
-          (subst (IsPlainly x process (RecoverEnlistment label) t (Some e.id)) (sym (allowed_input (may_recover_in t.phase e) (if is_superior e then PhaseInput.RecoverSuperior else PhaseInput.Recover) input came)) (recovery_plainly (is_superior e)))
+          (subst (IsPlainly x process (RecoverEnlistment label)) (sym (allowed_input (may_recover_in t.phase e) (if is_superior e then PhaseInput.RecoverSuperior else PhaseInput.Recover) input came)) (recovery_plainly (is_superior e)))
 
       -- and one that is not is refused
       pub recovery_refused : (refusal : Refusal) → recovered t.phase e ≡ Err refusal → with_room x process (RecoverEnlistment label) ≡ only_reply x (Refused refusal)

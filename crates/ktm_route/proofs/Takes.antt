@@ -31,7 +31,7 @@ use Rattle.txf_calls.specs.declared.call.FileCall.TheVariants.{Flush, Size}
 use Rattle.txf_opens.specs.declared.file.OpenFile.{OpenFile as Kept}
 use Rattle.ktm_route.specs.Route.{source_tests}
 use Rattle.ktm_memory.specs.Opening.{files_outcome}
-use Rattle.ktm_memory.specs.Takes.{files_take_memory, has_work, is_quiet, plan_takes_memory}
+use Rattle.ktm_memory.specs.Takes.{files_take_memory, is_quiet, plan_takes_memory}
 use Rattle.ktm_route.specs.Takes.{early_tests, effect_takes_memory, has_log_room, takes_memory}
 use Rattle.ktm_memory.proofs.offered.Opening.{events_in}
 use Rattle.ktm_route.proofs.Routes.{first_of-passed}
@@ -84,8 +84,8 @@ module _ (x : Present) (process : Pid) (up : x.machine.is_up ≡ true) where
       ∙ ap (λ b. is_none (cond b (Some InvalidParameter) (first_refusal (handle_test x ∷ [])))) free
 
   pub commit_takes : (label : Label) (t : Transaction) → transaction_named x process label ≡ Some t → first_refusal (transaction_tests (Some t)) ≡ None
-      → takes_memory x process (CommitTransaction label) ≡ has_work x (Some t)
-  commit_takes label t named passed = passed_takes (CommitTransaction label) (transaction_tests (Some t)) (ap transaction_tests named) passed ∙ ap (has_work x) named
+      → takes_memory x process (CommitTransaction label) ≡ false
+  commit_takes label t named passed = passed_takes (CommitTransaction label) (transaction_tests (Some t)) (ap transaction_tests named) passed
 
   -- calls on keys
   module _ (label : Label) (t : Transaction) (named : transaction_named x process label ≡ Some t) (passed : first_refusal (transaction_tests (Some t)) ≡ None) where

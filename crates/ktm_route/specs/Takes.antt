@@ -4,7 +4,7 @@ use Rattle.ktm_base.specs.declared.id.Pid.{Pid}
 use Rattle.ktm_base.specs.declared.refusal.Refusal.{Refusal}
 use Rattle.ktm_base.specs.declared.refusal.Refusal.TheVariants.{MachineDown}
 use Rattle.ktm_types.specs.declared.command.Command.{Command}
-use Rattle.ktm_types.specs.declared.command.Command.TheVariants.{CommitTransaction, RollbackTransaction, GetTransactionInformation, CloseHandle, Exit, GetNotificationResourceManager, PrePrepareEnlistment, RecoverEnlistment, SinglePhaseReject, CommitComplete, RollbackComplete, RollbackEnlistment, SetEnlistmentRecoveryInformation, CreateFile, CreateFileTransacted, ReadFile, WriteFile, SetEndOfFile, GetFileSizeEx, FlushFileBuffers, DeleteFile, CreateDirectory, RemoveDirectory, MoveFile, DeleteFileTransacted, CreateDirectoryTransacted, RemoveDirectoryTransacted, MoveFileTransacted, FindFiles, FindFilesTransacted}
+use Rattle.ktm_types.specs.declared.command.Command.TheVariants.{CommitTransaction, RollbackTransaction, GetTransactionInformation, CloseHandle, Exit, GetNotificationResourceManager, PrePrepareEnlistment, PrepareEnlistment, CommitEnlistment, RecoverEnlistment, PrePrepareComplete, PrepareComplete, ReadOnlyEnlistment, SinglePhaseReject, CommitComplete, RollbackComplete, RollbackEnlistment, SetEnlistmentRecoveryInformation, CreateFile, CreateFileTransacted, ReadFile, WriteFile, SetEndOfFile, GetFileSizeEx, FlushFileBuffers, DeleteFile, CreateDirectory, RemoveDirectory, MoveFile, DeleteFileTransacted, CreateDirectoryTransacted, RemoveDirectoryTransacted, MoveFileTransacted, FindFiles, FindFilesTransacted}
 use Rattle.ktm_world.specs.Decide.{command_tests, with_room}
 use Rattle.ktm_world.specs.Labels.{file_tests, transaction_named, transaction_tests}
 use Rattle.ktm_world.specs.Outcome.{first_refusal, is_full}
@@ -12,7 +12,6 @@ use Rattle.ktm_world.specs.Present.{Present}
 use Rattle.ktm_world.specs.TransactionCalls.{bound_test}
 use Rattle.ktm_route.specs.declared.asked.Asked.{Asked}
 use Rattle.ktm_route.specs.declared.asked.Asked.TheVariants.{Call, Tick}
-use Rattle.ktm_memory.specs.Takes.{has_work}
 
 -- the tests that are made without memory: those of the labels where a path is looked for or bytes are read, and else all
 abbrev pub early_tests : Present → Pid → Command → List (Bool × Refusal)
@@ -41,14 +40,19 @@ has_log_room x process command = not (is_full x.machine.left (with_room x proces
 
 -- may a command take memory for what it does
 abbrev pub effect_takes_memory : Present → Pid → Command → Bool
-effect_takes_memory x process (CommitTransaction label) = has_work x (transaction_named x process label)
+effect_takes_memory x process (CommitTransaction label) = false
 effect_takes_memory x process (RollbackTransaction label) = false
 effect_takes_memory x process (GetTransactionInformation label) = false
 effect_takes_memory x process (CloseHandle label) = false
 effect_takes_memory x process Exit = false
 effect_takes_memory x process (GetNotificationResourceManager label) = false
 effect_takes_memory x process (PrePrepareEnlistment label) = false
+effect_takes_memory x process (PrepareEnlistment label) = false
+effect_takes_memory x process (CommitEnlistment label) = false
 effect_takes_memory x process (RecoverEnlistment label) = false
+effect_takes_memory x process (PrePrepareComplete label) = false
+effect_takes_memory x process (PrepareComplete label) = false
+effect_takes_memory x process (ReadOnlyEnlistment label) = false
 effect_takes_memory x process (SinglePhaseReject label) = false
 effect_takes_memory x process (CommitComplete label) = false
 effect_takes_memory x process (RollbackComplete label) = false

@@ -58,6 +58,7 @@ impl<'a, D: Disk> CachedRow<'a, D> {
         ensures cache { self.exit.1.0.now ≡ self.entry.cache.now }
         ensures stands { IfSome (D.told self.exit.0.now) (Stands self.entry.begin self.entry.pages) }
         ensures agrees { Agrees self.exit.1.0.now (row_told self.entry.begin self.entry.pages (D.told self.exit.0.now)) }
+        ensures pending { (D.status self.exit.0.now).pending ≤ MOST_PENDING }
     {}
 }
 
@@ -79,6 +80,7 @@ impl<'a, D: Disk> PageIo for CachedRow<'a, D> {
         ensures calls { DeviceCalls 2 (D.status self.old.disk.now) (D.status self.new.disk.now) (is_err result) }
         ensures kept { Keeps self.old.cache.now page → OnErr result ⊥ × (self.new.disk.now ≡ self.old.disk.now) }
         ensures used { OnOk result (self.new.cache.now.kept ≡ used page buf.new self.old.cache.now.kept) }
+        ensures err { OnErr result (self.new.cache.now ≡ self.old.cache.now) }
     {
         let mut row = Row::again(self.disk, self.begin, self.pages, self.waits);
         let result = self.cache.read(&mut row, page, buf);

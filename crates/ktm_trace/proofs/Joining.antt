@@ -3,22 +3,20 @@ use Rattle.std.proofs.Common.{◌≡◌, ◌||◌, not, Bool, true, false, List,
 use Rattle.std.specs.Prelude.{if◌then◌else◌}
 use Rattle.std.specs.List.{list_any}
 use Rattle.std.proofs.lemmas.Bool.{cases_Bool}
-use Rattle.std.proofs.lemmas.Option.{none-some, same_Some}
+use Rattle.std.proofs.lemmas.Option.{none-some}
 use Rattle.ktm_base.specs.declared.id.Id.{Id}
 use Rattle.ktm_types.specs.declared.event.DonePart.{DonePart}
 use Rattle.ktm_types.specs.declared.recorded.RecordedPart.{RecordedPart}
 use Rattle.ktm_types.specs.declared.recorded.Stage.{Stage}
-use Rattle.ktm_world.specs.Durable.{Recorded, is_ready}
+use Rattle.ktm_world.specs.Durable.{Recorded}
 use Rattle.ktm_world.specs.Transactions.{same_id}
-use Rattle.txf_laws.specs.Elements.{IsIn}
-use Rattle.txf_laws.proofs.offered.Elements.{list_any-from}
 use Rattle.txf_laws.proofs.offered.Tables.{same_id-equal, same_id-from, same_id-sym}
 use Rattle.ktm_trace.specs.declared.heads.Head.{Head}
 use Rattle.ktm_trace.specs.declared.marks.Mark.{Mark}
-use Rattle.ktm_trace.specs.Joined.{AreJoined, has_undone_mark, head_id, head_or_new, is_mark_by, is_mark_of, joined, joined_all, mark_of, marked_part, marks_done, marks_with, parts_at, without_marks}
+use Rattle.ktm_trace.specs.Joined.{AreJoined, has_undone_mark, head_id, head_or_new, is_mark_by, is_mark_of, joined, joined_all, mark_of, marked_part, marks_done, parts_at, without_marks}
 use Rattle.ktm_trace.specs.Placed.{Rises, at_id, placed, without_id}
 use Rattle.ktm_trace.specs.Traces.{Traced, TracedPart, id_of, marked, once_decided, once_done, once_held, once_ready, same_participant, stays_while_not_done, superior_id, traced, traced_or, traced_or_new, traced_part, with_ready, without_done}
-use Rattle.ktm_trace.proofs.Placed.{absent-without, at-others, at-placed, made, map-at, map-filter, map-placed, map-rises, placed-without, rises-filter, rises-placed, taken-none}
+use Rattle.ktm_trace.proofs.Placed.{absent-without, at-others, at-placed, found-id, made, map-at, map-filter, map-placed, map-rises, placed-without, rises-filter, rises-placed, taken-none}
 
 -- ---- parts
 
@@ -158,6 +156,9 @@ not-among hs ms id none = go (at_id head_id hs id) (sym (at-joined hs ms id) ∙
     go None is = refl
     go (Some h) is = absurd (none-some (joined ms h) (sym is))
 
+pub rises-joined : (hs : List Head) (ms : List Mark) → AreJoined hs ms → Rises id_of (joined_all hs ms)
+rises-joined hs ms are = map-rises head_id id_of (joined ms) (λ g. refl) hs are.rise
+
 -- the transactions and parts are joined, and come to these
 pub record Comes (hs : List Head) (ms : List Mark) (ts : List Traced) : Type 0 where
   pub are : AreJoined hs ms
@@ -174,7 +175,7 @@ put-itself hs ms ns h are keeps = record {
   };
   is = map-placed head_id id_of (joined ns) (λ g. refl) (without_id head_id hs h.id) h
       ∙ ap (λ ts. placed id_of ts (joined ns h)) (others-joined hs ms ns h.id keeps ∙ without-joined hs ms h.id)
-      ∙ placed-without id_of (joined_all hs ms) (joined ns h) (map-rises head_id id_of (joined ms) (λ g. refl) hs are.rise);
+      ∙ placed-without id_of (joined_all hs ms) (joined ns h) (rises-joined hs ms are);
 }
 
 -- one is taken out and put back, changed
@@ -217,14 +218,7 @@ stays hs ms ns h id hs' hs'' ns' are itself keeps left heads marks = elim (cases
 
 pub new-id : (id : Id) (o : Option Head) (hs : List Head) → at_id head_id hs id ≡ o → (head_or_new id o).id ≡ id
 new-id id None hs found = refl
-new-id id (Some h) hs found = found-id hs h found
-  where
-    found-id : (hs : List Head) (h : Head) → at_id head_id hs id ≡ Some h → h.id ≡ id
-    found-id [] h found = absurd (none-some h found)
-    found-id (a ∷ hs) h found = elim (cases_Bool (same_id a.id id)) [
-      | inl same ↦ ap (λ (g : Head). g.id) (sym (same_Some a h (rw same at found))) ∙ same_id-equal a.id id same
-      | inr other ↦ found-id hs h (rw other at found)
-    ]
+new-id id (Some h) hs found = found-id head_id hs id h found
 
 new-joined : (hs : List Head) (ms : List Mark) (id : Id) (o : Option Head) → AreJoined hs ms → at_id head_id hs id ≡ o → joined ms (head_or_new id o) ≡ traced_or id (made (joined ms) o)
 new-joined hs ms id None are found = λ i. record { id = id; stage = Stage.Ready; superior = None; parts = are.known id found i }
@@ -289,53 +283,3 @@ added-comes hs ms t hs' ns are none heads marks =
     let back = put-back hs ms (ms ++ map (mark_of t.id) t.parts) h t.id are refl keeps in
     let first = subst (λ (l : List Head). Comes (placed head_id l h) (ms ++ map (mark_of t.id) t.parts) (placed id_of (joined_all hs ms) (joined (ms ++ map (mark_of t.id) t.parts) h))) (absent-without head_id hs t.id none) back in
     rw (heads, marks) (subst (λ (ps : List TracedPart). Comes (placed head_id hs h) (ms ++ map (mark_of t.id) t.parts) (placed id_of (joined_all hs ms) (record { id = t.id; stage = t.stage; superior = superior_id t.superior; parts = ps }))) parts first)
-
--- ---- a boot
-
-kept-parts : (hs : List Head) (ms : List Mark) (id : Id) → list_any (λ (h : Head). same_id h.id id) hs ≡ true → parts_at (marks_with hs ms) id ≡ parts_at ms id
-kept-parts hs [] id there = refl
-kept-parts hs (m ∷ ms) id there = elim (cases_Bool (is_mark_of id m)) [
-  | inl is ↦
-      let known = ap (λ i. list_any (λ (h : Head). same_id h.id i) hs) (same_id-equal m.transaction id is) ∙ there in
-      rw (known, is) (ap (λ l. marked_part m ∷ l) (kept-parts hs ms id there))
-  | inr other ↦ elim (cases_Bool (list_any (λ (h : Head). same_id h.id m.transaction) hs)) [
-    | inl known ↦ rw (known, other) (kept-parts hs ms id there)
-    | inr unknown ↦ rw (unknown, other) (kept-parts hs ms id there)
-  ]
-]
-
-none-any : (hs : List Head) (id : Id) → at_id head_id hs id ≡ None → list_any (λ (h : Head). same_id h.id id) hs ≡ false
-none-any [] id none = refl
-none-any (h ∷ hs) id none = elim (cases_Bool (same_id h.id id)) [
-  | inl same ↦ absurd (none-some h (sym (rw same at none)))
-  | inr other ↦ rw other (none-any hs id (rw other at none))
-]
-
-lost-parts : (hs : List Head) (ms : List Mark) (id : Id) → list_any (λ (h : Head). same_id h.id id) hs ≡ false → parts_at (marks_with hs ms) id ≡ []
-lost-parts hs [] id none = refl
-lost-parts hs (m ∷ ms) id none = elim (cases_Bool (is_mark_of id m)) [
-  | inl is ↦
-      let unknown = ap (λ i. list_any (λ (h : Head). same_id h.id i) hs) (same_id-equal m.transaction id is) ∙ none in
-      rw unknown (lost-parts hs ms id none)
-  | inr other ↦ elim (cases_Bool (list_any (λ (h : Head). same_id h.id m.transaction) hs)) [
-    | inl known ↦ rw (known, other) (lost-parts hs ms id none)
-    | inr unknown ↦ rw unknown (lost-parts hs ms id none)
-  ]
-]
-
-kept-joined : (all hs : List Head) (ms : List Mark) → ((h : Head) → IsIn h hs → list_any (λ (g : Head). same_id g.id h.id) all ≡ true) → joined_all hs (marks_with all ms) ≡ joined_all hs ms
-kept-joined all [] ms known = refl
-kept-joined all (h ∷ hs) ms known =
-    λ i. record { id = h.id; stage = h.stage; superior = h.superior; parts = kept-parts all ms h.id (known h (inl refl)) i } ∷ kept-joined all hs ms (λ g there. known g (inr there)) i
-
-pub boot-comes : (hs : List Head) (ms : List Mark) (hs' : List Head) (ns : List Mark) → AreJoined hs ms → hs' ≡ filter (λ (h : Head). not (is_ready h.stage)) hs → ns ≡ marks_with hs' ms
-    → Comes hs' ns (filter (λ (t : Traced). not (is_ready t.stage)) (joined_all hs ms))
-boot-comes hs ms hs' ns are heads marks = record {
-  are = record {
-    rise = subst (Rises head_id) (sym heads) (rises-filter head_id (λ (h : Head). not (is_ready h.stage)) hs are.rise);
-    known = λ id none. ap (λ (l : List Mark). parts_at l id) marks ∙ lost-parts hs' ms id (none-any hs' id none);
-  };
-  is = ap (joined_all hs') marks ∙ kept-joined hs' hs' ms (λ h there. list_any-from (λ (g : Head). same_id g.id h.id) hs' h there (same_id-from h.id h.id refl))
-      ∙ ap (λ (l : List Head). joined_all l ms) heads
-      ∙ map-filter (λ (h : Head). not (is_ready h.stage)) (λ (t : Traced). not (is_ready t.stage)) (joined ms) (λ h. refl) hs;
-}

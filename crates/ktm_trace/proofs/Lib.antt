@@ -5,3 +5,5 @@ pub mod Joining
 pub mod Noting
 pub mod Changed
 pub mod Bringing
+pub mod Few
+pub mod offered

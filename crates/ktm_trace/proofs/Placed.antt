@@ -1,11 +1,11 @@
 -- Things with Ids, by rising Id: one is taken out, changed and put back.
-use Rattle.std.proofs.Common.{◌≡◌, ℕ, suc, ◌+◌, ◌<◌, not, Bool, true, false, List, [], ◌∷◌, ◌++◌, length, map, filter, get_or, Option, Some, None, refl, sym, ◌∙◌, ap, subst, arith, inl, inr, ◌⊎◌}
+use Rattle.std.proofs.Common.{◌≡◌, ℕ, suc, ◌+◌, ◌<◌, ◌≤◌, not, Bool, true, false, List, [], ◌∷◌, ◌++◌, length, map, filter, get_or, sum_by, Option, Some, None, refl, sym, ◌∙◌, ap, subst, arith, inl, inr, ◌⊎◌}
 use Rattle.std.specs.Prelude.{nat_lt, slice_get}
 use Rattle.std.specs.List.{insert, list_all, position, position_or_len, prefix_len, remove}
 use Rattle.std.specs.Option.{unwrap_or}
 use Rattle.std.proofs.lemmas.Bool.{and_from, and_parts, cases_Bool, false_from_ne_true, ltb-false, ltb-true}
 use Rattle.std.proofs.lemmas.List.Folds.{find_at}
-use Rattle.std.proofs.lemmas.List.Sums.{prefix_len-le-length}
+use Rattle.std.proofs.lemmas.List.Sums.{prefix_len-le-length, sum_by-cons}
 use Rattle.std.proofs.lemmas.Option.{none-some, same_Some, slice_get-get_or, slice_get_past}
 use Rattle.ktm_base.specs.declared.id.Id.{Id}
 use Rattle.ktm_world.specs.Durable.{is_before}
@@ -13,6 +13,7 @@ use Rattle.ktm_world.specs.Transactions.{same_id}
 use Rattle.txf_laws.specs.Elements.{IsIn}
 use Rattle.txf_laws.proofs.offered.Diamonds.{IsIn-right}
 use Rattle.txf_laws.proofs.offered.Elements.{each_pair-filter, list_all-at, list_all-from}
+use Rattle.txf_laws.proofs.offered.Sums.{sum-filter-less}
 use Rattle.txf_laws.proofs.offered.Tables.{before_other, is_before-then, is_before-turned, same_id-equal, same_id-sym}
 use Rattle.ktm_trace.specs.Placed.{Rises, at_id, placed, without_id}
 
@@ -93,6 +94,14 @@ module _ {X : Type 0} (id_of : X → Id) where
   -- behind the one with the Id there is no other
   behind-same : (a : X) (xs : List X) (id : Id) → Rises id_of (a ∷ xs) → same_id (id_of a) id ≡ true → (x : X) → IsIn x xs → is_before id (id_of x) ≡ true
   behind-same a xs id rises same x there = subst (λ i. is_before i (id_of x) ≡ true) (same_id-equal (id_of a) id same) (rises-first a xs rises x there)
+
+  -- the one with an Id has it
+  pub found-id : (xs : List X) (id : Id) (x : X) → at_id id_of xs id ≡ Some x → id_of x ≡ id
+  found-id [] id x found = absurd (none-some x found)
+  found-id (a ∷ xs) id x found = elim (cases_Bool (same_id (id_of a) id)) [
+    | inl same ↦ ap id_of (sym (same_Some a x (rw same at found))) ∙ same_id-equal (id_of a) id same
+    | inr other ↦ found-id xs id x (rw other at found)
+  ]
 
   -- ---- taken out
 
@@ -230,6 +239,63 @@ module _ {X : Type 0} (id_of : X → Id) where
 
   pub rises-filter : (keep : X → Bool) (xs : List X) → Rises id_of xs → Rises id_of (filter keep xs)
   rises-filter keep xs rises = each_pair-filter (λ x y. is_before (id_of x) (id_of y)) keep xs rises
+
+  -- ---- sums over them, and how many there are
+
+  pub sum-placed : (f : X → ℕ) (xs : List X) (x : X) → sum_by f (placed id_of xs x) ≤ sum_by f xs + f x
+  sum-placed f [] x = let one = sum_by-cons f x [] in omega arith
+  sum-placed f (a ∷ xs) x =
+      let old = sum_by-cons f a xs in
+      elim (cases_Bool (same_id (id_of a) (id_of x))) [
+        | inl same ↦ rw same (let new = sum_by-cons f x xs in omega arith)
+        | inr other ↦ elim (cases_Bool (is_before (id_of x) (id_of a))) [
+          | inl before ↦ rw (other, before) (let new = sum_by-cons f x (a ∷ xs) in omega arith)
+          | inr behind ↦ rw (other, behind) (let rest = sum-placed f xs x in let new = sum_by-cons f a (placed id_of xs x) in omega arith)
+        ]
+      ]
+
+  sum-taken : (f : X → ℕ) (xs : List X) (id : Id) (x : X) → at_id id_of xs id ≡ Some x → sum_by f (without_id id_of xs id) + f x ≤ sum_by f xs
+  sum-taken f [] id x found = absurd (none-some x found)
+  sum-taken f (a ∷ xs) id x found =
+      let old = sum_by-cons f a xs in
+      elim (cases_Bool (same_id (id_of a) id)) [
+        | inl same ↦
+            let it = ap f (same_Some a x (rw same at found)) in
+            let rest = sum-filter-less f (λ y. not (same_id (id_of y) id)) xs in
+            rw same (omega arith)
+        | inr other ↦
+            let rest = sum-taken f xs id x (rw other at found) in
+            let new = sum_by-cons f a (without_id id_of xs id) in
+            rw other (omega arith)
+      ]
+
+  -- one is put in place of the one with its Id
+  pub sum-changed : (f : X → ℕ) (xs : List X) (x y : X) → Rises id_of xs → at_id id_of xs (id_of x) ≡ Some y → sum_by f (placed id_of xs x) + f y ≤ sum_by f xs + f x
+  sum-changed f xs x y rises found =
+      let back = ap (sum_by f) (placed-without xs x rises) in
+      let put = sum-placed f (without_id id_of xs (id_of x)) x in
+      let left = sum-taken f xs (id_of x) y found in
+      omega arith
+
+  length-sum : (xs : List X) → sum_by (λ x. 1) xs ≡ length xs
+  length-sum [] = refl
+  length-sum (x ∷ xs) = let one = sum_by-cons (λ y. 1) x xs in let rest = length-sum xs in omega arith
+
+  pub length-placed : (xs : List X) (x : X) → length (placed id_of xs x) ≤ length xs + 1
+  length-placed xs x =
+      let put = sum-placed (λ y. 1) xs x in
+      let new = length-sum (placed id_of xs x) in
+      let old = length-sum xs in
+      omega arith
+
+  pub length-changed : (xs : List X) (x y : X) → Rises id_of xs → at_id id_of xs (id_of x) ≡ Some y → length (placed id_of xs x) ≤ length xs
+  length-changed xs x y rises found =
+      let put = sum-changed (λ z. 1) xs x y rises found in
+      let new = length-sum (placed id_of xs x) in
+      let old = length-sum xs in
+      omega arith
+
+  -- ---- what is not there
 
   -- no other Id is there once one is put at its place, and was not there before
   pub at-placed : (xs : List X) (x : X) (i : Id) → at_id id_of (placed id_of xs x) i ≡ None → (same_id (id_of x) i ≡ false) × (at_id id_of xs i ≡ None)

@@ -55,6 +55,6 @@ abbrev pub ContentsLaw : Type 0
 ContentsLaw = (x : Present) → IsSoundCourse x → IsGoodState x.recorded → Agrees x
     → map (expanded x.transactions.enlistments x.files.table.own x.keys.own) (traces_of x.recorded) ≡ x.recorded.transactions
 
--- memory keeps of that what it has
+-- what memory keeps is had again from what it is with the contents of the layers
 abbrev pub KeptLaw : Type 0
 KeptLaw = (es : List Enlistment) (changes : List OwnChanges) (settings : List Own) (ts : List Traced) → map traced (map (expanded es changes settings) ts) ≡ ts

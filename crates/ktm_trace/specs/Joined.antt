@@ -12,15 +12,15 @@ use Rattle.ktm_trace.specs.declared.marks.Mark.{Mark}
 use Rattle.ktm_trace.specs.Placed.{Rises, at_id}
 use Rattle.ktm_trace.specs.Traces.{Traced, TracedPart, same_participant, who_of}
 
--- transactions without their parts, and for how many more there is room
+-- transactions without their parts, and for how many there is room
 pub record HeadsState : Type 0 where
   pub heads : List Head
-  pub spare : ℕ
+  pub capacity : ℕ
 
--- parts of all transactions, and for how many more there is room
+-- parts of all transactions, and for how many there is room
 pub record MarksState : Type 0 where
   pub marks : List Mark
-  pub spare : ℕ
+  pub capacity : ℕ
 
 -- ---- one transaction
 
@@ -79,7 +79,3 @@ marks_done marks id done = if is_of_enlistment done then filter (λ m. not (is_m
 -- has the transaction a part that is not done
 abbrev pub has_undone_mark : List Mark → Id → Bool
 has_undone_mark marks id = list_any (λ m. is_mark_of id m && not m.is_done) marks
-
--- the parts of those transactions that are there
-abbrev pub marks_with : List Head → List Mark → List Mark
-marks_with heads marks = filter (λ m. list_any (λ h. same_id h.id m.transaction) heads) marks

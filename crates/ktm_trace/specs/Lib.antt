@@ -3,3 +3,4 @@ pub mod Traces
 pub mod Contents
 pub mod Joined
 pub mod Recordings
+pub mod Few

@@ -28,6 +28,23 @@ recording_of b = record {
   superior = enlistment_id_of b.superior;
 }
 
+-- how much room a fact takes: that of a transaction and of a part, where one may be ready or held by it
+abbrev pub room_of : Fact → ℕ
+room_of Fact.ReadyFiles = 1
+room_of Fact.ReadyKeys = 1
+room_of Fact.Ready = 1
+room_of Fact.Held = 1
+room_of _ = 0
+
+-- how much a step takes
+abbrev pub step_room : Step → ℕ
+step_room (Step.Record fact) = room_of fact
+step_room _ = 0
+
+-- how much steps take
+abbrev pub steps_room : List Step → ℕ
+steps_room steps = sum_by step_room steps
+
 -- ---- facts and steps, by what is read. No public clause cites what follows.
 
 -- what is made of the transactions with this enlistment, if there is one
@@ -56,23 +73,6 @@ is_noted_by Fact.ReadyKeys r = r.is_recorded || r.has_keys
 is_noted_by Fact.Ready r = is_some r.caller || r.is_recorded
 is_noted_by Fact.Held r = is_some r.superior || r.is_recorded
 is_noted_by _ r = r.is_recorded
-
--- how much room a fact takes: that of a transaction and of a part, where one may be ready or held by it
-abbrev pub room_of : Fact → ℕ
-room_of Fact.ReadyFiles = 1
-room_of Fact.ReadyKeys = 1
-room_of Fact.Ready = 1
-room_of Fact.Held = 1
-room_of _ = 0
-
--- how much a step takes
-abbrev pub step_room : Step → ℕ
-step_room (Step.Record fact) = room_of fact
-step_room _ = 0
-
--- how much steps take
-abbrev pub steps_room : List Step → ℕ
-steps_room steps = sum_by step_room steps
 
 -- what a step makes of the transactions
 abbrev pub step_noted : Recording → Step → List Traced → List Traced

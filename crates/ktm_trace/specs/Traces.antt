@@ -1,5 +1,5 @@
 -- What memory keeps of the log's transactions, and what events make of it.
-use Rattle.std.specs.Prelude.{◌≡◌, ℕ, ◌||◌, not, Bool, true, false, List, [], ◌∷◌, ◌++◌, map, filter, fold, Option, Some, None, if◌then◌else◌}
+use Rattle.std.specs.Prelude.{◌≡◌, ◌||◌, not, Bool, true, false, List, [], ◌∷◌, ◌++◌, map, filter, fold, Option, Some, None, if◌then◌else◌}
 use Rattle.std.specs.List.{list_any}
 use Rattle.ktm_base.specs.declared.id.Id.{Id}
 use Rattle.ktm_types.specs.declared.event.DonePart.{DonePart}
@@ -25,12 +25,6 @@ pub record Traced : Type 0 where
   -- the enlistment of its superior
   pub superior : Option Id
   pub parts : List TracedPart
-
--- the transactions by rising Id, for how many more there is room, and for how many parts more
-pub record TraceState : Type 0 where
-  pub transactions : List Traced
-  pub places : ℕ
-  pub spare : ℕ
 
 -- ---- of what was recorded
 

@@ -1,7 +1,7 @@
 // The transactions of the log, without their parts.
-ghost use Rattle.std.specs.Prelude.{◌≡◌, ◌+◌, ◌<◌, ◌≤◌, [], None, not, OnOk, IsOk, OnSome, filter, length};
-ghost use Rattle.std.specs.List.{list_any, position, position_or_len};
-ghost use Rattle.ktm_world.specs.Durable.{is_before, is_ready};
+ghost use Rattle.std.specs.Prelude.{◌≡◌, ◌<◌, ◌≤◌, [], None, IfOk, OnOk, OnSome, length};
+ghost use Rattle.std.specs.List.{position, position_or_len};
+ghost use Rattle.ktm_world.specs.Durable.{is_before};
 ghost use Rattle.ktm_world.specs.Transactions.{same_id};
 ghost use Rattle.ktm_trace.specs.Joined.{head_id, head_or_new};
 ghost use Rattle.ktm_trace.specs.Placed.{Rises, at_id, placed, without_id};
@@ -27,14 +27,14 @@ pub(crate) struct Heads {
 }
 
 impl Model for Heads {
-    ghost use Rattle.std.specs.Prelude.{◌-◌, vec_len, vec_capacity};
+    ghost use Rattle.std.specs.Prelude.{vec_capacity};
     ghost use Rattle.ktm_trace.specs.Joined.{HeadsState};
 
     ghost Value = { HeadsState };
 
     ghost view = { λ t. record {
       heads = t.items.items;
-      spare = vec_capacity t.items - vec_len t.items;
+      capacity = vec_capacity t.items;
     } };
 }
 
@@ -43,15 +43,6 @@ fn is_before(a: Id, b: Id) -> bool
     ensures { result ≡ is_before a b }
 {
     a.boot < b.boot || (a.boot == b.boot && a.number < b.number)
-}
-
-fn is_ready(stage: Stage) -> bool
-    ensures { result ≡ is_ready stage }
-{
-    match stage {
-        Stage::Ready => true,
-        Stage::Held | Stage::Decided => false,
-    }
 }
 
 // The index of the transaction with this Id.
@@ -77,30 +68,24 @@ fn place_of(items: &[Head], id: Id) -> usize
 }
 
 impl Heads {
-    pub(crate) fn new(alloc: Global) -> Self
-        ensures { result.heads ≡ [] }
+    /// No transactions, and room for so many.
+    pub(crate) fn with_capacity(alloc: Global, capacity: usize) -> Result<Self, NoMemory>
+        ensures none { IfOk result (λ heads. heads.heads ≡ []) }
+        ensures room { IfOk result (λ heads. capacity ≤ heads.capacity) }
     {
-        Heads {
-            items: Vec::new(alloc),
-        }
+        Ok(Heads {
+            items: Vec::with_capacity(alloc, capacity)?,
+        })
     }
 
-    /// Makes room for so many transactions more.
-    pub(crate) fn reserve(&mut self, many: usize) -> Result<(), NoMemory>
-        ensures room { OnOk result (many ≤ self.new.spare) }
-        ensures enough { many ≤ self.old.spare → IsOk result }
+    /// Makes room for one transaction more.
+    pub(crate) fn reserve_one(&mut self) -> Result<(), NoMemory>
+        ensures room { OnOk result (length self.new.heads < self.new.capacity) }
         ensures same { self.new.heads ≡ self.old.heads }
-        ensures spare { self.old.spare ≤ self.new.spare }
+        ensures capacity { self.old.capacity ≤ self.new.capacity }
     {
-        self.items.reserve(many)?;
+        self.items.reserve(1)?;
         Ok(())
-    }
-
-    /// Is there a transaction with this Id.
-    pub(crate) fn contains(&self, id: Id) -> bool
-        ensures { result ≡ list_any (λ h. same_id h.id id) self.now.heads }
-    {
-        self.items.iter().any(|h| h.id == id)
     }
 
     /// Takes the transaction with this Id out, which leaves room for it.
@@ -108,8 +93,8 @@ impl Heads {
         requires { Rises head_id self.old.heads }
         ensures taken { result ≡ at_id head_id self.old.heads id }
         ensures rest { self.new.heads ≡ without_id head_id self.old.heads id }
-        ensures room { OnSome result (self.old.spare + 1 ≤ self.new.spare) }
-        ensures spare { self.old.spare ≤ self.new.spare }
+        ensures room { OnSome result (length self.new.heads < self.new.capacity) }
+        ensures capacity { self.new.capacity ≡ self.old.capacity }
     {
         let Some(index) = index_of(&self.items, id) else {
             return None;
@@ -122,7 +107,7 @@ impl Heads {
         requires { Rises head_id self.old.heads }
         ensures taken { result ≡ head_or_new id (at_id head_id self.old.heads id) }
         ensures rest { self.new.heads ≡ without_id head_id self.old.heads id }
-        ensures spare { self.old.spare ≤ self.new.spare }
+        ensures capacity { self.new.capacity ≡ self.old.capacity }
     {
         match self.take(id) {
             Some(head) => head,
@@ -136,20 +121,12 @@ impl Heads {
 
     /// Puts a transaction at its place, where there is none with its Id. It takes no memory.
     pub(crate) fn put(&mut self, head: Head)
-        requires room { 0 < self.old.spare }
+        requires room { length self.old.heads < self.old.capacity }
         requires new { at_id head_id self.old.heads head.id ≡ None }
         ensures heads { self.new.heads ≡ placed head_id self.old.heads head }
-        ensures spare { self.old.spare ≤ self.new.spare + 1 }
+        ensures capacity { self.new.capacity ≡ self.old.capacity }
     {
         let place = place_of(&self.items, head.id);
         self.items.insert(place, head).unwrap();
-    }
-
-    /// Forgets the transactions that are ready and neither held nor decided.
-    pub(crate) fn forget_ready(&mut self)
-        ensures heads { self.new.heads ≡ filter (λ h. not (is_ready h.stage)) self.old.heads }
-        ensures spare { self.old.spare ≤ self.new.spare }
-    {
-        self.items.retain(|h| !is_ready(h.stage));
     }
 }

@@ -6,8 +6,10 @@ mod heads;
 mod laws;
 mod marks;
 mod recording;
+mod room;
 mod trace;
 
-pub use laws::{law_of_contents, law_of_kept, law_of_traces};
+pub use laws::{law_of_contents, law_of_few, law_of_kept, law_of_traces};
 pub use recording::Recording;
+pub use room::{MOST_LIVE_PARTS, MOST_NOTED};
 pub use trace::Trace;

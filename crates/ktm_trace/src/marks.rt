@@ -1,13 +1,10 @@
 // The parts of the transactions of the log, in the order in which they became ready.
-ghost use Rattle.std.specs.Prelude.{◌≡◌, ◌+◌, ◌<◌, ◌≤◌, ◌&&◌, ◌||◌, ◌++◌, ◌∷◌, [], not, true, OnOk, IsOk, length, map};
-ghost use Rattle.std.specs.List.{list_any};
+ghost use Rattle.std.specs.Prelude.{◌≡◌, ◌+◌, ◌<◌, ◌≤◌, ◌&&◌, ◌||◌, ◌++◌, ◌∷◌, [], true, IfOk, OnOk, length, map};
 ghost use Rattle.ktm_world.specs.Durable.{is_of_enlistment};
-ghost use Rattle.ktm_world.specs.Transactions.{same_id};
-ghost use Rattle.ktm_trace.specs.Joined.{has_undone_mark, is_mark_by, is_mark_of, mark_of, marks_done, marks_with, without_marks};
+ghost use Rattle.ktm_trace.specs.Joined.{has_undone_mark, is_mark_by, mark_of, marks_done, without_marks};
 ghost use Rattle.ktm_trace.specs.Traces.{same_participant, who_of};
 ghost use Rattle.ktm_trace.specs.declared.marks.Mark.{Mark as Marked};
 
-use crate::heads::Heads;
 use ktm_base::{Id, NoMemory};
 use ktm_types::{DonePart, Part, RecordedPart};
 use std::alloc::Global;
@@ -29,14 +26,14 @@ pub(crate) struct Marks {
 }
 
 impl Model for Marks {
-    ghost use Rattle.std.specs.Prelude.{◌-◌, vec_len, vec_capacity};
+    ghost use Rattle.std.specs.Prelude.{vec_capacity};
     ghost use Rattle.ktm_trace.specs.Joined.{MarksState};
 
     ghost Value = { MarksState };
 
     ghost view = { λ t. record {
       marks = t.items.items;
-      spare = vec_capacity t.items - vec_len t.items;
+      capacity = vec_capacity t.items;
     } };
 }
 
@@ -85,20 +82,21 @@ fn mark_done(marks: &mut [Mark], transaction: Id, done: DonePart)
 }
 
 impl Marks {
-    pub(crate) fn new(alloc: Global) -> Self
-        ensures { result.marks ≡ [] }
+    /// No parts, and room for so many.
+    pub(crate) fn with_capacity(alloc: Global, capacity: usize) -> Result<Self, NoMemory>
+        ensures none { IfOk result (λ marks. marks.marks ≡ []) }
+        ensures room { IfOk result (λ marks. capacity ≤ marks.capacity) }
     {
-        Marks {
-            items: Vec::new(alloc),
-        }
+        Ok(Marks {
+            items: Vec::with_capacity(alloc, capacity)?,
+        })
     }
 
     /// Makes room for so many parts more.
     pub(crate) fn reserve(&mut self, many: usize) -> Result<(), NoMemory>
-        ensures room { OnOk result (many ≤ self.new.spare) }
-        ensures enough { many ≤ self.old.spare → IsOk result }
+        ensures room { OnOk result (length self.new.marks + many ≤ self.new.capacity) }
         ensures same { self.new.marks ≡ self.old.marks }
-        ensures spare { self.old.spare ≤ self.new.spare }
+        ensures capacity { self.old.capacity ≤ self.new.capacity }
     {
         self.items.reserve(many)?;
         Ok(())
@@ -106,18 +104,18 @@ impl Marks {
 
     /// Puts a part behind all others. It takes no memory.
     pub(crate) fn push(&mut self, mark: Mark)
-        requires { 0 < self.old.spare }
+        requires { length self.old.marks < self.old.capacity }
         ensures marks { self.new.marks ≡ self.old.marks ++ mark ∷ [] }
-        ensures spare { self.old.spare ≤ self.new.spare + 1 }
+        ensures capacity { self.new.capacity ≡ self.old.capacity }
     {
         self.items.push_reserved(mark);
     }
 
     /// Puts the parts of a transaction behind all others. It takes no memory.
     pub(crate) fn add(&mut self, transaction: Id, parts: &[RecordedPart])
-        requires { length parts.now ≤ self.old.spare }
+        requires { length self.old.marks + length parts.now ≤ self.old.capacity }
         ensures marks { self.new.marks ≡ self.old.marks ++ map (mark_of transaction) parts.now }
-        ensures spare { self.old.spare ≤ self.new.spare + length parts.now }
+        ensures capacity { self.new.capacity ≡ self.old.capacity }
     {
         for part in parts {
             self.push(Mark {
@@ -140,24 +138,16 @@ impl Marks {
     /// Forgets the parts of the transaction.
     pub(crate) fn forget(&mut self, transaction: Id)
         ensures marks { self.new.marks ≡ without_marks self.old.marks transaction }
-        ensures spare { self.old.spare ≤ self.new.spare }
+        ensures capacity { self.new.capacity ≡ self.old.capacity }
     {
         self.items.retain(|m| m.transaction != transaction);
-    }
-
-    /// Forgets the parts of transactions that are not there.
-    pub(crate) fn keep(&mut self, heads: &Heads)
-        ensures marks { self.new.marks ≡ marks_with heads.now.heads self.old.marks }
-        ensures spare { self.old.spare ≤ self.new.spare }
-    {
-        self.items.retain(|m| heads.contains(m.transaction));
     }
 
     // The enlistment is taken out.
     fn take_out(&mut self, transaction: Id, done: DonePart)
         requires { is_of_enlistment done ≡ true }
         ensures marks { self.new.marks ≡ marks_done self.old.marks transaction done }
-        ensures spare { self.old.spare ≤ self.new.spare }
+        ensures capacity { self.new.capacity ≡ self.old.capacity }
     {
         self.items.retain(|m| !is_mark_by(transaction, done, m));
     }
@@ -165,7 +155,7 @@ impl Marks {
     /// A participant of the transaction is done: an enlistment is taken out, and another part is marked.
     pub(crate) fn finish(&mut self, transaction: Id, done: DonePart)
         ensures marks { self.new.marks ≡ marks_done self.old.marks transaction done }
-        ensures spare { self.old.spare ≤ self.new.spare }
+        ensures capacity { self.new.capacity ≡ self.old.capacity }
     {
         match done {
             DonePart::Enlistment(_) => self.take_out(transaction, done),

@@ -1,6 +1,6 @@
 // What is read of a transaction when its steps are recorded.
-ghost use Rattle.std.specs.Prelude.{◌≡◌, ◌≤◌};
-ghost use Rattle.ktm_trace.specs.Recordings.{behind_step, is_noted_by, step_room, steps_room};
+ghost use Rattle.std.specs.Prelude.{◌≡◌};
+ghost use Rattle.ktm_trace.specs.Recordings.{behind_step, is_noted_by};
 
 use ktm_base::Id;
 use ktm_types::{Fact, Step};
@@ -19,31 +19,6 @@ pub struct Recording {
     pub caller: Option<Id>,
     /// The enlistment of its superior, if it has one.
     pub superior: Option<Id>,
-}
-
-// How much room a step takes.
-fn step_room(step: &Step) -> usize
-    ensures value { result ≡ step_room step.now }
-    ensures few { result ≤ 1 }
-{
-    match step {
-        Step::Record(fact) => match fact {
-            Fact::ReadyFiles | Fact::ReadyKeys | Fact::Ready | Fact::Held => 1,
-            _ => 0,
-        },
-        _ => 0,
-    }
-}
-
-/// How much room the steps take: of so many transactions, and of so many parts.
-pub(crate) fn steps_room(steps: &[Step]) -> usize
-    ensures { result ≡ steps_room steps.now }
-{
-    let mut room = 0;
-    for step in steps {
-        room += step_room(step);
-    }
-    room
 }
 
 impl Recording {

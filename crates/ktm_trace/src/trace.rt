@@ -1,15 +1,16 @@
 // The transactions of the log, as memory keeps them.
-ghost use Rattle.std.specs.Prelude.{◌≡◌, ◌+◌, ◌<◌, ◌≤◌, [], None, not, IfOk, OnOk, IsOk, filter, fold, length, map, if◌then◌else◌};
-ghost use Rattle.ktm_world.specs.Durable.{is_ready};
+ghost use Rattle.std.specs.Prelude.{◌≡◌, ◌<◌, ◌≤◌, [], None, IfOk, OnErr, OnOk, fold, length, map, if◌then◌else◌};
 ghost use Rattle.ktm_world.specs.Steps.{Basis, events_ahead};
+ghost use Rattle.ktm_trace.specs.Few.{AreFew, HasMore, HasRoom};
 ghost use Rattle.ktm_trace.specs.Joined.{has_undone_mark, head_id, without_marks};
 ghost use Rattle.ktm_trace.specs.Placed.{Rises, at_id, placed, without_id};
-ghost use Rattle.ktm_trace.specs.Recordings.{behind_step, noted, recording_of, room_of, step_noted, step_room, steps_room};
+ghost use Rattle.ktm_trace.specs.Recordings.{noted, recording_of, room_of, step_noted, step_room, steps_room};
 ghost use Rattle.ktm_trace.specs.Traces.{id_of, once_decided, once_done, once_held, once_ready, recorded_id, superior_id, traced, traces_after};
 
 use crate::heads::{Head, Heads};
 use crate::marks::{Mark, Marks};
-use crate::recording::{Recording, steps_room};
+use crate::recording::Recording;
+use crate::room::{MOST_HEADS, MOST_MARKS, MOST_NOTED};
 use ktm_base::{Id, NoMemory};
 use ktm_types::{DonePart, Fact, Stage, Step, Superior};
 use ktm_world::Recorded;
@@ -25,18 +26,16 @@ pub struct Trace {
 }
 
 impl Model for Trace {
+    ghost use Rattle.std.specs.Prelude.{List};
+    ghost use Rattle.ktm_trace.specs.Few.{IsEnough};
     ghost use Rattle.ktm_trace.specs.Joined.{AreJoined, joined_all};
-    ghost use Rattle.ktm_trace.specs.Traces.{TraceState};
+    ghost use Rattle.ktm_trace.specs.Traces.{Traced};
 
-    ghost Value = { TraceState };
+    ghost Value = { List Traced };
 
-    ghost view = { λ t. record {
-      transactions = joined_all t.heads.heads t.marks.marks;
-      places = t.heads.spare;
-      spare = t.marks.spare;
-    } };
+    ghost view = { λ t. joined_all t.heads.heads t.marks.marks };
 
-    ghost invariant = { λ t. AreJoined t.heads.heads t.marks.marks };
+    ghost invariant = { λ t. AreJoined t.heads.heads t.marks.marks × IsEnough t.heads.capacity t.marks.capacity };
 }
 
 // The enlistment of a superior, if there is one.
@@ -51,12 +50,12 @@ fn superior_id(superior: &Option<Superior>) -> Option<Id>
 
 // Puts a transaction back while a part of it is not done, and else forgets its parts.
 fn put_while_not_done(heads: &mut Heads, marks: &mut Marks, head: Head)
-    requires room { 0 < heads.old.spare }
+    requires room { length heads.old.heads < heads.old.capacity }
     requires new { at_id head_id heads.old.heads head.id ≡ None }
     ensures heads { heads.new.heads ≡ (if has_undone_mark marks.old.marks head.id then placed head_id heads.old.heads head else heads.old.heads) }
     ensures marks { marks.new.marks ≡ (if has_undone_mark marks.old.marks head.id then marks.old.marks else without_marks marks.old.marks head.id) }
-    ensures places { heads.old.spare ≤ heads.new.spare + 1 }
-    ensures spare { marks.old.spare ≤ marks.new.spare }
+    ensures head_capacity { heads.new.capacity ≡ heads.old.capacity }
+    ensures mark_capacity { marks.new.capacity ≡ marks.old.capacity }
 {
     if marks.has_undone(head.id) {
         heads.put(head);
@@ -66,99 +65,64 @@ fn put_while_not_done(heads: &mut Heads, marks: &mut Marks, head: Head)
 }
 
 impl Trace {
-    /// No transactions.
-    pub fn new(alloc: Global) -> Self
-        ensures { result.transactions ≡ [] }
+    // No transactions, and room for all that may come.
+    fn new(alloc: Global) -> Result<Self, NoMemory>
+        ensures { IfOk result (λ trace. trace ≡ []) }
     {
-        Trace {
-            heads: Heads::new(alloc),
-            marks: Marks::new(alloc),
-        }
+        Ok(Trace {
+            heads: Heads::with_capacity(alloc, MOST_HEADS)?,
+            marks: Marks::with_capacity(alloc, MOST_MARKS)?,
+        })
     }
 
-    /// The transactions of the log, which stand by rising Id.
+    /// The transactions of the log, which stand by rising Id, and room for all that may come.
     pub fn of(alloc: Global, transactions: &[Recorded]) -> Result<Self, NoMemory>
         requires rise { Rises recorded_id transactions.now }
-        ensures transactions { IfOk result (λ trace. trace.transactions ≡ map traced transactions.now) }
+        ensures transactions { IfOk result (λ trace. trace ≡ map traced transactions.now) }
     {
-        let mut trace = Trace::new(alloc);
+        let mut trace = Trace::new(alloc)?;
         for transaction in transactions {
-            trace.reserve(1, transaction.parts.len())?;
-            trace.add(transaction);
+            trace.add(transaction)?;
         }
         Ok(trace)
     }
 
-    /// Makes room for so many transactions and so many parts more.
-    pub fn reserve(&mut self, many: usize, parts: usize) -> Result<(), NoMemory>
-        ensures places { OnOk result (many ≤ self.new.places) }
-        ensures spare { OnOk result (parts ≤ self.new.spare) }
-        ensures enough { many ≤ self.old.places → parts ≤ self.old.spare → IsOk result }
-        ensures same { self.new.transactions ≡ self.old.transactions }
-        ensures places_kept { self.old.places ≤ self.new.places }
-        ensures spare_kept { self.old.spare ≤ self.new.spare }
+    // Brings a transaction of the log back, with its parts, where there is memory for it. It takes none while few are there.
+    fn add(&mut self, transaction: &Recorded) -> Result<(), NoMemory>
+        requires { at_id id_of self.old transaction.now.id ≡ None }
+        ensures transactions { OnOk result (self.new ≡ placed id_of self.old (traced transaction.now)) }
+        ensures no_memory { OnErr result (self.new ≡ self.old) }
     {
-        self.heads.reserve(many)?;
-        self.marks.reserve(parts)
-    }
-
-    /// Makes room for what the steps record.
-    pub fn reserve_for(&mut self, steps: &[Step]) -> Result<(), NoMemory>
-        ensures places { OnOk result (steps_room steps.now ≤ self.new.places) }
-        ensures spare { OnOk result (steps_room steps.now ≤ self.new.spare) }
-        ensures enough { steps_room steps.now ≤ self.old.places → steps_room steps.now ≤ self.old.spare → IsOk result }
-        ensures same { self.new.transactions ≡ self.old.transactions }
-        ensures places_kept { self.old.places ≤ self.new.places }
-        ensures spare_kept { self.old.spare ≤ self.new.spare }
-    {
-        let room = steps_room(steps);
-        self.reserve(room, room)
-    }
-
-    /// Brings a transaction of the log back, with its parts. It takes no memory.
-    pub fn add(&mut self, transaction: &Recorded)
-        requires places { 0 < self.old.places }
-        requires spare { length transaction.now.parts ≤ self.old.spare }
-        requires new { at_id id_of self.old.transactions transaction.now.id ≡ None }
-        ensures transactions { self.new.transactions ≡ placed id_of self.old.transactions (traced transaction.now) }
-        ensures places { self.old.places ≤ self.new.places + 1 }
-        ensures spare { self.old.spare ≤ self.new.spare + length transaction.now.parts }
-    {
+        self.heads.reserve_one()?;
+        self.marks.reserve(transaction.parts.len())?;
         self.heads.put(Head {
             id: transaction.id,
             stage: transaction.stage,
             superior: superior_id(&transaction.superior),
         });
         self.marks.add(transaction.id, &transaction.parts);
+        Ok(())
     }
 
-    /// The machine has started: transactions that were ready alone are forgotten.
-    pub fn boot(&mut self)
-        ensures transactions { self.new.transactions ≡ filter (λ t. not (is_ready t.stage)) self.old.transactions }
-        ensures places { self.old.places ≤ self.new.places }
-        ensures spare { self.old.spare ≤ self.new.spare }
-    {
-        self.heads.forget_ready();
-        self.marks.keep(&self.heads);
-    }
-
-    /// The transaction rolls back, and is forgotten.
-    pub fn undo(&mut self, transaction: Id)
-        ensures transactions { self.new.transactions ≡ without_id id_of self.old.transactions transaction }
-        ensures places { self.old.places ≤ self.new.places }
-        ensures spare { self.old.spare ≤ self.new.spare }
+    // The transaction rolls back, and is forgotten.
+    fn undo(&mut self, transaction: Id)
+        ensures transactions { self.new ≡ without_id id_of self.old transaction }
     {
         let _ = self.heads.take(transaction);
         self.marks.forget(transaction);
     }
 
+    // They stand by rising Id.
+    fn law_of_order(&self)
+        ensures { Rises id_of self.now }
+    {
+        let _ = &self.heads;
+    }
+
     // A participant of the transaction is ready.
     fn ready(&mut self, transaction: Id, who: DonePart)
-        requires places { 0 < self.old.places }
-        requires spare { 0 < self.old.spare }
-        ensures transactions { self.new.transactions ≡ once_ready self.old.transactions transaction who }
-        ensures places { self.old.places ≤ self.new.places + 1 }
-        ensures spare { self.old.spare ≤ self.new.spare + 1 }
+        requires { HasRoom self.old }
+        ensures { self.new ≡ once_ready self.old transaction who }
     {
         let head = self.heads.take_or_new(transaction);
         self.heads.put(head);
@@ -171,10 +135,8 @@ impl Trace {
 
     // The transaction waits for this superior.
     fn hold(&mut self, transaction: Id, superior: Id)
-        requires { 0 < self.old.places }
-        ensures transactions { self.new.transactions ≡ once_held self.old.transactions transaction superior }
-        ensures places { self.old.places ≤ self.new.places + 1 }
-        ensures spare { self.old.spare ≤ self.new.spare }
+        requires { HasRoom self.old }
+        ensures { self.new ≡ once_held self.old transaction superior }
     {
         let head = self.heads.take_or_new(transaction);
         self.heads.put(Head {
@@ -186,9 +148,7 @@ impl Trace {
 
     // The transaction is decided, and stays while a part of it is not done.
     fn decide(&mut self, transaction: Id)
-        ensures transactions { self.new.transactions ≡ once_decided self.old.transactions (at_id id_of self.old.transactions transaction) }
-        ensures places { self.old.places ≤ self.new.places }
-        ensures spare { self.old.spare ≤ self.new.spare }
+        ensures { self.new ≡ once_decided self.old (at_id id_of self.old transaction) }
     {
         let Some(head) = self.heads.take(transaction) else {
             return;
@@ -201,11 +161,9 @@ impl Trace {
         put_while_not_done(&mut self.heads, &mut self.marks, head);
     }
 
-    /// A participant of the transaction is done, and it stays while a part of it is not done.
-    pub fn finish(&mut self, transaction: Id, done: DonePart)
-        ensures transactions { self.new.transactions ≡ once_done self.old.transactions done (at_id id_of self.old.transactions transaction) }
-        ensures places { self.old.places ≤ self.new.places }
-        ensures spare { self.old.spare ≤ self.new.spare }
+    // A participant of the transaction is done, and it stays while a part of it is not done.
+    fn finish(&mut self, transaction: Id, done: DonePart)
+        ensures transactions { self.new ≡ once_done self.old done (at_id id_of self.old transaction) }
     {
         let Some(head) = self.heads.take(transaction) else {
             return;
@@ -216,11 +174,8 @@ impl Trace {
 
     // A participant is ready, if it takes part.
     fn ready_if(&mut self, takes_part: bool, transaction: Id, who: DonePart)
-        requires places { 0 < self.old.places }
-        requires spare { 0 < self.old.spare }
-        ensures transactions { self.new.transactions ≡ (if takes_part then once_ready self.old.transactions transaction who else self.old.transactions) }
-        ensures places { self.old.places ≤ self.new.places + 1 }
-        ensures spare { self.old.spare ≤ self.new.spare + 1 }
+        requires { HasRoom self.old }
+        ensures { self.new ≡ (if takes_part then once_ready self.old transaction who else self.old) }
     {
         if takes_part {
             self.ready(transaction, who);
@@ -229,9 +184,7 @@ impl Trace {
 
     // A participant is done, if it takes part.
     fn finish_if(&mut self, takes_part: bool, transaction: Id, done: DonePart)
-        ensures transactions { self.new.transactions ≡ (if takes_part then once_done self.old.transactions done (at_id id_of self.old.transactions transaction) else self.old.transactions) }
-        ensures places { self.old.places ≤ self.new.places }
-        ensures spare { self.old.spare ≤ self.new.spare }
+        ensures { self.new ≡ (if takes_part then once_done self.old done (at_id id_of self.old transaction) else self.old) }
     {
         if takes_part {
             self.finish(transaction, done);
@@ -240,11 +193,8 @@ impl Trace {
 
     // A fact is recorded.
     fn note(&mut self, of: &Recording, fact: Fact)
-        requires places { room_of fact ≤ self.old.places }
-        requires spare { room_of fact ≤ self.old.spare }
-        ensures transactions { self.new.transactions ≡ noted of.now fact self.old.transactions }
-        ensures places { self.old.places ≤ self.new.places + room_of fact }
-        ensures spare { self.old.spare ≤ self.new.spare + room_of fact }
+        requires { 1 ≤ room_of fact → HasRoom self.old }
+        ensures { self.new ≡ noted of.now fact self.old }
     {
         match fact {
             Fact::ReadyFiles => self.ready_if(of.has_files, of.transaction, DonePart::Files),
@@ -282,24 +232,22 @@ impl Trace {
 
     // A step is recorded.
     fn note_step(&mut self, of: &Recording, step: &Step)
-        requires places { step_room step.now ≤ self.old.places }
-        requires spare { step_room step.now ≤ self.old.spare }
-        ensures transactions { self.new.transactions ≡ step_noted of.now step.now self.old.transactions }
-        ensures places { self.old.places ≤ self.new.places + step_room step.now }
-        ensures spare { self.old.spare ≤ self.new.spare + step_room step.now }
+        requires { 1 ≤ step_room step.now → HasRoom self.old }
+        ensures transactions { self.new ≡ step_noted of.now step.now self.old }
+        ensures more { HasMore (step_room step.now) self.old self.new }
     {
+        self.law_of_order();
         if let Step::Record(fact) = step {
             self.note(of, *fact);
         }
     }
 
-    /// What the steps record of a transaction is made of the transactions. It takes no memory.
+    /// What the steps record of a transaction is made of the transactions. It takes no memory. Where the steps add nothing, there
+    /// may be any number of transactions.
     pub fn record(&mut self, of: Recording, steps: &[Step])
-        requires places { steps_room steps.now ≤ self.old.places }
-        requires spare { steps_room steps.now ≤ self.old.spare }
-        ensures transactions { (b : Basis) → recording_of b ≡ of → self.new.transactions ≡ fold traces_after self.old.transactions (events_ahead steps.now b) }
-        ensures places { self.old.places ≤ self.new.places + steps_room steps.now }
-        ensures spare { self.old.spare ≤ self.new.spare + steps_room steps.now }
+        requires few { 1 ≤ steps_room steps.now → AreFew self.old }
+        requires steps { steps_room steps.now ≤ MOST_NOTED }
+        ensures transactions { (b : Basis) → recording_of b ≡ of → self.new ≡ fold traces_after self.old (events_ahead steps.now b) }
     {
         let mut now = of;
         for step in steps {

@@ -1,7 +1,7 @@
 -- How one setting more changes the counts.
-use Rattle.std.proofs.Common.{◌≡◌, ℕ, ◌+◌, ◌≤◌, cond, List, [], ◌∷◌, ◌++◌, Option, None, Some, get_or, set, refl, sym, ◌∙◌, ap, arith}
-use Rattle.std.proofs.lemmas.List.Sums.{sum_by-set, sum_by-insert, sum_by-append, sum_by-cons}
-use Rattle.std.specs.Prelude.{count_by, MatchOption}
+use Rattle.std.proofs.Common.{◌≡◌, ℕ, ◌+◌, ◌≤◌, cond, List, [], Option, None, Some, get_or, set, refl, sym, ◌∙◌, ap, arith}
+use Rattle.std.proofs.lemmas.List.Sums.{sum_by-set, sum_by-insert}
+use Rattle.std.specs.Prelude.{count_by}
 use Rattle.std.specs.List.{insert}
 use Rattle.std.specs.Option.{option_map}
 use Rattle.ktm_base.specs.declared.id.Id.{Id}
@@ -14,10 +14,11 @@ use Rattle.ktm_world.proofs.offered.KeyLemmas.{counted-without_own}
 use Rattle.ktm_keyed.specs.Slot.{IsSlot}
 use Rattle.kv_rm.specs.Count.{kind_of, is_of_kind, one_of, own_count, AreCounts}
 use Rattle.kv_rm.specs.declared.count.Counts.{Counts}
-use Rattle.kv_rm.specs.Place.{IsPlace, IsAbsent, IsSeat}
+use Rattle.kv_rm.specs.Place.{IsSeat}
 use Rattle.kv_rm.specs.declared.count.Kind.{Kind}
 use Rattle.kv_rm.specs.declared.count.Kind.TheVariants.{Value, Unset}
 use Rattle.kv_rm.specs.declared.own.Seat.{Seat}
+use Rattle.kv_rm.proofs.Counted.{counted-with_own}
 
 one_is : (kind : Kind) (key : List ℕ) (value : Option (List ℕ)) → cond (is_of_kind kind (record { key = key; value = value })) 1 0 ≡ one_of kind (Some (kind_of value))
 one_is Value key None = refl
@@ -53,38 +54,12 @@ module _ (kind : Kind) where
       let after = one_is kind key value in
       omega (arith, counted, changed, before, after)
 
-  module _ (own : List Own) (id : Id) (key : List ℕ) where
-    -- the count of a transaction's settings
-    abbrev of_one : Own → ℕ
-    of_one o = count_by (is_of_kind kind) o.settings
-
-    at_place : (place : Option ℕ) → MatchOption place (IsAbsent own id) (IsPlace own id) → (value : Option (List ℕ)) (gone : ℕ)
-        → count_by (is_of_kind kind) (put (own_settings own id) key value) + gone ≡ count_by (is_of_kind kind) (own_settings own id) + one_of kind (Some (kind_of value))
-        → own_count kind (with_own own id key value) + gone ≡ own_count kind own + one_of kind (Some (kind_of value))
-    at_place None absent value gone one =
-        let o : Own = record { transaction = id; settings = put [] key value } in
-        let all : own_count kind (with_own own id key value) ≡ own_count kind (own ++ o ∷ []) = ap (own_count kind) (absent.adds key value) in
-        let more : own_count kind (own ++ o ∷ []) ≡ own_count kind own + own_count kind (o ∷ []) = sum_by-append of_one own (o ∷ []) in
-        let last : own_count kind (o ∷ []) ≡ of_one o + 0 = sum_by-cons of_one o [] in
-        let new : count_by (is_of_kind kind) (put (own_settings own id) key value) ≡ of_one o = ap (λ l. count_by (is_of_kind kind) (put l key value)) absent.settings in
-        let old : count_by (is_of_kind kind) (own_settings own id) ≡ 0 = ap (count_by (is_of_kind kind)) absent.settings in
-        omega (arith, all, more, last, new, old, one)
-    at_place (Some i) place value gone one =
-        let d : Own = record { transaction = id; settings = [] } in
-        let x : Own = get_or own i d in
-        let y : Own = record x { settings = put x.settings key value } in
-        let all : own_count kind (with_own own id key value) ≡ own_count kind (set own i y) = ap (own_count kind) (place.changes key value d) in
-        let changed : own_count kind (set own i y) + of_one x ≡ own_count kind own + of_one y = sum_by-set of_one own i y d place.within in
-        let new : count_by (is_of_kind kind) (put (own_settings own id) key value) ≡ of_one y = ap (λ l. count_by (is_of_kind kind) (put l key value)) (place.settings d) in
-        let old : count_by (is_of_kind kind) (own_settings own id) ≡ of_one x = ap (count_by (is_of_kind kind)) (place.settings d) in
-        omega (arith, all, changed, new, old, one)
-
-    -- a setting of a transaction's takes the place of what was there
-    pub own_count-with : (seat : Seat) → IsSeat own id key seat → (value : Option (List ℕ))
-        → own_count kind (with_own own id key value) + one_of kind seat.was ≡ own_count kind own + one_of kind (Some (kind_of value))
-    own_count-with seat is value =
-        at_place seat.place is.place value (one_of kind seat.was)
-        (ap (λ o. count_by (is_of_kind kind) (put (own_settings own id) key value) + one_of kind o) is.was ∙ count_by-put (own_settings own id) key seat.slot value is.slot)
+  -- a setting of a transaction's takes the place of what was there
+  pub own_count-with : (own : List Own) (id : Id) (key : List ℕ) (seat : Seat) → IsSeat own id key seat → (value : Option (List ℕ))
+      → own_count kind (with_own own id key value) + one_of kind seat.was ≡ own_count kind own + one_of kind (Some (kind_of value))
+  own_count-with own id key seat is value =
+      counted-with_own (is_of_kind kind) own id key seat.place is.place value _ _
+      (ap (λ o. count_by (is_of_kind kind) (put (own_settings own id) key value) + one_of kind o) is.was ∙ count_by-put (own_settings own id) key seat.slot value is.slot)
 
 -- what was there is among those that are counted
 pub was_counted : (kind : Kind) (own : List Own) (id : Id) (key : List ℕ) (seat : Seat) → IsSeat own id key seat → one_of kind seat.was ≤ own_count kind own

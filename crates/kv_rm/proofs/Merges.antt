@@ -23,7 +23,7 @@ stored_all-behind_one x xs (s ∷ ss) first rises =
     ∙ stored_all-behind_one x (stored xs s) ss (comes_first-trans x.key s.key ss first parts.0) parts.1
 
 -- a key that comes before the first one comes before each later one
-pub before_it : {V : Type 0} (y : Keyed V) (after : List (Keyed V)) (a : List ℕ) (before : List (Keyed V)) → comes_first a (before ++ y ∷ after) ≡ true → is_rising (before ++ y ∷ after) ≡ true → comes_before a y.key ≡ true
+before_it : {V : Type 0} (y : Keyed V) (after : List (Keyed V)) (a : List ℕ) (before : List (Keyed V)) → comes_first a (before ++ y ∷ after) ≡ true → is_rising (before ++ y ∷ after) ≡ true → comes_before a y.key ≡ true
 before_it y after a [] first rises = first
 before_it y after a (x ∷ before) first rises =
     let parts = and_parts (comes_first x.key (before ++ y ∷ after)) (is_rising (before ++ y ∷ after)) rises in

@@ -1,53 +1,54 @@
--- Settings by rising key, put into a list one after another, and counted with the others.
-use Rattle.std.proofs.Common.{◌≡◌, ℕ, ◌+◌, ◌<◌, ◌^◌, true, List, [], ◌∷◌, ◌++◌, refl, ap, arith}
-use Rattle.std.specs.Prelude.{count_by}
-use Rattle.std.proofs.lemmas.Bool.{and_parts}
-use Rattle.std.proofs.lemmas.List.Sums.{sum_by-append, sum_by-cons}
+-- Settings that a transaction has again, counted with the others.
+use Rattle.std.proofs.Common.{◌≡◌, ℕ, ◌+◌, ◌-◌, ◌<◌, ◌^◌, List, [], ◌∷◌, ◌++◌, length, Some, sym, ◌∙◌, ap, arith}
+use Rattle.std.specs.Prelude.{count_by, slice_get}
+use Rattle.std.proofs.Math.Seq.{get_or-append_seam}
+use Rattle.std.proofs.lemmas.List.{length-append}
+use Rattle.std.proofs.lemmas.Option.{get_or_from_slice_get}
 use Rattle.ktm_base.specs.declared.id.Id.{Id}
-use Rattle.ktm_keyed.specs.declared.keyed.Keyed.{Keyed}
-use Rattle.ktm_keyed.specs.Keyed.{comes_first, is_rising, put}
-use Rattle.ktm_world.specs.Keys.{changes_pending, keys_used, KeysNow, Own, OwnSettings}
-use Rattle.ktm_keyed.proofs.KeyedLemmas.{comes_before-differs, comes_before-after}
-use Rattle.kv_rm.specs.Count.{is_of_kind, own_count, AreCounts, AreFew}
-use Rattle.kv_rm.specs.Restored.{keys_restored}
+use Rattle.ktm_world.specs.Keys.{Own, OwnSettings}
+use Rattle.kv_rm.specs.Count.{is_of_kind, AreCounts}
+use Rattle.kv_rm.specs.Held.{count_at, has_hash, hash_count, AreHeld}
 use Rattle.kv_rm.specs.declared.count.Counts.{Counts}
-use Rattle.kv_rm.specs.declared.count.Kind.{Kind}
 use Rattle.kv_rm.specs.declared.count.Kind.TheVariants.{Value, Unset}
-use Rattle.kv_rm.proofs.Merges.{before_it}
+use Rattle.kv_rm.proofs.Counted.{counted-restored}
 
--- a value whose key comes behind all others is put at the end
-pub put-next : {V : Type 0} (xs : List (Keyed V)) (s : Keyed V) (rest : List (Keyed V)) → is_rising (xs ++ s ∷ rest) ≡ true → put xs s.key s.value ++ rest ≡ xs ++ s ∷ rest
-put-next [] s rest rises = refl
-put-next (x ∷ xs) s rest rises =
-    let parts = and_parts (comes_first x.key (xs ++ s ∷ rest)) (is_rising (xs ++ s ∷ rest)) rises in
-    let before = before_it s rest x.key xs parts.0 parts.1 in
-    rw (comes_before-differs x.key s.key before, comes_before-after x.key s.key before) (ap (λ l. x ∷ l) (put-next xs s rest parts.1))
+module _ (own : List Own) (id : Id) (settings : OwnSettings) where
+  -- the transactions, with this one behind the others
+  abbrev back : List Own
+  back = own ++ record { transaction = id; settings = settings } ∷ []
 
--- the count of what all have set, once a transaction has these settings too
-pub own_count-restored : (kind : Kind) (keys : KeysNow) (id : Id) (settings : OwnSettings)
-    → own_count kind (keys_restored keys id settings).own ≡ own_count kind keys.own + count_by (is_of_kind kind) settings
-own_count-restored kind keys id settings =
-    let o : Own = record { transaction = id; settings = settings } in
-    let count : Own → ℕ = λ o. count_by (is_of_kind kind) o.settings in
-    let all = sum_by-append count keys.own (o ∷ []) in
-    let last = sum_by-cons count o [] in
-    omega (arith, all, last)
+  -- what is counted then
+  pub are_counts-restored : (counts new : Counts) → AreCounts own counts
+      → new.values ≡ counts.values + count_by (is_of_kind Value) settings
+      → new.unsets ≡ counts.unsets + count_by (is_of_kind Unset) settings
+      → AreCounts back new
+  are_counts-restored counts new are values unsets = record {
+    values = let more = counted-restored (is_of_kind Value) own id settings in let before = are.values in omega (arith, more, before, values);
+    unsets = let more = counted-restored (is_of_kind Unset) own id settings in let before = are.unsets in omega (arith, more, before, unsets);
+  }
 
--- what is counted once a transaction has these settings too
-pub are_counts-restored : (keys : KeysNow) (id : Id) (settings : OwnSettings) (counts new : Counts) → AreCounts keys.own counts
-    → new.values ≡ counts.values + count_by (is_of_kind Value) settings
-    → new.unsets ≡ counts.unsets + count_by (is_of_kind Unset) settings
-    → AreCounts (keys_restored keys id settings).own new
-are_counts-restored keys id settings counts new are values unsets = record {
-  values = let more = own_count-restored Value keys id settings in let before = are.values in omega (arith, more, before, values);
-  unsets = let more = own_count-restored Unset keys id settings in let before = are.unsets in omega (arith, more, before, unsets);
-}
+  -- what is counted by hashes then
+  pub are_held-restored : (counts new : List ℕ) → AreHeld own counts → ((hash : ℕ) → count_at new hash ≡ count_at counts hash + count_by (has_hash hash) settings) → AreHeld back new
+  are_held-restored counts new are more = record {
+    counted = λ hash.
+        let all = counted-restored (has_hash hash) own id settings in
+        let before = are.counted hash in
+        let come = more hash in
+        omega (arith, all, before, come);
+  }
 
--- and they are few, where the keys in use and those that are unset are
-pub are_few-restored : (keys : KeysNow) (id : Id) (settings : OwnSettings) (new : Counts) → AreCounts (keys_restored keys id settings).own new
-    → keys_used (keys_restored keys id settings) < 2 ^ 32 → changes_pending (keys_restored keys id settings) < 2 ^ 32
-    → AreFew new
-are_few-restored keys id settings new are values unsets = record {
-  values = let counted = are.values in omega (arith, counted, values);
-  unsets = let counted = are.unsets in omega (arith, counted, unsets);
-}
+  -- there is room for them
+  pub few_restored : (counts : List ℕ) → AreHeld own counts → ((hash : ℕ) → hash_count hash back < 2 ^ 33) → (hash : ℕ) → count_at counts hash + count_by (has_hash hash) settings < 2 ^ 33
+  few_restored counts are few hash =
+      let most = few hash in
+      let all = counted-restored (has_hash hash) own id settings in
+      let before = are.counted hash in
+      omega (arith, most, all, before)
+
+  -- the settings of the last transaction are these
+  pub last_settings : (last : Own) → Some last ≡ slice_get back (length back - 1) → last.settings ≡ settings
+  last_settings last is =
+      let o : Own = record { transaction = id; settings = settings } in
+      let long = length-append own (o ∷ []) in
+      let at : length back - 1 ≡ length own = omega (arith, long) in
+      ap (λ (x : Own). x.settings) (sym (get_or_from_slice_get back (length own) last o (ap (slice_get back) (sym at) ∙ sym is)) ∙ get_or-append_seam own o [] o)

@@ -1,6 +1,7 @@
 pub mod Place
 pub mod Count
-pub mod KvState
+pub mod Held
 pub mod Calls
 pub mod Split
 pub mod Restored
+pub mod Participant

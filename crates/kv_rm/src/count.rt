@@ -1,6 +1,6 @@
 // How many settings of each kind the transactions have.
 ghost use Rattle.std.specs.Prelude.{◌≡◌, ◌+◌, ◌<◌, ◌≤◌, ◌^◌, count_by, Some};
-ghost use Rattle.kv_rm.specs.Count.{kind_of, is_of_kind, one_of};
+ghost use Rattle.kv_rm.specs.Count.{kind_of, is_of_kind, one_of, AreFew};
 ghost use Rattle.kv_rm.specs.declared.count.Kind.TheVariants.{Value, Unset};
 
 use ktm_base::Bytes;
@@ -38,6 +38,14 @@ fn count_values(settings: &[Setting]) -> usize
 }
 
 impl Counts {
+    /// How many settings there are.
+    pub fn all(self) -> usize
+        requires { AreFew self }
+        ensures { result ≡ self.values + self.unsets }
+    {
+        self.values + self.unsets
+    }
+
     /// The counts without a setting of this kind, if there was one.
     fn without(self, was: Option<Kind>) -> Counts
         requires values { one_of Value was ≤ self.values }
@@ -86,6 +94,7 @@ impl Counts {
         requires unsets { self.unsets + count_by (is_of_kind Unset) settings.now < 2 ^ 32 }
         ensures values { result.values ≡ self.values + count_by (is_of_kind Value) settings.now }
         ensures unsets { result.unsets ≡ self.unsets + count_by (is_of_kind Unset) settings.now }
+        ensures few { AreFew result }
     {
         let values = count_values(settings);
         Counts {

@@ -3,9 +3,13 @@
 
 mod call;
 mod count;
+mod held;
 mod list;
 mod own;
+mod participant;
 mod rm;
+mod setting_list;
 
 pub use call::{KvCall, Room};
+pub use participant::PreparedSettings;
 pub use rm::KvRm;

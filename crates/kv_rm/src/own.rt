@@ -7,11 +7,14 @@ ghost use Rattle.ktm_world.specs.Keys.{Store, own_settings, with_own, without_ow
 ghost use Rattle.ktm_keyed.specs.Slot.{IsSlot};
 ghost use Rattle.ktm_world.specs.Transactions.{same_id};
 ghost use Rattle.kv_rm.specs.Count.{kind_of};
+ghost use Rattle.kv_rm.specs.Participant.{has_own};
 ghost use Rattle.kv_rm.specs.Place.{IsPlace, IsAbsent, IsSeat, IsSeatOf};
 
 use crate::count::{Kind, kind_of};
+use crate::held::hash_of;
+use crate::setting_list::SettingList;
 use ktm_base::{Bytes, Id, NoMemory, Text};
-use ktm_keyed::{KeyedList, Slot};
+use ktm_keyed::Slot;
 use ktm_types::Setting;
 use std::alloc::Global;
 use std::marker::Model;
@@ -20,7 +23,7 @@ use std::marker::Model;
 #[derive(Drop)]
 pub struct OwnKeys {
     transaction: Id,
-    settings: KeyedList<Option<Bytes>>,
+    settings: SettingList,
 }
 
 impl Model for OwnKeys {
@@ -28,20 +31,14 @@ impl Model for OwnKeys {
 
     ghost Value = { Own };
 
-    ghost view = { λ o. record { transaction = o.transaction; settings = o.settings.items } };
+    ghost view = { λ o. record { transaction = o.transaction; settings = o.settings } };
 }
 
-// Settings by rising key, as a list under keys.
-fn keyed(alloc: Global, settings: Vec<Setting>) -> Result<KeyedList<Option<Bytes>>, NoMemory>
-    requires { is_rising settings.items ≡ true }
-    ensures { IfOk result (λ list. list.items ≡ settings.items) }
+/// Has the transaction settings of its own.
+pub(crate) fn has_own(own: &[OwnKeys], transaction: Id) -> bool
+    ensures { result ≡ has_own own.now transaction }
 {
-    let mut list = KeyedList::new(alloc);
-    list.reserve(settings.len())?;
-    for setting in settings {
-        list.put(setting.key, setting.value)?;
-    }
-    Ok(list)
+    own.iter().any(|o| o.transaction == transaction)
 }
 
 /// Where a setting of a transaction's goes.
@@ -53,6 +50,8 @@ pub struct Seat {
     pub slot: Slot,
     /// What the transaction has done with the key.
     pub was: Option<Kind>,
+    /// The hash of the key.
+    pub hash: usize,
 }
 
 impl OwnKeys {
@@ -65,8 +64,8 @@ impl OwnKeys {
     ) -> Result<Self, NoMemory>
         ensures { IfOk result (λ own. own ≡ record { transaction = transaction; settings = put [] key value }) }
     {
-        let mut settings = KeyedList::new(alloc);
-        settings.put(key, value)?;
+        let mut settings = SettingList::new(alloc);
+        settings.put(alloc, key, value)?;
         Ok(OwnKeys {
             transaction,
             settings,
@@ -74,27 +73,24 @@ impl OwnKeys {
     }
 
     /// With these settings, by rising key.
-    pub fn with_settings(
-        alloc: Global,
-        transaction: Id,
-        settings: Vec<Setting>,
-    ) -> Result<Self, NoMemory>
+    pub fn with_settings(transaction: Id, settings: Vec<Setting>) -> Self
         requires { is_rising settings.items ≡ true }
-        ensures { IfOk result (λ own. own ≡ record { transaction = transaction; settings = settings.items }) }
+        ensures { result ≡ record { transaction = transaction; settings = settings.items } }
     {
-        let settings = keyed(alloc, settings)?;
-        Ok(OwnKeys {
+        OwnKeys {
             transaction,
-            settings,
-        })
+            settings: SettingList::from_vec(settings),
+        }
     }
 
+    /// Are they of this transaction.
     pub fn is_of(&self, transaction: Id) -> bool
         ensures { result ≡ same_id self.now.transaction transaction }
     {
         self.transaction == transaction
     }
 
+    /// By rising key.
     pub fn settings(&self) -> &[Setting]
         ensures settings { result.now ≡ self.now.settings }
         ensures rising { is_rising result.now ≡ true }
@@ -102,6 +98,7 @@ impl OwnKeys {
         self.settings.as_slice()
     }
 
+    /// Gives them, by rising key.
     pub fn into_settings(self) -> Vec<Setting>
         ensures { result.items ≡ self.settings }
     {
@@ -116,6 +113,7 @@ impl OwnKeys {
         self.settings.get(key)
     }
 
+    /// Where a key stands, or would stand.
     pub fn slot(&self, key: &[u8]) -> Slot
         ensures { IsSlot self.now.settings key.now result }
     {
@@ -133,12 +131,18 @@ impl OwnKeys {
     }
 
     /// One setting more where its key stands, or in place of the one there.
-    pub fn set_in(&mut self, slot: Slot, key: Text, value: Option<Bytes>) -> Result<(), NoMemory>
+    pub fn set_in(
+        &mut self,
+        alloc: Global,
+        slot: Slot,
+        key: Text,
+        value: Option<Bytes>,
+    ) -> Result<(), NoMemory>
         requires { IsSlot self.old.settings key slot }
         ensures ok { OnOk result (self.new ≡ record self.old { settings = put self.old.settings key value }) }
         ensures err { OnErr result (self.new ≡ self.old) }
     {
-        self.settings.put_in(slot, key, value)
+        self.settings.put_in(alloc, slot, key, value)
     }
 }
 
@@ -154,6 +158,7 @@ pub fn place_of(own: &[OwnKeys], transaction: Id) -> Option<usize>
     None
 }
 
+/// The settings of a transaction, by rising key; none where it has set nothing.
 pub fn settings_of(own: &[OwnKeys], transaction: Id) -> &[Setting]
     ensures settings { result.now ≡ own_settings own.now transaction }
     ensures rising { is_rising result.now ≡ true }
@@ -190,20 +195,28 @@ pub fn seat_of(own: &[OwnKeys], transaction: Id, key: &[u8]) -> Seat
     ensures { IsSeat own.now transaction key.now result }
 {
     let place = place_of(own, transaction);
+    let hash = hash_of(key);
     match place {
         Some(i) => {
             let slot = own[i].slot(key);
             let was = own[i].kind_in(slot);
-            Seat { place, slot, was }
+            Seat {
+                place,
+                slot,
+                was,
+                hash,
+            }
         }
         None => Seat {
             place,
             slot: Slot::Free(0),
             was: None,
+            hash,
         },
     }
 }
 
+/// Has another transaction set or unset the key.
 pub fn is_held(own: &[OwnKeys], transaction: Id, key: &[u8]) -> bool
     ensures { result ≡ is_held_by_other own.now transaction key.now }
 {
@@ -231,7 +244,7 @@ fn set_at(
     match seat.place {
         Some(place) => {
             let o = &mut own[place];
-            o.set_in(seat.slot, key, value)
+            o.set_in(alloc, seat.slot, key, value)
         }
         None => {
             own.push(OwnKeys::new(alloc, transaction, key, value)?)?;

@@ -1,5 +1,5 @@
 // The manager.
-ghost use Rattle.std.specs.Prelude.{◌≡◌, ◌+◌, ◌^◌, ◌<◌, ◌≤◌, ℕ, List, [], Option, IfOk, OnOk, OnErr, IsOk, is_none, length, nat_lt, true};
+ghost use Rattle.std.specs.Prelude.{◌≡◌, ◌+◌, ◌^◌, ◌<◌, ℕ, List, [], ◌∷◌, ◌++◌, Option, IfOk, OnOk, OnErr, IsOk, count_by, is_none, length, nat_lt, true, MatchOption, ⊤};
 ghost use Rattle.std.specs.Option.{option_copied};
 ghost use Rattle.ktm_base.specs.declared.id.Id.{Id};
 ghost use Rattle.ktm_types.specs.declared.reply.Reply.TheVariants.{Done};
@@ -8,17 +8,21 @@ ghost use Rattle.ktm_keyed.specs.Keyed.{is_rising};
 ghost use Rattle.ktm_world.specs.Keys.{changes_pending, keys_used, Own, own_settings, without_own, value_seen, stored_all, store_seen, keys_of};
 ghost use Rattle.ktm_world.specs.Phases.{has_settings};
 ghost use Rattle.kv_rm.specs.Calls.{is_refused, key_outcome};
-ghost use Rattle.kv_rm.specs.Count.{kind_of, AreCounts, AreFew};
-ghost use Rattle.kv_rm.specs.Place.{IsSeatOf};
+ghost use Rattle.kv_rm.specs.Count.{is_of_kind, kind_of, AreCounts, AreFew};
+ghost use Rattle.kv_rm.specs.Held.{AreHeld, count_at, hash_count};
+ghost use Rattle.kv_rm.specs.Participant.{has_own};
+ghost use Rattle.kv_rm.specs.Place.{IsSeatOf, one_more};
 ghost use Rattle.kv_rm.specs.Restored.{keys_restored};
 ghost use Rattle.kv_rm.specs.declared.call.KvCall.TheVariants.{Get, Set, Unset};
 ghost use Rattle.kv_rm.specs.declared.count.Kind.{Kind};
 
 use crate::call::{KvCall, Room};
 use crate::count::{Counts, Kind};
+use crate::held::HeldKeys;
 use crate::list::keys_with;
 use crate::own::{
-    OwnKeys, Seat, is_held, own_value, seat_of, set_for, settings_before, settings_of, take_own,
+    OwnKeys, Seat, has_own, is_held, own_value, seat_of, set_for, settings_before, settings_of,
+    take_own,
 };
 use ktm_base::{Bytes, Id, NoMemory, Refusal, Text, TextList};
 use ktm_keyed::KeyedList;
@@ -34,30 +38,34 @@ struct Plan {
     counts: Counts,
 }
 
-/// The store of committed keys, with what each undecided transaction has set or unset.
+/// The store of committed keys, with what each undecided transaction has set or unset. The store has room for all that may be
+/// committed.
 #[derive(Drop)]
 pub struct KvRm {
     alloc: Global,
     store: KeyedList<Bytes>,
     own: Vec<OwnKeys>,
-    // Of what the transactions have set.
+    // Of what the transactions have set. The store has room for as many more entries.
     counts: Counts,
+    // The same, by the hashes of keys.
+    held: HeldKeys,
 }
 
 impl Model for KvRm {
+    ghost use Rattle.std.specs.Prelude.{◌+◌, ◌≤◌};
+    ghost use Rattle.ktm_world.specs.Keys.{KeysNow};
     ghost use Rattle.kv_rm.specs.Count.{AreCounts, AreFew};
-    ghost use Rattle.kv_rm.specs.KvState.{KvState};
+    ghost use Rattle.kv_rm.specs.Held.{AreHeld};
 
-    ghost Value = { KvState };
+    ghost Value = { KeysNow };
 
-    ghost view = { λ k. record {
-      keys = record { store = k.store.items; own = k.own.items };
-      room = k.store.spare;
-    } };
+    ghost view = { λ k. record { store = k.store.items; own = k.own.items } };
 
     ghost invariant = { λ k. record {
       counted : AreCounts k.own.items k.counts;
       few : AreFew k.counts;
+      held : AreHeld k.own.items k.held.counts.items;
+      room : k.counts.values + k.counts.unsets ≤ k.store.spare;
     } };
 }
 
@@ -82,11 +90,73 @@ fn is_unset(store: &KeyedList<Bytes>, seat: Option<Seat>, key: &Text) -> bool
     }
 }
 
+// A setting is made in its seat: its key is counted, where it was not set.
+fn count_key(held: &mut HeldKeys, seat: Option<Seat>)
+    requires within { MatchOption seat ⊤ (λ seat. seat.hash < length held.old.counts.items) }
+    requires few { (hash : ℕ) → count_at held.old.counts.items hash < 2 ^ 33 }
+    ensures { (hash : ℕ) → count_at held.new.counts.items hash ≡ count_at held.old.counts.items hash + one_more seat hash }
+{
+    if let Some(
+        Seat {
+            was: None,
+            hash,
+            ..
+        },
+    ) = seat
+    {
+        held.more(hash);
+    }
+}
+
+// A transaction has these settings of its own from now on, behind those of the others. They are counted by the hashes of keys.
+fn push_own(
+    own: &mut Vec<OwnKeys>,
+    held: &mut HeldKeys,
+    transaction: Id,
+    settings: Vec<Setting>,
+) -> Result<(), NoMemory>
+    requires rising { is_rising settings.items ≡ true }
+    requires held { AreHeld own.old.items held.old.counts.items }
+    requires few { (hash : ℕ) → hash_count hash (own.old.items ++ record { transaction = transaction; settings = settings.items } ∷ []) < 2 ^ 33 }
+    ensures ok { OnOk result (own.new.items ≡ own.old.items ++ record { transaction = transaction; settings = settings.items } ∷ []) }
+    ensures err { OnErr result (own.new.items ≡ own.old.items) }
+    ensures held { AreHeld own.new.items held.new.counts.items }
+{
+    held.reserve()?;
+    own.push(OwnKeys::with_settings(transaction, settings))?;
+    if let Some(last) = own.last() {
+        held.add_all(last.settings());
+    }
+    Ok(())
+}
+
+// Takes out what a transaction has set, which is counted no more.
+fn take(
+    alloc: Global,
+    own: &mut Vec<OwnKeys>,
+    counts: &mut Counts,
+    held: &mut HeldKeys,
+    transaction: Id,
+) -> Vec<Setting>
+    requires counted { AreCounts own.old.items counts.old }
+    requires held { AreHeld own.old.items held.old.counts.items }
+    ensures settings { result.items ≡ own_settings own.old.items transaction }
+    ensures own { own.new.items ≡ without_own own.old.items transaction }
+    ensures counted { AreCounts own.new.items counts.new }
+    ensures held { AreHeld own.new.items held.new.counts.items }
+    ensures values { counts.new.values + count_by (is_of_kind Kind.Value) result.items ≡ counts.old.values }
+    ensures unsets { counts.new.unsets + count_by (is_of_kind Kind.Unset) result.items ≡ counts.old.unsets }
+{
+    let settings = take_own(alloc, own, transaction);
+    *counts = counts.less(&settings);
+    held.remove_all(&settings);
+    settings
+}
+
 impl KvRm {
     /// With these committed keys.
     pub fn with_store(alloc: Global, store: KeyedList<Bytes>) -> Self
-        ensures keys { result.keys ≡ record { store = store.items; own = [] } }
-        ensures room { result.room ≡ store.spare }
+        ensures { result ≡ record { store = store.items; own = [] } }
     {
         KvRm {
             alloc,
@@ -96,34 +166,33 @@ impl KvRm {
                 values: 0,
                 unsets: 0,
             },
+            held: HeldKeys::new(alloc),
         }
     }
 
     /// The transaction has these settings of its own from now on, behind those of the others: it is brought back by a restart.
-    /// At want of memory nothing has changed.
+    /// The store has room for them then. At want of memory nothing has changed.
     pub fn restore(&mut self, transaction: Id, settings: Vec<Setting>) -> Result<(), NoMemory>
         requires rising { is_rising settings.items ≡ true }
-        requires few_values { keys_used (keys_restored self.old.keys transaction settings.items) < 2 ^ 32 }
-        requires few_unsets { changes_pending (keys_restored self.old.keys transaction settings.items) < 2 ^ 32 }
-        ensures ok { OnOk result (self.new.keys ≡ keys_restored self.old.keys transaction settings.items) }
-        ensures err { OnErr result (self.new.keys ≡ self.old.keys) }
-        ensures room { self.new.room ≡ self.old.room }
+        requires few_values { keys_used (keys_restored self.old transaction settings.items) < 2 ^ 32 }
+        requires few_unsets { changes_pending (keys_restored self.old transaction settings.items) < 2 ^ 32 }
+        ensures ok { OnOk result (self.new ≡ keys_restored self.old transaction settings.items) }
+        ensures err { OnErr result (self.new ≡ self.old) }
     {
         let counts = self.counts.more(&settings);
-        let own = OwnKeys::with_settings(self.alloc, transaction, settings)?;
-        self.own.push(own)?;
+        self.store.reserve(counts.all())?;
+        push_own(&mut self.own, &mut self.held, transaction, settings)?;
         self.counts = counts;
         Ok(())
     }
 
-    /// Makes a call for a transaction, or for none: it is refused, or answered. At want of memory nothing has changed; a call
-    /// that is refused takes none.
+    /// Makes a call for a transaction, or for none: it is refused, or answered. What is set or unset has room in the store then.
+    /// At want of memory nothing has changed; a call that is refused takes none.
     pub fn call(&mut self, who: Option<Id>, call: KvCall, room: Room) -> Result<Reply, NoMemory>
-        ensures reply { IfOk result (λ reply. reply ≡ (key_outcome self.old.keys room who call).reply) }
-        ensures keys { OnOk result (self.new.keys ≡ record self.old.keys { own = (key_outcome self.old.keys room who call).own }) }
-        ensures no_memory { OnErr result (self.new.keys ≡ self.old.keys) }
-        ensures enough { is_refused (key_outcome self.old.keys room who call).reply ≡ true → IsOk result }
-        ensures room { self.new.room ≡ self.old.room }
+        ensures reply { IfOk result (λ reply. reply ≡ (key_outcome self.old room who call).reply) }
+        ensures keys { OnOk result (self.new ≡ record self.old { own = (key_outcome self.old room who call).own }) }
+        ensures no_memory { OnErr result (self.new ≡ self.old) }
+        ensures enough { is_refused (key_outcome self.old room who call).reply ≡ true → IsOk result }
     {
         match call {
             KvCall::Set { key, value } => self.set(who, key, value, room.keys),
@@ -135,7 +204,7 @@ impl KvRm {
 
     // What is seen of a key.
     fn value_seen(&self, who: Option<Id>, key: &[u8]) -> Option<&Bytes>
-        ensures { option_copied result ≡ value_seen self.now.keys who key.now }
+        ensures { option_copied result ≡ value_seen self.now who key.now }
     {
         if let Some(transaction) = who {
             if let Some(setting) = own_value(&self.own, transaction, key) {
@@ -146,8 +215,8 @@ impl KvRm {
     }
 
     fn get(&self, who: Option<Id>, key: &Text) -> Result<Reply, NoMemory>
-        ensures enough { (room : KeyRoom) → is_refused (key_outcome self.now.keys room who (Get key.now)).reply ≡ true → IsOk result }
-        ensures reply { (room : KeyRoom) → IfOk result (λ reply. reply ≡ (key_outcome self.now.keys room who (Get key.now)).reply) }
+        ensures enough { (room : KeyRoom) → is_refused (key_outcome self.now room who (Get key.now)).reply ≡ true → IsOk result }
+        ensures reply { (room : KeyRoom) → IfOk result (λ reply. reply ≡ (key_outcome self.now room who (Get key.now)).reply) }
     {
         if is_bad_key(key) {
             return Ok(Reply::Refused(Refusal::InvalidParameter));
@@ -160,26 +229,16 @@ impl KvRm {
 
     // The keys that are seen, by rising key.
     fn keys_seen(&self, who: Option<Id>) -> Result<TextList, NoMemory>
-        ensures { IfOk result (λ keys. keys ≡ keys_of (store_seen self.now.keys who)) }
+        ensures { IfOk result (λ keys. keys ≡ keys_of (store_seen self.now who)) }
     {
         let settings = settings_before(&self.own, who);
         keys_with(self.alloc, self.store.as_slice(), settings)
     }
 
-    // Does another undecided transaction hold the key.
-    fn is_held(&self, who: Option<Id>, key: &Text) -> bool
-        ensures { result ≡ is_key_held self.now.keys.own who key.now }
-    {
-        match who {
-            Some(transaction) => is_held(&self.own, transaction, key.as_slice()),
-            None => false,
-        }
-    }
-
     // Where a setting of this kind goes, and the counts once it is made. One for no transaction goes nowhere.
     fn plan(&self, who: Option<Id>, key: &Text, kind: Kind) -> Plan
-        ensures seat { IsSeatOf self.now.keys.own who key.now result.seat }
-        ensures counts { (value : Option (List ℕ)) → kind_of value ≡ kind → AreCounts (with_setting self.now.keys.own who key.now value) result.counts }
+        ensures seat { IsSeatOf self.now.own who key.now result.seat }
+        ensures counts { (value : Option (List ℕ)) → kind_of value ≡ kind → AreCounts (with_setting self.now.own who key.now value) result.counts }
         ensures few_values { kind ≡ Kind.Unset → result.counts.values < 2 ^ 32 }
         ensures few_unsets { kind ≡ Kind.Value → result.counts.unsets < 2 ^ 32 }
     {
@@ -198,14 +257,29 @@ impl KvRm {
         }
     }
 
+    // Does another undecided transaction hold the key, whose seat this is. Where no more settings have its hash than the caller's
+    // own one, no other is asked.
+    fn is_held(&self, who: Option<Id>, seat: Option<Seat>, key: &Text) -> bool
+        requires { IsSeatOf self.now.own who key.now seat }
+        ensures { result ≡ is_key_held self.now.own who key.now }
+    {
+        match (who, seat) {
+            (Some(transaction), Some(seat)) => {
+                self.held.has_others(seat.hash, seat.was.is_some())
+                    && is_held(&self.own, transaction, key.as_slice())
+            }
+            _ => false,
+        }
+    }
+
     // Would so many keys be too many, beside the committed ones.
     fn is_full_with(&self, values: usize, most: u32) -> bool
-        ensures { result ≡ nat_lt most (length self.now.keys.store + values) }
+        ensures { result ≡ nat_lt most (length self.now.store + values) }
     {
         self.store.len().saturating_add(values) > most as usize
     }
 
-    // One setting more, as it was planned.
+    // One setting more, as it was planned, with room for it in the store.
     fn add(
         &mut self,
         who: Option<Id>,
@@ -213,16 +287,18 @@ impl KvRm {
         key: Text,
         value: Option<Bytes>,
     ) -> Result<Reply, NoMemory>
-        requires seat { IsSeatOf self.old.keys.own who key plan.seat }
-        requires counts { AreCounts (with_setting self.old.keys.own who key value) plan.counts }
+        requires seat { IsSeatOf self.old.own who key plan.seat }
+        requires counts { AreCounts (with_setting self.old.own who key value) plan.counts }
         requires few { AreFew plan.counts }
         ensures reply { IfOk result (λ reply. reply ≡ Done) }
-        ensures ok { OnOk result (self.new.keys ≡ keys_with self.old.keys who key value) }
-        ensures err { OnErr result (self.new.keys ≡ self.old.keys) }
-        ensures room { self.new.room ≡ self.old.room }
+        ensures ok { OnOk result (self.new ≡ keys_with self.old who key value) }
+        ensures err { OnErr result (self.new ≡ self.old) }
     {
+        self.store.reserve(plan.counts.all())?;
+        self.held.reserve()?;
         set_for(self.alloc, &mut self.own, who, plan.seat, key, value)?;
         self.counts = plan.counts;
+        count_key(&mut self.held, plan.seat);
         Ok(Reply::Done)
     }
 
@@ -233,19 +309,18 @@ impl KvRm {
         value: Bytes,
         most: u32,
     ) -> Result<Reply, NoMemory>
-        ensures reply { (changes : ℕ) → IfOk result (λ reply. reply ≡ (key_outcome self.old.keys (record { keys = most; changes = changes }) who (Set key value)).reply) }
-        ensures keys { (changes : ℕ) → OnOk result (self.new.keys ≡ record self.old.keys { own = (key_outcome self.old.keys (record { keys = most; changes = changes }) who (Set key value)).own }) }
-        ensures no_memory { OnErr result (self.new.keys ≡ self.old.keys) }
-        ensures enough { (changes : ℕ) → is_refused (key_outcome self.old.keys (record { keys = most; changes = changes }) who (Set key value)).reply ≡ true → IsOk result }
-        ensures room { self.new.room ≡ self.old.room }
+        ensures reply { (changes : ℕ) → IfOk result (λ reply. reply ≡ (key_outcome self.old (record { keys = most; changes = changes }) who (Set key value)).reply) }
+        ensures keys { (changes : ℕ) → OnOk result (self.new ≡ record self.old { own = (key_outcome self.old (record { keys = most; changes = changes }) who (Set key value)).own }) }
+        ensures no_memory { OnErr result (self.new ≡ self.old) }
+        ensures enough { (changes : ℕ) → is_refused (key_outcome self.old (record { keys = most; changes = changes }) who (Set key value)).reply ≡ true → IsOk result }
     {
         if is_bad_key(&key) || is_bad_value(&value) {
             return Ok(Reply::Refused(Refusal::InvalidParameter));
         }
-        if self.is_held(who, &key) {
+        let plan = self.plan(who, &key, Kind::Value);
+        if self.is_held(who, plan.seat, &key) {
             return Ok(Reply::Refused(Refusal::TransactionalConflict));
         }
-        let plan = self.plan(who, &key, Kind::Value);
         if self.is_full_with(plan.counts.values, most) {
             return Ok(Reply::Refused(Refusal::DiskFull));
         }
@@ -253,11 +328,10 @@ impl KvRm {
     }
 
     fn unset(&mut self, who: Option<Id>, key: Text, most: u32) -> Result<Reply, NoMemory>
-        ensures reply { (keys : ℕ) → IfOk result (λ reply. reply ≡ (key_outcome self.old.keys (record { keys = keys; changes = most }) who (Unset key)).reply) }
-        ensures keys { (keys : ℕ) → OnOk result (self.new.keys ≡ record self.old.keys { own = (key_outcome self.old.keys (record { keys = keys; changes = most }) who (Unset key)).own }) }
-        ensures no_memory { OnErr result (self.new.keys ≡ self.old.keys) }
-        ensures enough { (keys : ℕ) → is_refused (key_outcome self.old.keys (record { keys = keys; changes = most }) who (Unset key)).reply ≡ true → IsOk result }
-        ensures room { self.new.room ≡ self.old.room }
+        ensures reply { (keys : ℕ) → IfOk result (λ reply. reply ≡ (key_outcome self.old (record { keys = keys; changes = most }) who (Unset key)).reply) }
+        ensures keys { (keys : ℕ) → OnOk result (self.new ≡ record self.old { own = (key_outcome self.old (record { keys = keys; changes = most }) who (Unset key)).own }) }
+        ensures no_memory { OnErr result (self.new ≡ self.old) }
+        ensures enough { (keys : ℕ) → is_refused (key_outcome self.old (record { keys = keys; changes = most }) who (Unset key)).reply ≡ true → IsOk result }
     {
         if is_bad_key(&key) {
             return Ok(Reply::Refused(Refusal::InvalidParameter));
@@ -266,7 +340,7 @@ impl KvRm {
         if is_unset(&self.store, plan.seat, &key) {
             return Ok(Reply::Refused(Refusal::NotFound));
         }
-        if self.is_held(who, &key) {
+        if self.is_held(who, plan.seat, &key) {
             return Ok(Reply::Refused(Refusal::TransactionalConflict));
         }
         if plan.counts.unsets > most as usize {
@@ -277,63 +351,56 @@ impl KvRm {
 
     /// In the order in which a commit makes them.
     pub fn own_settings(&self, transaction: Id) -> &[Setting]
-        ensures { result.now ≡ own_settings self.now.keys.own transaction }
+        ensures { result.now ≡ own_settings self.now.own transaction }
     {
         settings_of(&self.own, transaction)
     }
 
     /// Has the transaction set or unset a key.
     pub fn has_settings(&self, transaction: Id) -> bool
-        ensures { result ≡ has_settings (own_settings self.now.keys.own transaction) }
+        ensures { result ≡ has_settings (own_settings self.now.own transaction) }
     {
         !settings_of(&self.own, transaction).is_empty()
     }
 
     /// How many keys all transactions together have unset.
     pub fn unset_count(&self) -> u32
-        ensures { result ≡ changes_pending self.now.keys }
+        ensures { result ≡ changes_pending self.now }
     {
         self.counts.unsets as u32
     }
 
-    /// Takes the memory that a commit of this transaction needs.
-    pub fn reserve(&mut self, transaction: Id) -> Result<(), NoMemory>
-        ensures keys { self.new.keys ≡ self.old.keys }
-        ensures room { OnOk result (length (own_settings self.old.keys.own transaction) ≤ self.new.room) }
-        ensures err { OnErr result (self.new.room ≡ self.old.room) }
-        ensures succeeds { length (own_settings self.old.keys.own transaction) ≤ self.old.room → IsOk result }
-        ensures grows { self.old.room ≤ self.new.room }
+    // Has the transaction settings of its own.
+    pub(crate) fn has_own(&self, transaction: Id) -> bool
+        ensures { result ≡ has_own self.now.own transaction }
     {
-        let count = settings_of(&self.own, transaction).len();
-        self.store.reserve(count)
+        has_own(&self.own, transaction)
     }
 
-    // Takes out what a transaction has set.
-    fn take(&mut self, transaction: Id) -> Vec<Setting>
-        ensures settings { result.items ≡ own_settings self.old.keys.own transaction }
-        ensures keys { self.new.keys ≡ record self.old.keys { own = without_own self.old.keys.own transaction } }
-        ensures room { self.new.room ≡ self.old.room }
+    // Makes the transaction's settings in the store, in order. It takes no memory.
+    pub(crate) fn commit_own(&mut self, transaction: Id)
+        ensures { self.new ≡ record { store = stored_all self.old.store (own_settings self.old.own transaction); own = without_own self.old.own transaction } }
     {
-        let settings = take_own(self.alloc, &mut self.own, transaction);
-        self.counts = self.counts.less(&settings);
-        settings
-    }
-
-    /// Makes the transaction's settings in the store, in order. It takes no memory.
-    pub fn commit(&mut self, transaction: Id)
-        requires { length (own_settings self.old.keys.own transaction) ≤ self.old.room }
-        ensures keys { self.new.keys ≡ record { store = stored_all self.old.keys.store (own_settings self.old.keys.own transaction); own = without_own self.old.keys.own transaction } }
-        ensures room { self.new.room + length self.new.keys.store ≡ self.old.room + length self.old.keys.store }
-    {
-        let settings = self.take(transaction);
+        let settings = take(
+            self.alloc,
+            &mut self.own,
+            &mut self.counts,
+            &mut self.held,
+            transaction,
+        );
         make_all(&mut self.store, settings);
     }
 
-    /// Forgets what the transaction has set, as it rolls back.
-    pub fn forget(&mut self, transaction: Id)
-        ensures keys { self.new.keys ≡ record self.old.keys { own = without_own self.old.keys.own transaction } }
-        ensures room { self.new.room ≡ self.old.room }
+    // Forgets what the transaction has set.
+    pub(crate) fn forget_own(&mut self, transaction: Id)
+        ensures { self.new ≡ record self.old { own = without_own self.old.own transaction } }
     {
-        let _ = self.take(transaction);
+        let _ = take(
+            self.alloc,
+            &mut self.own,
+            &mut self.counts,
+            &mut self.held,
+            transaction,
+        );
     }
 }

@@ -1,7 +1,6 @@
 // How much there is of some changes.
-ghost use Rattle.std.specs.Prelude.{◌≡◌, ◌==◌, ◌&&◌, ◌≤◌, ◌^◌, not, true, count_by, sum_by};
-ghost use Rattle.std.specs.List.{list_any};
-ghost use Rattle.ktm_world.specs.Changes.{changed_all, changes_apply, changes_bytes, is_drop, is_make, node_of, nodes_made};
+ghost use Rattle.std.specs.Prelude.{◌≡◌, ◌≤◌, ◌^◌, not, true, count_by, sum_by};
+ghost use Rattle.ktm_world.specs.Changes.{changed_all, changes_apply, changes_bytes};
 ghost use Rattle.ktm_world.specs.Committed.{written_files};
 ghost use Rattle.ktm_world.specs.Durable.{are_recorded_changes};
 ghost use Rattle.ktm_world.specs.Tree.{Tree, bytes_of, units_of};
@@ -9,7 +8,7 @@ ghost use Rattle.txf_durable.specs.Recorded.{units_put};
 
 use ktm_base::UNIT_BYTES;
 use ktm_types::Change;
-use txf_tree::{bytes_in, changes_bytes, is_drop, is_make, node_of};
+use txf_tree::{bytes_in, changes_bytes};
 
 /// How many of the changes make, move or drop a node.
 pub fn name_changes(changes: &[Change]) -> usize
@@ -19,35 +18,6 @@ pub fn name_changes(changes: &[Change]) -> usize
         .iter()
         .filter(|change| !changes_bytes(change))
         .count()
-}
-
-// Do the changes drop the node.
-fn have_dropped(changes: &[Change], node: u64) -> bool
-    ensures { result ≡ list_any (λ later. is_drop later && node_of later == node) changes.now }
-{
-    changes
-        .iter()
-        .any(|later| is_drop(later) && node_of(later) == node)
-}
-
-// Does the change make a node that these later ones do not drop.
-fn makes_and_leaves(change: &Change, later: &[Change]) -> bool
-    ensures { result ≡ (is_make change.now && not (list_any (λ later. is_drop later && node_of later == node_of change.now) later.now)) }
-{
-    is_make(change) && !have_dropped(later, node_of(change))
-}
-
-/// How many nodes the changes make and leave. For each that they make, it looks through the changes behind that.
-pub fn nodes_made(changes: &[Change]) -> usize
-    ensures { result ≡ nodes_made changes.now }
-{
-    let mut made = 0;
-    for (index, change) in changes.iter().enumerate() {
-        if makes_and_leaves(change, &changes[index + 1..]) {
-            made += 1;
-        }
-    }
-    made
 }
 
 // How many units the bytes take that a change puts.

@@ -12,7 +12,7 @@ mod waiting;
 mod written;
 
 pub use acts::{is_file_seen, place_seen};
-pub use counts::{name_changes, nodes_made, units_given};
+pub use counts::{name_changes, units_given};
 pub use files::{DurableFiles, FilesRead};
 pub use numbers::FileNumbers;
 pub use recorded::are_recorded_changes;

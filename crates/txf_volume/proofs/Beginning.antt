@@ -9,8 +9,9 @@ use Rattle.ktm_world.specs.Transactions.{same_id}
 use Rattle.ktm_world.specs.Tree.{IsWellFormed}
 use Rattle.txf_reserve.specs.ReserveState.{Keeps, names_of, numbers_of}
 use Rattle.txf_tree.specs.TreeState.{tree_of}
-use Rattle.txf_volume.specs.Held.{FilesHeld, OwnHeld, files_of, own_held, tree_units}
-use Rattle.txf_volume.specs.Ties.{AreTied, IsKeptOpen, IsOver, held_by_two, names_held, nodes_held, units_held}
+use Rattle.txf_volume.specs.Held.{FilesHeld, OwnHeld, files_of, names_held, own_held, tree_units}
+use Rattle.txf_volume.specs.Ties.{AreTied, IsKeptOpen, IsOver, held_by_two, nodes_held, units_held}
+use Rattle.txf_volume.specs.declared.counts.Counts.{Counts}
 use Rattle.txf_laws.specs.Elements.{each_pair}
 
 -- nothing is changed, opened or held
@@ -33,16 +34,26 @@ module _ (h : FilesHeld) (is : IsAtRest h) where
     moves = (λ i. list_any (λ j. same_id j id) (is.moves i)) ∙ sym (λ i. list_any (λ node. true) (each_change moved_directory (tree_of h.tree) (own_changes (own_held (is.overlays i)) id)));
   }
 
-  few : (f : OwnHeld → ℕ) → sum_by f h.overlays < 2 ^ 63
-  few f = let none = ap (sum_by f) is.overlays in omega arith
+  -- nothing is counted
+  none : (f : OwnHeld → ℕ) → sum_by f h.overlays ≡ 0
+  none f = ap (sum_by f) is.overlays
 
-  pub tied : (units : ℕ) → IsWellFormed (tree_of h.tree) → units ≡ tree_units (tree_of h.tree) → AreTied h units
-  tied units formed sum = record {
+  few : (f : OwnHeld → ℕ) → sum_by f h.overlays < 2 ^ 63
+  few f = omega (arith, none f)
+
+  pub tied : (units : ℕ) (counts : Counts) → IsWellFormed (tree_of h.tree) → units ≡ tree_units (tree_of h.tree) → counts ≡ record { units = 0; nodes = 0; names = 0 } → AreTied h units counts
+  tied units counts formed sum zero = record {
     formed = formed;
     once = ap (each_pair held_by_two) is.overlays;
     over = subst (λ os. All (λ (o : OwnHeld). IsOver (tree_of h.tree) o.overlay) os) (sym is.overlays) (All-nil (λ (o : OwnHeld). IsOver (tree_of h.tree) o.overlay));
     opened = subst (λ os. All (IsKeptOpen h.tree h.versions.older) os) (sym is.opens) (All-nil (IsKeptOpen h.tree h.versions.older));
     keeps = keeps;
     sum = sum;
+    counted = record {
+      units = ap (λ (c : Counts). c.units) zero ∙ sym (none units_held);
+      nodes = ap (λ (c : Counts). c.nodes) zero ∙ sym (none nodes_held);
+      names = ap (λ (c : Counts). c.names) zero ∙ sym (none names_held);
+    };
     few = record { units = few units_held; nodes = few nodes_held; names = few names_held };
+    room = omega (arith, none names_held);
   }

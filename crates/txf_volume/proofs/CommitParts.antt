@@ -1,11 +1,11 @@
 -- What a commit makes of the tree, the versions and the units, one change or one file after another.
-use Rattle.std.proofs.Common.{◌≡◌, ℕ, ◌+◌, ◌-◌, ◌<◌, ◌≤◌, ◌^◌, ◌==◌, ◌&&◌, not, true, false, cond, find, fold, is_some, length, map, List, [], ◌∷◌, ◌++◌, Some, None, All, refl, sym, ◌∙◌, ap, subst, arith, length-append, inl, inr}
+use Rattle.std.proofs.Common.{◌≡◌, ℕ, ◌+◌, ◌-◌, ◌<◌, ◌≤◌, ◌^◌, ◌==◌, ◌&&◌, not, true, false, cond, find, fold, is_some, map, sum_by, List, [], ◌∷◌, ◌++◌, Some, None, All, refl, sym, ◌∙◌, ap, subst, arith, inl, inr}
 use Rattle.std.proofs.lemmas.Bool.{cases_Bool, and_from, and_parts, eq-eqb, eqb-false, eqb-true, true≢false}
 use Rattle.std.proofs.lemmas.Option.{none-some}
 use Rattle.std.proofs.lemmas.List.{append-nil}
 use Rattle.std.proofs.lemmas.List.Elements.{All-cons, All-head, All-nil, All-tail}
 use Rattle.std.proofs.lemmas.List.Folds.{list_all-append}
-use Rattle.std.proofs.lemmas.List.Sums.{fold-append, sum_by-cons}
+use Rattle.std.proofs.lemmas.List.Sums.{fold-append, sum_by-append, sum_by-cons}
 use Rattle.std.specs.List.{flat_map, list_all}
 use Rattle.txf_laws.proofs.offered.ChangeTests.{Applies-from, Fits-from}
 use Rattle.txf_laws.proofs.offered.CommittedUnits.{cut-empty, suits-applies}
@@ -36,6 +36,7 @@ use Rattle.txf_laws.proofs.offered.Elements.{list_any-from}
 use Rattle.txf_volume.proofs.Elements.{each-mapped}
 use Rattle.txf_laws.proofs.offered.NormalForms.{cut-none, put-none}
 use Rattle.ktm_world.proofs.offered.Lookups.{Rises-from}
+use Rattle.txf_volume.proofs.OwnCounts.{takes-one}
 use Rattle.txf_volume.proofs.Steady.{versions-rise}
 use Rattle.txf_volume.proofs.TreeUnits.{units-changed}
 use Rattle.txf_laws.proofs.offered.Versions.{version_of-without, version-elsewhere}
@@ -131,7 +132,7 @@ made-then p q r cs ds a b = record {
   versions = b.versions ∙ ap (λ v. fold versions_after v ds) a.versions ∙ sym (fold-append versions_after (versions_of p.tree) cs ds);
   opens = b.opens ∙ a.opens;
   firsts = b.firsts ∙ a.firsts;
-  spare = let n = length-append cs ds in let first = a.spare in let next = b.spare in omega arith;
+  spare = let all = sum_by-append takes cs ds in let first = a.spare in let next = b.spare in omega arith;
 }
 
 -- the version of a file ends by these changes
@@ -142,7 +143,7 @@ record Ends (p : Parts) (tree' : TreeState) (cs : List Change) (n : ℕ) : Type 
   file : is_file (tree_of p.tree) n ≡ true
   grown : is_file (tree_of tree') n ≡ true → version_of (versions_of p.tree) n < version_of (versions_of tree') n
   still : (o : Opened) → IsIn o p.versions.opens → (o.file ≡ n → ⊥) → IsStill p.tree tree' o.file
-  spare : p.tree.spare ≤ tree'.spare + length cs
+  spare : p.tree.spare ≤ tree'.spare + sum_by takes cs
 
 module _ (p : Parts) (tree' : TreeState) (cs : List Change) (n : ℕ) (can : CanMake p cs) (ends : Ends p tree' cs n) where
   ends-absent : is_pinned p.versions.opens n (version_of (versions_of p.tree) n) ≡ true → find (is_version n (version_of (versions_of p.tree) n)) p.versions.older ≡ None
@@ -217,13 +218,6 @@ version-name vs (Drop node) is m = elim (cases_Bool (node == m)) [
   | inr other ↦ let same = version_of-without vs node m (eqb-false node m other) in omega arith
 ]
 
-takes-one : (c : Change) → takes c ≤ 1
-takes-one (Make node parent kind name) = omega arith
-takes-one (Put node offset contents) = omega arith
-takes-one (Cut node size pages) = omega arith
-takes-one (Move node parent name) = omega arith
-takes-one (Drop node) = omega arith
-
 module _ (p : Parts) (c : Change) (cs : List Change) (can : CanName p (c ∷ cs)) where
   pub name-first : CanName p (c ∷ [])
   name-first = record {
@@ -239,7 +233,7 @@ module _ (p : Parts) (c : Change) (cs : List Change) (can : CanName p (c ∷ cs)
       record {
         can = can-rest p q (c ∷ []) cs can.can made;
         only = parts.1;
-        spare = let few = can.spare in let less = made.spare in omega arith;
+        spare = let few = can.spare in let less = made.spare in let all = sum_by-cons takes c [] in let one = takes-one c in omega arith;
         few = λ file. let before = can.few file in let no_more = version-name (versions_of p.tree) c parts.0 file in let now = ap (λ v. version_of v file) made.versions in omega arith;
       }
 
@@ -315,8 +309,8 @@ module _ (p : Parts) (c : Change) (can : CanName p (c ∷ [])) where
       version = λ file. ap (λ v. version_of v o.file) applied.versions ∙ version-elsewhere (versions_of p.tree) c o.file other;
     }
 
-    room : p.tree.spare ≤ tree'.spare + length (c ∷ [])
-    room = let less = applied.spare in let one = takes-one c in omega arith
+    room : p.tree.spare ≤ tree'.spare + sum_by takes (c ∷ [])
+    room = let less = applied.spare in let all = sum_by-cons takes c [] in omega arith
 
     rise' : numbers_rise (tree_of tree') ≡ true
     rise' = ap numbers_rise applied.tree ∙ rise-after t c name-applies can.can.right.rise

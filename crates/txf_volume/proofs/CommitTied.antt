@@ -1,8 +1,6 @@
 -- How the parts of the files in memory go together once a transaction has committed.
-use Rattle.std.proofs.Common.{◌≡◌, ℕ, ◌<◌, ◌≤◌, ◌^◌, ◌==◌, ◌&&◌, ◌||◌, not, Bool, true, false, filter, find, fold, is_some, map, List, [], ◌∷◌, ◌++◌, sum_by, Option, Some, None, MatchOption, IfSome, refl, sym, ◌∙◌, ap, subst, arith, inl, inr}
+use Rattle.std.proofs.Common.{◌≡◌, ℕ, ◌<◌, ◌≤◌, ◌^◌, ◌==◌, ◌&&◌, ◌||◌, not, Bool, true, false, filter, find, fold, is_some, length, map, List, [], ◌∷◌, ◌++◌, sum_by, Option, Some, None, MatchOption, IfSome, refl, sym, ◌∙◌, ap, subst, arith, inl, inr}
 use Rattle.std.proofs.lemmas.Bool.{cases_Bool, and_from, and_parts, eq-eqb, eqb-true, false_from_ne_true, not_from_false, not-true, true≢false}
-use Rattle.std.proofs.lemmas.List.Sums.{sum_by-cons}
-use Rattle.std.proofs.lemmas.Option.{none-some}
 use Rattle.std.specs.List.{flat_map, list_all, list_any}
 use Rattle.std.specs.Option.{option_map}
 use Rattle.ktm_base.specs.declared.id.Id.{Id}
@@ -26,15 +24,16 @@ use Rattle.txf_overlay.specs.Laws.{OtherTreeLaw}
 use Rattle.txf_overlay.specs.OverlayState.{OverlayState, final_of, own_of}
 use Rattle.txf_overlay.specs.Written.{bytes_or, total_units}
 use Rattle.txf_reserve.specs.ReserveState.{Keeps, ReserveState, holds_in}
-use Rattle.txf_tree.specs.TreeState.{tree_of, versions_of}
+use Rattle.txf_tree.specs.TreeState.{takes, tree_of, versions_of}
 use Rattle.txf_versions.specs.VersionsState.{VersionsState, AreHeld, fixes, is_pinned, is_version, without_transaction}
 use Rattle.txf_versions.specs.declared.kept.Older.{Older}
 use Rattle.txf_versions.specs.declared.opened.Opened.{Opened}
-use Rattle.txf_laws.specs.FileEffects.{AreUnopened, AreVersionsFew, LeavesOthers, CanBeCounted}
-use Rattle.txf_volume.specs.Commit.{names_in, MayCommit}
 use Rattle.txf_volume.specs.Making.{firsts_of, is_fresh, parts, units_older, AreMade, AreRight, CanTake}
-use Rattle.txf_volume.specs.Held.{FilesHeld, OwnHeld, changes_held, files_of, first_held, overlay_in, own_held, without_own, tree_units}
-use Rattle.txf_volume.specs.Ties.{AreTied, IsKeptOpen, IsOver, held_by_two, names_held, nodes_held, units_held}
+use Rattle.txf_volume.specs.Commit.{MayCommit}
+use Rattle.txf_volume.specs.Held.{FilesHeld, OwnHeld, changes_held, files_of, first_held, names_held, overlay_in, own_held, without_own, tree_units}
+use Rattle.txf_volume.specs.OwnParts.{or_unchanged}
+use Rattle.txf_volume.specs.Ties.{AreCounts, AreTied, IsKeptOpen, IsOver, held_by_two, nodes_held, units_held}
+use Rattle.txf_volume.specs.declared.counts.Counts.{Counts}
 use Rattle.txf_laws.specs.SoundFiles.{changed_by_two}
 use Rattle.txf_volume.proofs.CommitKept.{older-of}
 use Rattle.txf_laws.specs.Elements.{IsIn, each_pair}
@@ -44,9 +43,10 @@ use Rattle.txf_laws.proofs.offered.NormalForms.{AllBytes}
 use Rattle.txf_volume.proofs.OlderKept.{older-kept}
 use Rattle.txf_laws.proofs.offered.OlderVersions.{older-is, version_units}
 use Rattle.txf_laws.proofs.offered.Tables.{same_id-equal}
+use Rattle.txf_volume.proofs.OwnCounts.{sum-in, sum-without, takes-own}
 use Rattle.txf_volume.proofs.OwnTables.{own_changes-none}
 use Rattle.txf_laws.proofs.offered.CommittedUnits.{is_older}
-use Rattle.txf_volume.proofs.Seen.{changes_in, over-in, own_changes-held}
+use Rattle.txf_volume.proofs.Seen.{changes_in, changes-own, over-in, own_changes-held}
 use Rattle.txf_volume.proofs.Steady.{finals-bytes, steady}
 
 -- ---- lists
@@ -127,16 +127,7 @@ pub record Releases (r r' : ReserveState) (id : Id) : Type 0 where
   pub dropped : (i : Id) (n : ℕ) → is_in (holds_in r' i).dropped n ≡ (is_in (holds_in r i).dropped n && not (same_id i id))
   pub moves : (i : Id) → (holds_in r' i).moves ≡ ((holds_in r i).moves && not (same_id i id))
 
--- what may be required
-pub record IsCommittable (h : FilesHeld) (id : Id) : Type 0 where
-  pub ready : MayCommit h id
-  pub applies : changes_apply (tree_of h.tree) (own_changes (own_held h.overlays) id) ≡ true
-  pub left : LeavesOthers (files_of h) id
-  pub unopened : AreUnopened (files_of h) id
-  pub counted : CanBeCounted (files_committed (files_of h) id)
-  pub few : AreVersionsFew (versions_of h.tree)
-
-module _ (h : FilesHeld) (units : ℕ) (id : Id) (tied : AreTied h units) where
+module _ (h : FilesHeld) (units : ℕ) (counts : Counts) (id : Id) (tied : AreTied h units counts) where
   abbrev t : Tree
   t = tree_of h.tree
 
@@ -176,7 +167,7 @@ module _ (h : FilesHeld) (units : ℕ) (id : Id) (tied : AreTied h units) where
         (λ o there i. record { transaction = o.transaction; file = o.file; version = o.version; bytes = bytes_or (bytes_of t o.file) (option_map (λ (w : Older). w.bytes) (found-still o (subst (IsIn o) (sym opens) there) i)) })
 
     -- what the transaction changed can be committed
-    module _ (can : IsCommittable h id) (are : AreHeld v.opens v.older) (few : units < 2 ^ 64) where
+    module _ (can : MayCommit (files_of h) id) (are : AreHeld v.opens v.older) (few : units < 2 ^ 64) where
       tree-is : (files_committed (files_of h) id).tree ≡ changed_all t cs
       tree-is = tree-of cs (record { tree = t; versions = versions_of h.tree; store = [] })
 
@@ -189,15 +180,6 @@ module _ (h : FilesHeld) (units : ℕ) (id : Id) (tied : AreTied h units) where
             subst (λ u. tree_units u < 2 ^ 63) tree-is all.0,
             subst (λ n. n < 2 ^ 63) (λ i. units_older (tree-is i) (versions-are i) (sym firsts-left i)) all.1,
           )
-
-      sum-in : (os : List OwnHeld) (o : OverlayState) → overlay_in os id ≡ Some o → total_units o.written ≤ sum_by units_held os
-      sum-in [] o there = absurd (none-some o there)
-      sum-in (p ∷ ps) o there =
-          let all = sum_by-cons units_held p ps in
-          elim (cases_Bool (same_id p.transaction id)) [
-            | inl same ↦ let e = ap (λ (s : Option OverlayState). elim s as (λ _. ℕ) [ None ↦ 0 | Some q ↦ total_units q.written ]) (rw same at there) in omega arith
-            | inr differs ↦ let rest = sum-in ps o (rw differs at there) in omega arith
-          ]
 
       unopened-in : (qs : List Opened) → list_all (λ (f : FirstOpen). not (has_made cs f.file)) (map (first_held t h.versions.older) qs) ≡ true → (q : Opened) → IsIn q qs → not (has_made cs q.file) ≡ true
       unopened-in [] all q there = absurd there
@@ -230,15 +212,15 @@ module _ (h : FilesHeld) (units : ℕ) (id : Id) (tied : AreTied h units) where
             };
             only = over.own.only;
             rise = over.own.rise;
-            spare = subst (λ s. names_in s ≤ h.tree.spare) there can.ready.nodes;
+            spare = let mine = sum-in (λ o. length o.names) h.overlays id o there in let all = tied.room in omega arith;
             few = can.few;
-            units = let mine = sum-in h.overlays o there in let all = tied.few.units in omega arith;
+            units = let mine = sum-in (λ o. total_units o.written) h.overlays id o there in let all = tied.few.units in omega arith;
             sum = subst (λ ds. tree_units (changed_all t ds) < 2 ^ 64) own (let low = used.0 in omega arith);
           }
 
   -- ---- behind it
 
-  module _ (h' : FilesHeld) (units' : ℕ) (v : VersionsState) (can : IsCommittable h id) (commits : Commits h h' units units' id v) where
+  module _ (h' : FilesHeld) (units' : ℕ) (v : VersionsState) (can : MayCommit (files_of h) id) (commits : Commits h h' units units' id v) where
     made-own : (now : Option OverlayState) → overlay_in h.overlays id ≡ now → MatchOption now (AreMade (parts h.tree v units) (parts h'.tree h'.versions units') []) (λ o. AreMade (parts h.tree v units) (parts h'.tree h'.versions units') (own_of o))
         → AreMade (parts h.tree v units) (parts h'.tree h'.versions units') cs
     made-own None is own = subst (AreMade (parts h.tree v units) (parts h'.tree h'.versions units')) (sym (own_changes-held h.overlays id ∙ ap changes_in is)) own
@@ -267,7 +249,7 @@ module _ (h : FilesHeld) (units : ℕ) (id : Id) (tied : AreTied h units) where
     -- ---- others
 
     own-apart : each_pair changed_by_two (own_held h.overlays) ≡ true
-    own-apart = (steady h units tied).once
+    own-apart = (steady h units counts tied).once
 
     left-of : (o : OwnHeld) → IsIn o h.overlays → same_id o.transaction id ≡ false → IsLeft (files_of h) after o.transaction
     left-of o there apart = All-in (λ (p : OwnChanges). same_id p.transaction id ≡ false → IsLeft (files_of h) after p.transaction) (own_held h.overlays) can.left (changes_held o) (IsIn-map changes_held h.overlays o there) apart
@@ -370,8 +352,18 @@ module _ (h : FilesHeld) (units : ℕ) (id : Id) (tied : AreTied h units) where
       few-then : (f : OwnHeld → ℕ) → sum_by f h.overlays < 2 ^ 63 → sum_by f h'.overlays < 2 ^ 63
       few-then f few = let less = sum-filter-less f other h.overlays in let e = ap (sum_by f) commits.left in omega arith
 
-      pub tied-then : Releases h.reserve h'.reserve id → AreTied h' units'
-      tied-then gone = record {
+      -- the commit takes no room of the others
+      room-then : sum_by names_held h'.overlays ≤ h'.tree.spare
+      room-then =
+          let own = ap (sum_by takes) (own_changes-held h.overlays id ∙ changes-own (overlay_in h.overlays id)) in
+          let took = takes-own (or_unchanged (overlay_in h.overlays id)) in
+          let gone = sum-without (λ o. length o.names) refl h.overlays id tied.once in
+          let left = ap (sum_by names_held) commits.left in
+          let spare = made.spare in
+          omega (arith, own, took, gone, left, spare, tied.room)
+
+      pub tied-then : (counts' : Counts) → AreCounts h'.overlays counts' → Releases h.reserve h'.reserve id → AreTied h' units' counts'
+      tied-then counts' counted gone = record {
         formed = formed;
         once = ap (each_pair held_by_two) commits.left ∙ each_pair-filter held_by_two other h.overlays tied.once;
         over = All-by (λ (o : OwnHeld). IsOver (tree_of h'.tree) o.overlay) h'.overlays (λ o there.
@@ -380,5 +372,7 @@ module _ (h : FilesHeld) (units : ℕ) (id : Id) (tied : AreTied h units) where
         opened = made.right.opened;
         keeps = keeps-then gone;
         sum = made.right.units;
+        counted = counted;
         few = record { units = few-then units_held tied.few.units; nodes = few-then nodes_held tied.few.nodes; names = few-then names_held tied.few.names };
+        room = room-then;
       }

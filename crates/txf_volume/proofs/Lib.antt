@@ -15,7 +15,10 @@ pub mod Counted
 pub mod Sights
 pub mod Beginning
 pub mod Reading
+pub mod FilesShown
 pub mod Recording
+pub mod OwnPlaces
+pub mod OwnCounts
 pub mod TransactedEnds
 pub mod TransactedChange
 pub mod TransactedParts
@@ -23,7 +26,6 @@ pub mod TransactedCalls
 pub mod CommitKept
 pub mod CommitVersions
 pub mod CommitParts
-pub mod OwnPlaces
 pub mod CommitTied
 pub mod PlainKept
 pub mod PlainTies

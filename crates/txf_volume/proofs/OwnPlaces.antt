@@ -20,7 +20,7 @@ filter-all keep [] each = refl
 filter-all keep (x ∷ xs) each = rw (each x (inl refl)) (ap (λ ys. x ∷ ys) (filter-all keep xs (λ y there. each y (inr there))))
 
 -- where the first entry is its own, the others are of others
-without-first : (o : OwnHeld) (os : List OwnHeld) (id : Id) → each_pair held_by_two (o ∷ os) ≡ true → same_id o.transaction id ≡ true → without_own (o ∷ os) id ≡ os
+pub without-first : (o : OwnHeld) (os : List OwnHeld) (id : Id) → each_pair held_by_two (o ∷ os) ≡ true → same_id o.transaction id ≡ true → without_own (o ∷ os) id ≡ os
 without-first o os id once same =
     let parts = and_parts (list_all (held_by_two o) os) (each_pair held_by_two os) once in
     let e = same_id-equal o.transaction id same in

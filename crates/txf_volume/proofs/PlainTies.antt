@@ -1,5 +1,5 @@
 -- The parts of the files in memory go together, once a plain change is made.
-use Rattle.std.proofs.Common.{◌≡◌, ℕ, ◌+◌, ◌-◌, ◌<◌, ◌≤◌, ◌^◌, ◌==◌, ◌&&◌, ◌||◌, not, Bool, true, false, map, is_some, List, [], ◌∷◌, ◌++◌, Option, Some, None, All, refl, sym, ◌∙◌, ap, subst, arith, inl, inr}
+use Rattle.std.proofs.Common.{◌≡◌, ℕ, ◌+◌, ◌-◌, ◌<◌, ◌≤◌, ◌^◌, ◌==◌, ◌&&◌, ◌||◌, not, Bool, true, false, map, is_some, sum_by, List, [], ◌∷◌, ◌++◌, Option, Some, None, All, refl, sym, ◌∙◌, ap, subst, arith, inl, inr}
 use Rattle.std.proofs.lemmas.Bool.{cases_Bool, and_parts, and_from, true≢false}
 use Rattle.std.proofs.lemmas.List.{append-nil}
 use Rattle.std.proofs.lemmas.List.Elements.{All-head, All-tail}
@@ -22,9 +22,10 @@ use Rattle.ktm_world.specs.Tree.{Tree, IsWellFormed, numbers_rise, is_directory,
 use Rattle.txf_overlay.specs.Laws.{OtherTreeLaw}
 use Rattle.txf_overlay.specs.OverlayState.{OverlayState, Written, final_of, own_of}
 use Rattle.txf_reserve.specs.ReserveState.{IsSameHold, holds_in}
-use Rattle.txf_tree.specs.TreeState.{TreeState, tree_of, versions_of}
+use Rattle.txf_tree.specs.TreeState.{TreeState, takes, tree_of, versions_of}
 use Rattle.txf_versions.specs.VersionsState.{AreHeld, VersionsState, older_units}
-use Rattle.txf_volume.specs.Held.{FilesHeld, OwnHeld, changes_held, files_of, first_held, own_held, tree_units}
+use Rattle.txf_volume.specs.Held.{FilesHeld, OwnHeld, changes_held, files_of, first_held, names_held, own_held, tree_units}
+use Rattle.txf_volume.specs.declared.counts.Counts.{Counts}
 use Rattle.txf_laws.specs.FileEffects.{IsPlainChange, LeavesOwn}
 use Rattle.txf_volume.specs.Plain.{CanBeKept, IsLeftOver, KeepsEnded}
 use Rattle.txf_volume.specs.Ties.{AreTied, IsKeptOpen, IsOver}
@@ -124,7 +125,7 @@ plainly files o = go o.change
 
 -- ---- the parts once the change is made
 
-module _ (h : FilesHeld) (units : ℕ) (tied : AreTied h units) (c : Change) (plain : IsPlainChange (files_of h) c) where
+module _ (h : FilesHeld) (units : ℕ) (counts : Counts) (tied : AreTied h units counts) (c : Change) (plain : IsPlainChange (files_of h) c) where
   abbrev tree : Tree
   tree = tree_of h.tree
 
@@ -161,14 +162,14 @@ module _ (h : FilesHeld) (units : ℕ) (tied : AreTied h units) (c : Change) (pl
             tree = made i;
             versions = raised i;
             first_opens = (ap (map (first_held (tree_of tree') versions'.older)) opens
-                ∙ firsts-then h.tree tree' c h.versions.opens h.versions.older versions'.older made raised suits (steady h units tied).versions tied.opened older) i;
+                ∙ firsts-then h.tree tree' c h.versions.opens h.versions.older versions'.older made raised suits (steady h units counts tied).versions tied.opened older) i;
             table = record (files_of h).table { next_node = next i };
           })
           ∙ sym (plainly (files_of h) (changing c))
 
       pub tied-then : FormedLaw → OtherTreeLaw → All (λ (own : OwnHeld). IsLeftOver tree c own.overlay) h.overlays → (units' : ℕ) → units' ≡ tree_units (changed (tree_of h.tree) c)
-          → AreTied (record h { tree = tree'; versions = versions'; next_node = next' }) units'
-      tied-then forms others left units' sum =
+          → h.tree.spare ≤ tree'.spare + takes c → sum_by names_held h.overlays + takes c ≤ h.tree.spare → AreTied (record h { tree = tree'; versions = versions'; next_node = next' }) units' counts
+      tied-then forms others left units' sum spare room =
           let formed = forms.0 tree c tied.formed plain.does_apply in
           record {
             formed = subst IsWellFormed (sym made) formed;
@@ -177,11 +178,13 @@ module _ (h : FilesHeld) (units : ℕ) (tied : AreTied h units) (c : Change) (pl
                 (All-by (λ (own : OwnHeld). IsOver (changed tree c) own.overlay) h.overlays (λ own there.
                 over-then forms others tree c own.overlay formed (All-in (λ (p : OwnHeld). IsOver tree p.overlay) h.overlays tied.over own there) (All-in (λ (p : OwnHeld). IsLeftOver tree c p.overlay) h.overlays left own there)));
             opened = subst (λ os. All (IsKeptOpen tree' versions'.older) os) (sym opens)
-                (opened-then h.tree tree' c h.versions.opens h.versions.older versions'.older made raised suits (steady h units tied).versions tied.opened older);
+                (opened-then h.tree tree' c h.versions.opens h.versions.older versions'.older made raised suits (steady h units counts tied).versions tied.opened older);
             keeps = λ id. subst (λ (t : Tree). IsSameHold (holds_in h.reserve id) (holds_by t (own_changes (own_held h.overlays) id) [])) (sym made)
                 (subst (IsSameHold (holds_in h.reserve id)) (sym (holds-then tree c h.overlays id left)) (tied.keeps id));
             sum = sum ∙ sym (ap tree_units made);
+            counted = tied.counted;
             few = tied.few;
+            room = omega (arith, spare, room);
           }
 
   -- ---- what is counted
@@ -190,8 +193,8 @@ module _ (h : FilesHeld) (units : ℕ) (tied : AreTied h units) (c : Change) (pl
   counted : AreHeld h.versions.opens h.versions.older → (o : FileOutcome) → o.change ≡ Some c → units_used (files_after (files_of h) None o) < 2 ^ 63
       → (tree_units (changed tree c) < 2 ^ 64) × (older_units h.versions.older + kept (files_of h) c < 2 ^ 64)
   counted held o is few =
-      let law = (uses_law.plain (files_of h) o c (steady h units tied) is suits).units in
-      let now = units-now h units tied held in
+      let law = (uses_law.plain (files_of h) o c (steady h units counts tied) is suits).units in
+      let now = units-now h units counts tied held in
       let change = units-changed tree c suits.file (Rises-from tree tied.formed.rise) in
       let sum = tied.sum in
       (omega arith, omega arith)

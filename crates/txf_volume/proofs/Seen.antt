@@ -22,6 +22,7 @@ use Rattle.txf_versions.specs.VersionsState.{is_open_of}
 use Rattle.txf_versions.specs.declared.kept.Older.{Older}
 use Rattle.txf_versions.specs.declared.opened.Opened.{Opened}
 use Rattle.txf_volume.specs.Held.{FilesHeld, OwnHeld, files_of, first_held, overlay_in, own_held, version_bytes}
+use Rattle.txf_volume.specs.OwnParts.{or_unchanged}
 use Rattle.txf_volume.specs.Ties.{IsOver}
 use Rattle.std.proofs.lemmas.List.Elements.{All-head, All-tail}
 use Rattle.txf_laws.proofs.offered.NormalForms.{is_of_file, final-bytes}
@@ -34,6 +35,10 @@ use Rattle.txf_volume.proofs.OwnBytes.{one-bytes}
 abbrev pub changes_in : Option OverlayState → List Change
 changes_in None = []
 changes_in (Some o) = own_of o
+
+pub changes-own : (now : Option OverlayState) → changes_in now ≡ own_of (or_unchanged now)
+changes-own None = refl
+changes-own (Some o) = refl
 
 pub own_changes-held : (overlays : List OwnHeld) (id : Id) → own_changes (own_held overlays) id ≡ changes_in (overlay_in overlays id)
 own_changes-held [] id = refl

@@ -1,5 +1,5 @@
 -- What is in use of the files in memory, by what is counted.
-use Rattle.std.proofs.Common.{◌≡◌, ℕ, ◌+◌, ◌<◌, ◌≤◌, ◌&&◌, true, false, find, map, is_some, length, count_by, List, [], ◌∷◌, ◌++◌, sum_by, Option, Some, None, All, refl, ◌∙◌, ap, subst, arith, inl, inr}
+use Rattle.std.proofs.Common.{◌≡◌, ℕ, ◌+◌, ◌<◌, ◌≤◌, ◌&&◌, true, false, find, map, is_some, length, count_by, List, [], ◌∷◌, ◌++◌, sum_by, Option, Some, None, All, refl, sym, ◌∙◌, ap, subst, arith, inl, inr}
 use Rattle.std.proofs.lemmas.Bool.{cases_Bool, and_parts, and_from, eq-eqb, ne_eqb, lt-ltb, not-true, true≢false}
 use Rattle.std.proofs.lemmas.List.{append-nil}
 use Rattle.std.proofs.lemmas.List.Elements.{All-cons, All-nil}
@@ -22,8 +22,9 @@ use Rattle.txf_tree.specs.TreeState.{NodeNow, plain, tree_of, versions_in, versi
 use Rattle.txf_versions.specs.VersionsState.{AreHeld, is_version, older_units as kept_units}
 use Rattle.txf_versions.specs.declared.kept.Older.{Older}
 use Rattle.txf_versions.specs.declared.opened.Opened.{Opened}
-use Rattle.txf_volume.specs.Held.{FilesHeld, OwnHeld, changes_held, files_of, first_held, overlay_in, own_held, version_bytes}
-use Rattle.txf_volume.specs.Ties.{AreFew, AreTied, IsKeptOpen, IsOver, held_by_two, is_last, names_held, nodes_held, units_held}
+use Rattle.txf_volume.specs.Held.{FilesHeld, OwnHeld, changes_held, files_of, first_held, names_held, overlay_in, own_held, version_bytes}
+use Rattle.txf_volume.specs.Ties.{AreFew, AreTied, IsKeptOpen, IsOver, held_by_two, is_last, nodes_held, units_held}
+use Rattle.txf_volume.specs.declared.counts.Counts.{Counts}
 use Rattle.txf_laws.specs.SoundFiles.{changed_by_two, files_rise}
 use Rattle.txf_volume.specs.Uses.{IsSteady}
 use Rattle.txf_laws.specs.FileEffects.{CanBeCounted}
@@ -171,7 +172,7 @@ module _ (h : FilesHeld) (once : each_pair held_by_two h.overlays ≡ true) (own
     names = let own = waiting-sum in let all = counted.names in omega arith;
   }
 
-module _ (h : FilesHeld) (units : ℕ) (tied : AreTied h units) where
+module _ (h : FilesHeld) (units : ℕ) (counts : Counts) (tied : AreTied h units counts) where
   owns : (o : OwnHeld) → IsIn o h.overlays → IsOwn o.overlay
   owns o there = (All-in (λ (p : OwnHeld). IsOver (tree_of h.tree) p.overlay) h.overlays tied.over o there).own
 
@@ -215,16 +216,16 @@ module _ (h : FilesHeld) (units : ℕ) (tied : AreTied h units) where
       ∙ older-kept (first_held (tree_of h.tree) h.versions.older) (λ o. refl) (λ o. refl) (is_older (tree_of h.tree) (versions_of h.tree)) h.versions.opens h.versions.older held
       (λ o there. record { kept = (kept-open o there).kept; bytes = λ v found. ap (λ f. bytes_or (bytes_of (tree_of h.tree) o.file) (option_map (λ (v : Older). v.bytes) f)) found })
 
-  pub units-now : AreHeld h.versions.opens h.versions.older → units_used (files_of h) ≡ units + sum_by units_held h.overlays + kept_units h.versions.older
+  pub units-now : AreHeld h.versions.opens h.versions.older → units_used (files_of h) ≡ units + counts.units + kept_units h.versions.older
   unfolding units_used
-  units-now held = let a = own-sum h tied.once owns in let b = older-sum held in let c = tied.sum in omega arith
+  units-now held = let a = own-sum h tied.once owns in let b = older-sum held in let c = tied.sum in let d = tied.counted.units in omega arith
 
   -- ---- nodes and changes that wait
 
-  pub nodes-now : nodes_used (files_of h) ≡ 1 + length (tree_of h.tree) + sum_by nodes_held h.overlays
+  pub nodes-now : nodes_used (files_of h) ≡ 1 + length (tree_of h.tree) + counts.nodes
   unfolding nodes_used
-  nodes-now = let own = nodes-sum h tied.once owns in omega arith
+  nodes-now = let own = nodes-sum h tied.once owns in let counted = tied.counted.nodes in omega arith
 
-  pub waiting-now : file_changes_waiting (files_of h) ≡ sum_by names_held h.overlays
+  pub waiting-now : file_changes_waiting (files_of h) ≡ counts.names
   unfolding file_changes_waiting
-  waiting-now = waiting-sum h tied.once owns
+  waiting-now = waiting-sum h tied.once owns ∙ sym tied.counted.names

@@ -1,5 +1,5 @@
 -- The files in memory while a call of a transaction is kept.
-use Rattle.std.proofs.Common.{◌≡◌, ℕ, ◌<◌, ◌^◌, ◌==◌, ◌&&◌, not, Bool, true, false, find, is_some, map, List, [], ◌∷◌, sum_by, Option, Some, None, Bor, OnSome, refl, sym, ◌∙◌, ap, subst, arith, inl, inr}
+use Rattle.std.proofs.Common.{◌≡◌, ℕ, ◌<◌, ◌≤◌, ◌^◌, ◌==◌, ◌&&◌, not, Bool, true, false, find, is_some, map, List, [], ◌∷◌, sum_by, Option, Some, None, Bor, OnSome, refl, sym, ◌∙◌, ap, subst, arith, inl, inr}
 use Rattle.std.proofs.lemmas.Bool.{and_parts, eq-eqb, eqb-true, true≢false}
 use Rattle.std.proofs.lemmas.List.{append-nil}
 use Rattle.std.specs.List.{list_all}
@@ -22,9 +22,10 @@ use Rattle.txf_tree.specs.TreeState.{tree_of, versions_of}
 use Rattle.txf_versions.specs.VersionsState.{fixes, is_open_of, is_pinned, is_version}
 use Rattle.txf_versions.specs.declared.kept.Older.{Older}
 use Rattle.txf_versions.specs.declared.opened.Opened.{Opened}
-use Rattle.txf_volume.specs.Held.{FilesHeld, OwnHeld, changes_held, files_of, first_held, own_held}
+use Rattle.txf_volume.specs.Held.{FilesHeld, OwnHeld, changes_held, files_of, first_held, names_held, own_held}
 use Rattle.txf_volume.specs.OwnParts.{bare_own}
-use Rattle.txf_volume.specs.Ties.{AreTied, IsKeptOpen, IsOver, held_by_two, names_held, nodes_held, units_held}
+use Rattle.txf_volume.specs.Ties.{AreTied, IsKeptOpen, IsOver, held_by_two, nodes_held, units_held}
+use Rattle.txf_volume.specs.declared.counts.Counts.{Counts}
 use Rattle.txf_laws.specs.FileEffects.{IsNotOpened, IsPlanOf, CanBeCounted}
 use Rattle.txf_volume.specs.Transacted.{changed_by, first_opened, opened_by}
 use Rattle.txf_calls.specs.Fits.{opens_file}
@@ -123,7 +124,7 @@ over-same tree o o' names held written over = record {
       (record { only = over.own.only; rise = over.own.rise; files = over.own.files }));
 }
 
-module _ (h : FilesHeld) (units : ℕ) (tied : AreTied h units) (os' : List OwnHeld) (r' : ReserveState) (same : map bare_own os' ≡ map bare_own h.overlays) (kept : r' ≡ h.reserve) where
+module _ (h : FilesHeld) (units : ℕ) (counts : Counts) (tied : AreTied h units counts) (os' : List OwnHeld) (r' : ReserveState) (same : map bare_own os' ≡ map bare_own h.overlays) (kept : r' ≡ h.reserve) where
   own-same : own_held os' ≡ own_held h.overlays
   own-same = sym (own-bare os') ∙ ap own_held same ∙ own-bare h.overlays
 
@@ -133,13 +134,22 @@ module _ (h : FilesHeld) (units : ℕ) (tied : AreTied h units) (os' : List OwnH
       bared : (os : List OwnHeld) → sum_by f (map bare_own os) ≡ sum_by f os
       bared os = sum-map f bare_own os ∙ sums-same (λ (o : OwnHeld). f (bare_own o)) f os (λ o there. by o)
 
+  units-same : sum_by units_held os' ≡ sum_by units_held h.overlays
+  units-same = sum-same units_held (λ o. refl)
+
+  made-same : sum_by nodes_held os' ≡ sum_by nodes_held h.overlays
+  made-same = sum-same nodes_held (λ o. refl)
+
+  changes-same : sum_by names_held os' ≡ sum_by names_held h.overlays
+  changes-same = sum-same names_held (λ o. refl)
+
   over-then : (p : OwnHeld) → IsIn p os' → IsOver (tree_of h.tree) p.overlay
   over-then p there =
       let it = bare-from h.overlays (bare_own p) (subst (IsIn (bare_own p)) same (bare-in os' p there)) in
       over-same (tree_of h.tree) it.0.overlay p.overlay (ap (λ (o : OwnHeld). o.overlay.names) (sym it.2)) (ap (λ (o : OwnHeld). o.overlay.held) (sym it.2)) (ap (λ (o : OwnHeld). o.overlay.written) (sym it.2))
       (All-in (λ (o : OwnHeld). IsOver (tree_of h.tree) o.overlay) h.overlays tied.over it.0 it.1)
 
-  pub tied-bare : AreTied (record h { overlays = os'; reserve = r' }) units
+  pub tied-bare : AreTied (record h { overlays = os'; reserve = r' }) units counts
   tied-bare = record {
     formed = tied.formed;
     once = sym (pairs-bare os') ∙ ap (each_pair held_by_two) same ∙ pairs-bare h.overlays ∙ tied.once;
@@ -148,11 +158,13 @@ module _ (h : FilesHeld) (units : ℕ) (tied : AreTied h units) (os' : List OwnH
     keeps = subst (λ r. Keeps r (files_of (record h { overlays = os' }))) (sym kept)
         (λ who. subst (λ (own : List OwnChanges). IsSameHold (holds_in h.reserve who) (holds_by (tree_of h.tree) (own_changes own who) [])) (sym own-same) (tied.keeps who));
     sum = tied.sum;
+    counted = record { units = tied.counted.units ∙ sym units-same; nodes = tied.counted.nodes ∙ sym made-same; names = tied.counted.names ∙ sym changes-same };
     few = record {
-      units = subst (λ n. n < 2 ^ 63) (sym (sum-same units_held (λ o. refl))) tied.few.units;
-      nodes = subst (λ n. n < 2 ^ 63) (sym (sum-same nodes_held (λ o. refl))) tied.few.nodes;
-      names = subst (λ n. n < 2 ^ 63) (sym (sum-same names_held (λ o. refl))) tied.few.names;
+      units = subst (λ n. n < 2 ^ 63) (sym units-same) tied.few.units;
+      nodes = subst (λ n. n < 2 ^ 63) (sym made-same) tied.few.nodes;
+      names = subst (λ n. n < 2 ^ 63) (sym changes-same) tied.few.names;
     };
+    room = subst (λ n. n ≤ h.tree.spare) (sym changes-same) tied.room;
   }
 
   pub files-bare : files_of (record h { overlays = os'; reserve = r' }) ≡ files_of h
@@ -175,7 +187,7 @@ no-older None found {P} {b} is pinned kept some fails = absurd (true≢false (sy
 no-older (Some bytes) None is pinned kept some fails = none-some bytes.now (sym is)
 no-older (Some bytes) (Some v) is pinned kept some fails = true≢false (kept pinned)
 
-module _ (h : FilesHeld) (units : ℕ) (tied : AreTied h units) (id : Id) (file : ℕ) (is : IsNotOpened (files_of h) id file) where
+module _ (h : FilesHeld) (units : ℕ) (counts : Counts) (tied : AreTied h units counts) (id : Id) (file : ℕ) (is : IsNotOpened (files_of h) id file) where
   pub not-opened : find (is_open_of id file) h.versions.opens ≡ None
   not-opened = none-open (find (is_open_of id file) h.versions.opens) (first_held (tree_of h.tree) h.versions.older) (sym (first_open-held (tree_of h.tree) h.versions.older h.versions.opens id file) ∙ is.new)
 

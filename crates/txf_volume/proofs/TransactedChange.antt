@@ -1,9 +1,8 @@
 -- The files in memory once a transaction has made one change more.
-use Rattle.std.proofs.Common.{◌≡◌, ℕ, ◌<◌, ◌≤◌, ◌^◌, ◌==◌, ◌&&◌, ◌||◌, Bool, true, false, if◌then◌else◌, filter, map, List, [], ◌∷◌, ◌++◌, sum_by, Option, Some, None, refl, sym, ◌∙◌, ap, subst, arith, inl, inr}
+use Rattle.std.proofs.Common.{◌≡◌, ℕ, ◌+◌, ◌<◌, ◌≤◌, ◌^◌, ◌==◌, ◌&&◌, ◌||◌, Bool, true, false, if◌then◌else◌, filter, length, map, List, [], ◌∷◌, ◌++◌, sum_by, Option, Some, None, refl, sym, ◌∙◌, ap, subst, arith, length-append, inl, inr}
 use Rattle.std.proofs.lemmas.Bool.{cases_Bool, and_parts, and_from, eq-eqb, eqb-true, true≢false}
 use Rattle.std.proofs.lemmas.List.{append-nil, map-append}
 use Rattle.std.proofs.lemmas.List.Folds.{list_all-append, list_any-append}
-use Rattle.std.proofs.lemmas.List.Sums.{sum_by-cons}
 use Rattle.std.specs.List.{flat_map, list_all, list_any}
 use Rattle.std.specs.Prelude.{nat_lt}
 use Rattle.ktm_base.specs.declared.id.Id.{Id}
@@ -25,18 +24,23 @@ use Rattle.txf_overlay.specs.Written.{IsRising, bytes_at, bytes_or, total_units,
 use Rattle.txf_overlay.proofs.FilesMap.{IsRising-with, IsRising-without}
 use Rattle.txf_reserve.specs.ReserveState.{IsSameHold, Keeps, ReserveState, holds_in}
 use Rattle.txf_tree.specs.TreeState.{tree_of, versions_of}
-use Rattle.txf_volume.specs.Held.{FilesHeld, OwnHeld, files_of, overlay_in, own_held}
-use Rattle.txf_volume.specs.OwnParts.{HoldsChange, IsChangedIn, or_unchanged, starts, unchanged, with_overlay, written_next}
-use Rattle.txf_volume.specs.Ties.{AreFew, AreTied, IsOver, held_by_two, units_held}
+use Rattle.txf_volume.specs.Held.{FilesHeld, OwnHeld, files_of, names_held, overlay_in, own_held}
+use Rattle.txf_volume.specs.OwnParts.{HoldsChange, IsChangedIn, IsCounted, counts_of, or_unchanged, starts, unchanged, with_overlay, written_next}
+use Rattle.txf_volume.specs.Ties.{AreCounts, AreFew, AreTied, IsOver, held_by_two}
+use Rattle.txf_volume.specs.Transacted.{HasTreeRoom}
+use Rattle.txf_volume.specs.declared.counts.Counted.{Counted}
+use Rattle.txf_volume.specs.declared.counts.Counts.{Counts}
 use Rattle.txf_laws.specs.FileEffects.{CanBeCounted}
 use Rattle.txf_laws.specs.Elements.{IsIn, each_pair}
 use Rattle.txf_laws.proofs.offered.CommitsOfOthers.{All-by, All-in}
 use Rattle.txf_laws.proofs.offered.NormalForms.{written-final}
 use Rattle.txf_laws.specs.FinalChanges.{names_of}
 use Rattle.txf_laws.proofs.offered.Tables.{same_id-equal, same_id-sym}
+use Rattle.txf_volume.proofs.OwnCounts.{counts-with, sum-in, sum-with}
 use Rattle.txf_volume.proofs.OwnTables.{own_changes-new, own_changes-other}
-use Rattle.txf_volume.proofs.Seen.{changes_in, has_made-own, made-append, over-in, own_changes-held}
+use Rattle.txf_volume.proofs.Seen.{changes-own, has_made-own, made-append, over-in, own_changes-held}
 use Rattle.txf_volume.proofs.Steady.{few-counted, names-own}
+use Rattle.txf_volume.proofs.TransactedParts.{overlay-with}
 
 -- ---- the list of what transactions changed
 
@@ -77,14 +81,6 @@ once-with (p ∷ ps) id o once =
       | inl same ↦ rw same once
       | inr other ↦ rw other (and_from _ _ (all-with p ps id o other parts.0) (once-with ps id o parts.1))
     ]
-
--- the entry counts among all
-entry-counts : (os : List OwnHeld) (id : Id) (o : OverlayState) → total_units o.written ≤ sum_by units_held (with_overlay os id o)
-entry-counts [] id o = let one = sum_by-cons units_held (record { transaction = id; overlay = o }) [] in omega arith
-entry-counts (p ∷ ps) id o = elim (cases_Bool (same_id p.transaction id)) [
-  | inl same ↦ rw same (let one = sum_by-cons units_held (record p { overlay = o }) ps in omega arith)
-  | inr other ↦ rw other (let rest = entry-counts ps id o in let one = sum_by-cons units_held p (with_overlay ps id o) in omega arith)
-]
 
 -- ---- what changes hold
 
@@ -235,6 +231,13 @@ each-next f silent tree o o' c names =
       | inr of_names ↦ rw of_names (append-nil (f (seen tree o) c))
     ]
 
+-- a change of names counts, and one of bytes does not
+name-count : (c : Change) → changes_bytes c ≡ false → length (filter is_of_names (c ∷ [])) ≡ 1
+name-count c of_names = rw of_names refl
+
+bytes-count : (c : Change) → changes_bytes c ≡ true → length (filter is_of_names (c ∷ [])) ≡ 0
+bytes-count c bytes = rw bytes refl
+
 -- ---- the form of what a transaction changed
 
 IsOwn-unchanged : IsOwn unchanged
@@ -277,7 +280,7 @@ made-there (d ∷ cs) c make = ap (λ b. (is_make d && node_of d == node_of c) |
 
 -- ---- the files
 
-module _ (h : FilesHeld) (units : ℕ) (tied : AreTied h units) (law : OwnFormLaw) (id : Id) (c : Change) (fixed : List ℕ) (file : ℕ) (of_it : file ≡ node_of c)
+module _ (h : FilesHeld) (units : ℕ) (counts : Counts) (tied : AreTied h units counts) (law : OwnFormLaw) (id : Id) (c : Change) (fixed : List ℕ) (file : ℕ) (of_it : file ≡ node_of c)
     (fixes : (k : FilesHeld) → k.tree ≡ h.tree → k.versions ≡ h.versions → fixed ≡ fixed_bytes (files_of k) file (first_open_of (files_of k).first_opens id file)) where
   fixed_is : fixed ≡ fixed_bytes (files_of h) (node_of c) (first_open_of (files_of h).first_opens id (node_of c))
   fixed_is = fixes h refl refl ∙ ap (λ n. fixed_bytes (files_of h) n (first_open_of (files_of h).first_opens id n)) of_it
@@ -294,11 +297,7 @@ module _ (h : FilesHeld) (units : ℕ) (tied : AreTied h units) (law : OwnFormLa
       go (Some o) is = (over-in (tree_of h.tree) h.overlays id o tied.over is).own
 
   old-is : own_changes (own_held h.overlays) id ≡ own_of old
-  old-is = own_changes-held h.overlays id ∙ go (overlay_in h.overlays id)
-    where
-      go : (now : Option OverlayState) → changes_in now ≡ own_of (or_unchanged now)
-      go None = refl
-      go (Some o) = refl
+  old-is = own_changes-held h.overlays id ∙ changes-own (overlay_in h.overlays id)
 
   pub seen-is : tree_seen (files_of h) (Some id) ≡ seen (tree_of h.tree) old
   seen-is = ap (λ cs. changed_all (tree_of h.tree) (names_of cs)) old-is ∙ ap (changed_all (tree_of h.tree)) (names-own old old-own)
@@ -423,7 +422,7 @@ module _ (h : FilesHeld) (units : ℕ) (tied : AreTied h units) (law : OwnFormLa
   units-few counted =
       let new : OverlayState = record { names = old.names ++ filter is_of_names (c ∷ []); held = []; written = written_next old fixed c; spare = 0 } in
       let few = (few-then new refl refl counted).units in
-      let it = entry-counts h.overlays id new in
+      let it = sum-in (λ o. total_units o.written) (with_overlay h.overlays id new) id new (overlay-with h.overlays id new) in
       omega arith
 
   -- the change is made
@@ -434,8 +433,17 @@ module _ (h : FilesHeld) (units : ℕ) (tied : AreTied h units) (law : OwnFormLa
     pub made-files : files_of made ≡ owned (files_of h) id c
     made-files = ap (λ os. files_of (record h { overlays = os; reserve = r'; next_node = next_after h.next_node c })) is.list ∙ files-then is.overlay is.is.names is.is.written r'
 
-    pub made-tied : AreTied made units
-    made-tied = subst (λ os. AreTied (record h { overlays = os; reserve = r'; next_node = next_after h.next_node c }) units) (sym is.list) (record {
+    room-then : HasTreeRoom h (Some c) → sum_by names_held (with_overlay h.overlays id is.overlay) ≤ h.tree.spare
+    room-then room =
+        let all = sum-with (λ o. length o.names) refl h.overlays id is.overlay in
+        let more = ap length is.is.names ∙ length-append old.names (filter is_of_names (c ∷ [])) in
+        elim (cases_Bool (changes_bytes c)) [
+          | inl bytes ↦ let none = bytes-count c bytes in omega (arith, all, more, none, tied.room)
+          | inr of_names ↦ let one = name-count c of_names in let beside = room of_names in omega (arith, all, more, one, beside)
+        ]
+
+    pub made-tied : (counts' : Counts) → AreCounts os' counts' → HasTreeRoom h (Some c) → AreTied made units counts'
+    made-tied counts' counted' room = subst (λ os. AreTied (record h { overlays = os; reserve = r'; next_node = next_after h.next_node c }) units counts') (sym is.list) (record {
       formed = tied.formed;
       once = once-with h.overlays id is.overlay tied.once;
       over = All-by (λ (p : OwnHeld). IsOver (tree_of h.tree) p.overlay) (with_overlay h.overlays id is.overlay)
@@ -443,5 +451,29 @@ module _ (h : FilesHeld) (units : ℕ) (tied : AreTied h units) (law : OwnFormLa
       opened = tied.opened;
       keeps = keeps-then is.overlay is.is.names is.is.written r' is.is.holds;
       sum = tied.sum;
+      counted = subst (λ os. AreCounts os counts') is.list counted';
       few = few-then is.overlay is.is.names is.is.written counted;
+      room = room-then room;
     })
+
+    -- what is counted
+    module _ (it : Counted) (is_counted : IsCounted h.overlays os' id it) (left : Counts) (units_left : left.units + it.before.units ≡ counts.units) (nodes_left : left.nodes + it.before.nodes ≡ counts.nodes)
+        (names_left : left.names + it.before.names ≡ counts.names)
+      where
+        counts-now : AreCounts (with_overlay h.overlays id is.overlay) (record { units = left.units + it.after.units; nodes = left.nodes + it.after.nodes; names = left.names + it.after.names })
+        counts-now =
+            counts-with h.overlays id counts tied.counted it.before is_counted.before left units_left nodes_left names_left is.overlay it.after
+            (is_counted.after ∙ (λ i. counts_of (or_unchanged (overlay_in (is.list i) id))) ∙ ap (λ now. counts_of (or_unchanged now)) (overlay-with h.overlays id is.overlay))
+
+        few-now : AreFew (with_overlay h.overlays id is.overlay)
+        few-now = few-then is.overlay is.is.names is.is.written counted
+
+        pub counts-fit : (left.units + it.after.units < 2 ^ 64) × (left.nodes + it.after.nodes < 2 ^ 64) × (left.names + it.after.names < 2 ^ 64)
+        counts-fit = (omega (arith, counts-now.units, few-now.units), omega (arith, counts-now.nodes, few-now.nodes), omega (arith, counts-now.names, few-now.names))
+
+        pub counted-then : (counts' : Counts) → counts'.units ≡ left.units + it.after.units → counts'.nodes ≡ left.nodes + it.after.nodes → counts'.names ≡ left.names + it.after.names → AreCounts os' counts'
+        counted-then counts' more_units more_nodes more_names = subst (λ os. AreCounts os counts') (sym is.list) (record {
+          units = more_units ∙ counts-now.units;
+          nodes = more_nodes ∙ counts-now.nodes;
+          names = more_names ∙ counts-now.names;
+        })

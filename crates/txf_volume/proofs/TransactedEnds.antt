@@ -17,8 +17,9 @@ use Rattle.txf_tree.specs.TreeState.{tree_of, versions_of}
 use Rattle.txf_versions.specs.VersionsState.{VersionsState, fixes, is_pinned, is_version, without_transaction}
 use Rattle.txf_versions.specs.declared.kept.Older.{Older}
 use Rattle.txf_versions.specs.declared.opened.Opened.{Opened}
-use Rattle.txf_volume.specs.Held.{FilesHeld, OwnHeld, files_of, first_held, own_held, without_own}
-use Rattle.txf_volume.specs.Ties.{AreTied, IsKeptOpen, IsOver, held_by_two, names_held, nodes_held, units_held}
+use Rattle.txf_volume.specs.Held.{FilesHeld, OwnHeld, files_of, first_held, names_held, own_held, without_own}
+use Rattle.txf_volume.specs.Ties.{AreCounts, AreTied, IsKeptOpen, IsOver, held_by_two, nodes_held, units_held}
+use Rattle.txf_volume.specs.declared.counts.Counts.{Counts}
 use Rattle.txf_laws.specs.FileEffects.{forgotten}
 use Rattle.txf_laws.specs.Elements.{IsIn, each_pair}
 use Rattle.txf_laws.proofs.offered.Elements.{IsIn-filter, list_any-from}
@@ -101,7 +102,7 @@ and-kept : (b s : Bool) → s ≡ false → (b && not s) ≡ b
 and-kept true s other = rw other refl
 and-kept false s other = refl
 
-module _ (h : FilesHeld) (units : ℕ) (tied : AreTied h units) (id : Id) (os' : List OwnHeld) (r' : ReserveState) (v' : VersionsState) (p' : OpensState)
+module _ (h : FilesHeld) (units : ℕ) (counts : Counts) (tied : AreTied h units counts) (id : Id) (os' : List OwnHeld) (r' : ReserveState) (v' : VersionsState) (p' : OpensState)
     (own : os' ≡ without_own h.overlays id) (released : IsReleased h.reserve r' id)
     (opens : v'.opens ≡ without_transaction h.versions.opens id) (older : (f v : ℕ) → is_pinned v'.opens f v ≡ true → find (is_version f v) v'.older ≡ find (is_version f v) h.versions.older)
     (closed : p'.opens ≡ filter (is_not_of id) h.opens.opens) (last : p'.last ≡ h.opens.last) where
@@ -140,8 +141,8 @@ module _ (h : FilesHeld) (units : ℕ) (tied : AreTied h units) (id : Id) (os' :
   few : (f : OwnHeld → ℕ) → sum_by f h.overlays < 2 ^ 63 → sum_by f os' < 2 ^ 63
   few f was = let same = ap (sum_by f) own in let less = sum-filter f (λ o. not (same_id o.transaction id)) h.overlays in omega arith
 
-  pub tied-left : AreTied left units
-  tied-left = record {
+  pub tied-left : (counts' : Counts) → AreCounts os' counts' → AreTied left units counts'
+  tied-left counts' counted = record {
     formed = tied.formed;
     once = ap (each_pair held_by_two) own ∙ pairs-filter held_by_two (λ o. not (same_id o.transaction id)) h.overlays tied.once;
     over = subst (λ os. All (λ (o : OwnHeld). IsOver (tree_of h.tree) o.overlay) os) (sym own) (All-filter (λ (o : OwnHeld). not (same_id o.transaction id)) (λ (o : OwnHeld). IsOver (tree_of h.tree) o.overlay) h.overlays tied.over);
@@ -150,7 +151,9 @@ module _ (h : FilesHeld) (units : ℕ) (tied : AreTied h units) (id : Id) (os' :
         record { was = it.was; kept = ap is_some (found-again o there) ∙ it.kept });
     keeps = keeps;
     sum = tied.sum;
+    counted = counted;
     few = record { units = few units_held tied.few.units; nodes = few nodes_held tied.few.nodes; names = few names_held tied.few.names };
+    room = let same = ap (sum_by names_held) own in let less = sum-filter names_held (λ o. not (same_id o.transaction id)) h.overlays in omega (arith, same, less, tied.room);
   }
 
   first-left : map (first_held (tree_of h.tree) v'.older) v'.opens ≡ filter (λ o. not (same_id o.transaction id)) (map (first_held (tree_of h.tree) h.versions.older) h.versions.opens)

@@ -1,5 +1,5 @@
 -- What one change of a transaction makes of the parts of the files in memory.
-use Rattle.std.proofs.Common.{zero, suc, ◌≡◌, ℕ, ◌<◌, ◌^◌, if◌then◌else◌, filter, get_or, set, drop, take, length, map, List, [], ◌∷◌, ◌++◌, Option, Some, None, Result, Ok, Err, OnOk, OnErr, refl, sym, ◌∙◌, ap, subst, arith, inl, inr}
+use Rattle.std.proofs.Common.{zero, suc, ◌≡◌, ℕ, ◌<◌, ◌^◌, if◌then◌else◌, filter, get_or, set, drop, take, length, map, List, [], ◌∷◌, ◌++◌, Option, Some, None, Result, Ok, Err, IfOk, OnOk, OnErr, refl, sym, ◌∙◌, ap, subst, arith, inl, inr}
 use Rattle.std.proofs.lemmas.Bool.{cases_Bool, eq-eqb}
 use Rattle.std.proofs.lemmas.List.{get_or-append_right}
 use Rattle.std.proofs.Math.Nat.{sub_self}
@@ -7,10 +7,11 @@ use Rattle.std.proofs.Math.Seq.{set-append_seam, take-append_seam}
 use Rattle.std.proofs.lemmas.Option.{none-some}
 use Rattle.ktm_base.specs.declared.id.Id.{Id}
 use Rattle.ktm_types.specs.declared.change.Change.{Change}
-use Rattle.ktm_world.specs.Changes.{changes_apply, changed_all, has_made, node_of}
+use Rattle.ktm_world.specs.Changes.{changes_apply, changed_all, has_made, node_of, nodes_made}
 use Rattle.ktm_world.specs.Holds.{each_change}
 use Rattle.ktm_world.specs.Transactions.{same_id}
 use Rattle.ktm_world.specs.Tree.{Tree, IsWellFormed}
+use Rattle.txf_laws.proofs.offered.Tables.{same_id-from}
 use Rattle.txf_overlay.specs.Laws.{written_with}
 use Rattle.txf_overlay.specs.Written.{total_units}
 use Rattle.txf_overlay.specs.Nodes.{last_of}
@@ -18,7 +19,8 @@ use Rattle.txf_overlay.specs.OverlayState.{OverlayState, is_of_names}
 use Rattle.txf_overlay.specs.Views.{StandsOver, last_seat, seat_at, seats_of}
 use Rattle.txf_reserve.specs.ReserveState.{ReserveState}
 use Rattle.txf_volume.specs.Held.{OwnHeld, overlay_in}
-use Rattle.txf_volume.specs.OwnParts.{HoldsChange, IsChanged, IsChangedIn, bare, bare_own, or_unchanged, unchanged, with_overlay, written_next}
+use Rattle.txf_volume.specs.declared.counts.Counted.{Counted}
+use Rattle.txf_volume.specs.OwnParts.{HoldsChange, IsChanged, IsChangedIn, IsCounted, IsPlace, bare, bare_own, counts_of, or_unchanged, unchanged, with_overlay, written_next}
 
 -- ---- a node that is seen
 
@@ -65,6 +67,14 @@ with-new (p ∷ ps) id o none = elim (cases_Bool (same_id p.transaction id)) [
   | inr other ↦ rw other (ap (λ qs. p ∷ qs) (with-new ps id o (rw other at none)))
 ]
 
+-- it is found
+pub overlay-with : (os : List OwnHeld) (id : Id) (o : OverlayState) → overlay_in (with_overlay os id o) id ≡ Some o
+overlay-with [] id o = rw (same_id-from id id refl) refl
+overlay-with (p ∷ ps) id o = elim (cases_Bool (same_id p.transaction id)) [
+  | inl same ↦ rw (same, same) refl
+  | inr other ↦ rw (other, other) (overlay-with ps id o)
+]
+
 -- its first change
 pub changed-first : (tree : Tree) (fixed : List ℕ) (id : Id) (c : Change) (os os' : List OwnHeld) (o o' : OverlayState) (r r' : ReserveState) → overlay_in os id ≡ None → os' ≡ os ++ record { transaction = id; overlay = o' } ∷ []
     → o.names ≡ [] → o.written ≡ [] → IsChanged tree fixed id c o o' r r' → IsChangedIn tree fixed id c os os' r r'
@@ -95,7 +105,31 @@ pub bare-at : (os : List OwnHeld) (i : ℕ) (d : OwnHeld) (id : Id) (o o' : Over
     → map bare_own (set os i (record { transaction = id; overlay = o' })) ≡ map bare_own os
 bare-at os i d id o o' within is at same = bare-set os i (record { transaction = id; overlay = o' }) d within ((λ j. record { transaction = id; overlay = same j }) ∙ ap bare_own is ∙ ap bare_own at)
 
+-- ---- what is counted
+
+counted-with : (os os' : List OwnHeld) (id : Id) (o : OverlayState) (it : Counted) → os' ≡ with_overlay os id o → it.before ≡ counts_of (or_unchanged (overlay_in os id)) → it.after ≡ counts_of o → IsCounted os os' id it
+counted-with os os' id o it list before after =
+    record { before = before; after = after ∙ sym (ap (λ now. counts_of (or_unchanged now)) (ap (λ ps. overlay_in ps id) list ∙ overlay-with os id o)) }
+
+-- of a transaction whose changes are at this place
+pub counted-at : (os : List OwnHeld) (i : ℕ) (d : OwnHeld) (whose id : Id) (o o' : OverlayState) (it : Counted) → IsPlace os id i → record { transaction = whose; overlay = o } ≡ d → d ≡ get_or os i d → it.before ≡ counts_of o → it.after ≡ counts_of o'
+    → IsCounted os (set os i (record { transaction = whose; overlay = o' })) id it
+counted-at os i d whose id o o' it place is found before after =
+    counted-with os (set os i (record { transaction = whose; overlay = o' })) id o' it ((λ j. set os i (record ((is ∙ found) j) { overlay = o' })) ∙ sym (place.put o' d))
+    (before ∙ ap (λ (p : OwnHeld). counts_of p.overlay) (is ∙ found) ∙ sym (ap (λ now. counts_of (or_unchanged now)) (place.found d))) after
+
+-- of one that had changed nothing
+pub counted-first : (os os' : List OwnHeld) (id : Id) (o o' : OverlayState) (it : Counted) → overlay_in os id ≡ None → os' ≡ os ++ record { transaction = id; overlay = o' } ∷ [] → o.names ≡ [] → o.written ≡ []
+    → it.before ≡ counts_of o → it.after ≡ counts_of o' → IsCounted os os' id it
+counted-first os os' id o o' it none pushed names written before after =
+    counted-with os os' id o' it (pushed ∙ sym (with-new os id o' none))
+    (before ∙ (λ i. record { units = total_units (written i); nodes = nodes_made (names i); names = length (names i) }) ∙ sym (ap (λ now. counts_of (or_unchanged now)) none)) after
+
 -- ---- results
+
+pub if_ok : {T E : Type 0} {P Q S : T → Type 0} (r : Result T E) → IfOk r P → IfOk r Q → ((x : T) → P x → Q x → S x) → IfOk r S
+if_ok (Ok x) p q f = f x p q
+if_ok (Err e) p q f = tt
 
 pub on_ok : {T E : Type 0} {P Q : Type 0} (r : Result T E) → OnOk r P → (P → Q) → OnOk r Q
 on_ok (Ok x) p f = f p

@@ -1,14 +1,15 @@
 -- What the commit of a transaction needs.
-use Rattle.std.specs.Prelude.{ℕ, ◌≤◌, length, Option, Some, None}
+use Rattle.std.specs.Prelude.{◌≡◌, true}
 use Rattle.ktm_base.specs.declared.id.Id.{Id}
-use Rattle.txf_overlay.specs.OverlayState.{OverlayState}
-use Rattle.txf_volume.specs.Held.{FilesHeld, overlay_in}
+use Rattle.ktm_world.specs.Changes.{changes_apply}
+use Rattle.ktm_world.specs.Files.{FilesNow, own_changes}
+use Rattle.txf_laws.specs.FileEffects.{AreUnopened, AreVersionsFew, CanBeCounted, LeavesOthers}
+use Rattle.txf_laws.specs.Reservations.{files_committed}
 
--- how many nodes the changes of names make and move at most
-abbrev pub names_in : Option OverlayState → ℕ
-names_in None = 0
-names_in (Some o) = length o.names
-
--- the memory is there for the nodes that the transaction made and moved
-pub record MayCommit (h : FilesHeld) (id : Id) : Type 0 where
-  pub nodes : names_in (overlay_in h.overlays id) ≤ h.tree.spare
+-- what the transaction changed applies, and leaves to others what they changed and hold; what is in use then can be counted
+pub record MayCommit (files : FilesNow) (id : Id) : Type 0 where
+  pub applies : changes_apply files.tree (own_changes files.table.own id) ≡ true
+  pub left : LeavesOthers files id
+  pub unopened : AreUnopened files id
+  pub counted : CanBeCounted (files_committed files id)
+  pub few : AreVersionsFew files.versions

@@ -1,5 +1,5 @@
 -- What a contract sees of the files as the machine has them in memory, and what the model has of them.
-use Rattle.std.specs.Prelude.{ℕ, not, List, [], ◌∷◌, Option, Some, None, filter, map, find, sum_by, if◌then◌else◌}
+use Rattle.std.specs.Prelude.{ℕ, not, List, [], ◌∷◌, Option, Some, None, filter, map, find, length, sum_by, if◌then◌else◌}
 use Rattle.std.specs.Option.{option_map}
 use Rattle.ktm_base.specs.declared.id.Id.{Id}
 use Rattle.ktm_world.specs.Files.{FilesNow, FirstOpen, OwnChanges}
@@ -76,6 +76,10 @@ files_begun tree next_node = record { tree = tree; versions = []; first_opens = 
 abbrev pub overlay_in : List OwnHeld → Id → Option OverlayState
 overlay_in [] id = None
 overlay_in (o ∷ os) id = if same_id o.transaction id then Some o.overlay else overlay_in os id
+
+-- how many changes of names a transaction made
+abbrev pub names_held : OwnHeld → ℕ
+names_held o = length o.overlay.names
 
 -- what the other transactions changed
 abbrev pub without_own : List OwnHeld → Id → List OwnHeld

@@ -9,7 +9,7 @@ use Rattle.ktm_world.specs.FileUses.{older_versions}
 use Rattle.ktm_world.specs.Tree.{Tree, numbers_rise, units_of}
 use Rattle.txf_overlay.specs.OverlayState.{OverlayState, Written, final_of, is_of_names, own_of}
 use Rattle.txf_overlay.specs.Written.{IsRising, total_units}
-use Rattle.txf_tree.specs.TreeState.{TreeState, tree_of, versions_of}
+use Rattle.txf_tree.specs.TreeState.{TreeState, takes, tree_of, versions_of}
 use Rattle.txf_versions.specs.VersionsState.{VersionsState, is_pinned, is_version, older_units}
 use Rattle.txf_versions.specs.declared.opened.Opened.{Opened}
 use Rattle.txf_volume.specs.Held.{first_held, tree_units}
@@ -89,7 +89,7 @@ pub record AreMade (old new : Parts) (changes : List Change) : Type 0 where
   pub versions : versions_of new.tree ≡ fold versions_after (versions_of old.tree) changes
   pub opens : new.versions.opens ≡ old.versions.opens
   pub firsts : firsts_of new ≡ firsts_of old
-  pub spare : old.tree.spare ≤ new.tree.spare + length changes
+  pub spare : old.tree.spare ≤ new.tree.spare + sum_by takes changes
 
 -- ---- what is kept
 

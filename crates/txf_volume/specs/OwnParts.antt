@@ -3,7 +3,7 @@ use Rattle.std.specs.Prelude.{◌≡◌, ℕ, ◌+◌, ◌<◌, ◌^◌, true, A
 use Rattle.std.specs.List.{list_any}
 use Rattle.ktm_base.specs.declared.id.Id.{Id}
 use Rattle.ktm_types.specs.declared.change.Change.{Change}
-use Rattle.ktm_world.specs.Changes.{applies, has_made, node_of}
+use Rattle.ktm_world.specs.Changes.{applies, has_made, node_of, nodes_made}
 use Rattle.ktm_world.specs.Holds.{dropped_directory, moved_directory, places_of}
 use Rattle.ktm_world.specs.Transactions.{same_id}
 use Rattle.ktm_world.specs.Tree.{Tree}
@@ -12,6 +12,8 @@ use Rattle.txf_overlay.specs.OverlayState.{OverlayState, Written, is_of_names, s
 use Rattle.txf_overlay.specs.Views.{StandsOver}
 use Rattle.txf_overlay.specs.Written.{total_units}
 use Rattle.txf_reserve.specs.ReserveState.{ReserveState, HoldsToo}
+use Rattle.txf_volume.specs.declared.counts.Counted.{Counted}
+use Rattle.txf_volume.specs.declared.counts.Counts.{Counts}
 use Rattle.txf_volume.specs.Held.{OwnHeld, overlay_in, without_own}
 use Rattle.txf_volume.specs.Ties.{IsOver}
 
@@ -45,6 +47,15 @@ bare o = record o { spare = 0 }
 -- the same of an entry
 abbrev pub bare_own : OwnHeld → OwnHeld
 bare_own o = record o { overlay = bare o.overlay }
+
+-- how much a transaction changed
+abbrev pub counts_of : OverlayState → Counts
+counts_of o = record { units = total_units o.written; nodes = nodes_made o.names; names = length o.names }
+
+-- it is counted before and after
+pub record IsCounted (overlays overlays' : List OwnHeld) (id : Id) (counted : Counted) : Type 0 where
+  pub before : counted.before ≡ counts_of (or_unchanged (overlay_in overlays id))
+  pub after : counted.after ≡ counts_of (or_unchanged (overlay_in overlays' id))
 
 -- ---- one change
 

@@ -1,5 +1,5 @@
 -- What a plain call needs, and what it makes of the parts of the files in memory.
-use Rattle.std.specs.Prelude.{◌≡◌, ℕ, ◌+◌, ◌<◌, ◌^◌, ◌==◌, ◌&&◌, Bool, true, List, [], find, Option, Some, None, is_some, All, IfSome, if◌then◌else◌}
+use Rattle.std.specs.Prelude.{◌≡◌, ℕ, ◌+◌, ◌<◌, ◌≤◌, ◌^◌, ◌==◌, ◌&&◌, Bool, true, List, [], find, Option, Some, None, is_some, sum_by, All, IfSome, if◌then◌else◌}
 use Rattle.ktm_types.specs.declared.change.Change.{Change}
 use Rattle.ktm_world.specs.Changes.{changes_apply, changed, changes_bytes, node_of}
 use Rattle.ktm_world.specs.Committed.{version_of}
@@ -7,11 +7,11 @@ use Rattle.ktm_world.specs.FileOutcome.{FileOutcome}
 use Rattle.ktm_world.specs.Holds.{holds_by}
 use Rattle.ktm_world.specs.Tree.{Tree, bytes_of, units_of}
 use Rattle.txf_overlay.specs.OverlayState.{OverlayState, own_of}
-use Rattle.txf_tree.specs.TreeState.{TreeState, fits, tree_of, versions_of}
+use Rattle.txf_tree.specs.TreeState.{TreeState, fits, takes, tree_of, versions_of}
 use Rattle.txf_versions.specs.VersionsState.{VersionsState, is_pinned, is_version, older_units}
 use Rattle.txf_versions.specs.declared.kept.Older.{Older}
 use Rattle.txf_versions.specs.declared.opened.Opened.{Opened}
-use Rattle.txf_volume.specs.Held.{FilesHeld}
+use Rattle.txf_volume.specs.Held.{FilesHeld, names_held}
 use Rattle.txf_volume.specs.Ties.{is_last}
 use Rattle.txf_volume.specs.Uses.{ends}
 
@@ -31,9 +31,10 @@ abbrev pub copied : FilesHeld → Option Change → Option (List ℕ)
 copied h None = None
 copied h (Some change) = copied_for h.tree h.versions.opens change
 
--- the memory is there that a call takes: for its change and an open file, and a copy of what it changes, where that is needed
+-- the memory is there that a call takes: for its change, beside the changes that wait, for an open file, and a copy of what it changes, where that is needed
 pub record IsReady (h : FilesHeld) (o : FileOutcome) (copy : Option (List ℕ)) : Type 0 where
   pub change : IfSome o.change (λ change. fits h.tree change ≡ true)
+  pub room : IfSome o.change (λ change. sum_by names_held h.overlays + takes change ≤ h.tree.spare)
   pub opened : is_some o.opened ≡ true → 0 < h.opens.spare
   pub copy_is : copy ≡ copied h o.change
 

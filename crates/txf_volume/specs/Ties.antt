@@ -1,5 +1,5 @@
 -- How the parts of the files in memory go together. No public clause cites this module.
-use Rattle.std.specs.Prelude.{◌≡◌, ℕ, ◌<◌, ◌≤◌, ◌^◌, ◌==◌, ◌&&◌, not, Bool, true, List, find, is_some, length, sum_by, Option, Some, None, All}
+use Rattle.std.specs.Prelude.{◌≡◌, ℕ, ◌<◌, ◌≤◌, ◌^◌, ◌==◌, ◌&&◌, not, Bool, true, List, find, is_some, sum_by, Option, Some, None, All}
 use Rattle.ktm_world.specs.Changes.{nodes_made}
 use Rattle.ktm_world.specs.Committed.{version_of}
 use Rattle.ktm_world.specs.Transactions.{same_id}
@@ -13,7 +13,8 @@ use Rattle.txf_tree.specs.TreeState.{TreeState, tree_of, versions_of}
 use Rattle.txf_versions.specs.VersionsState.{is_version}
 use Rattle.txf_versions.specs.declared.kept.Older.{Older}
 use Rattle.txf_versions.specs.declared.opened.Opened.{Opened}
-use Rattle.txf_volume.specs.Held.{FilesHeld, OwnHeld, files_of, tree_units}
+use Rattle.txf_volume.specs.Held.{FilesHeld, OwnHeld, files_of, names_held, tree_units}
+use Rattle.txf_volume.specs.declared.counts.Counts.{Counts}
 use Rattle.txf_laws.specs.Elements.{each_pair}
 
 -- are they of two transactions
@@ -42,18 +43,20 @@ units_held o = total_units o.overlay.written
 abbrev pub nodes_held : OwnHeld → ℕ
 nodes_held o = nodes_made o.overlay.names
 
--- the changes of names that a transaction made
-abbrev pub names_held : OwnHeld → ℕ
-names_held o = length o.overlay.names
-
 -- all that transactions changed can be counted
 pub record AreFew (overlays : List OwnHeld) : Type 0 where
   pub units : sum_by units_held overlays < 2 ^ 63
   pub nodes : sum_by nodes_held overlays < 2 ^ 63
   pub names : sum_by names_held overlays < 2 ^ 63
 
--- the parts go together, and the committed files have so many units
-pub record AreTied (h : FilesHeld) (units : ℕ) : Type 0 where
+-- these are the sums of what transactions changed
+pub record AreCounts (overlays : List OwnHeld) (counts : Counts) : Type 0 where
+  pub units : counts.units ≡ sum_by units_held overlays
+  pub nodes : counts.nodes ≡ sum_by nodes_held overlays
+  pub names : counts.names ≡ sum_by names_held overlays
+
+-- the parts go together; the committed files have so many units, and what transactions changed is counted
+pub record AreTied (h : FilesHeld) (units : ℕ) (counts : Counts) : Type 0 where
   -- the tree is well formed
   pub formed : IsWellFormed (tree_of h.tree)
   -- a transaction has one entry among the changes
@@ -66,8 +69,12 @@ pub record AreTied (h : FilesHeld) (units : ℕ) : Type 0 where
   pub keeps : Keeps h.reserve (files_of h)
   -- the committed files have so many units
   pub sum : units ≡ tree_units (tree_of h.tree)
+  -- what transactions changed is counted
+  pub counted : AreCounts h.overlays counts
   -- counts do not come to their end
   pub few : AreFew h.overlays
+  -- the tree has room for as many names as undecided transactions made, moved and dropped
+  pub room : sum_by names_held h.overlays ≤ h.tree.spare
 
 -- the names that a caller sees, who changed this, if anything
 abbrev pub seen_by : Tree → Option OverlayState → Tree

@@ -1,4 +1,4 @@
--- How much of the files is in use once a call has settled, by what was in use before. No public clause cites this module.
+-- How much of the files is in use once a call has settled, by what was in use before. Public clauses cite nothing of this module but `IsSteady`.
 use Rattle.std.specs.Prelude.{◌≡◌, ℕ, ◌+◌, ◌≤◌, ◌==◌, ◌&&◌, ◌||◌, not, Bool, true, false, List, [], Option, Some, None, is_some, All, if◌then◌else◌}
 use Rattle.std.specs.List.{list_any}
 use Rattle.ktm_base.specs.declared.id.Id.{Id}

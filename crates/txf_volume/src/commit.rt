@@ -1,20 +1,17 @@
 // What a transaction changed is committed.
-ghost use Rattle.std.specs.Prelude.{◌≡◌, ◌+◌, ◌-◌, ◌<◌, ◌^◌, ◌∷◌, [], IfSome, IsOk, MatchOption, None, OnOk, true};
+ghost use Rattle.std.specs.Prelude.{◌≡◌, ◌+◌, ◌-◌, ◌<◌, ◌^◌, ◌∷◌, [], IfSome, MatchOption, None};
 ghost use Rattle.txf_laws.specs.Reservations.{files_committed};
-ghost use Rattle.ktm_world.specs.Changes.{changes_apply};
-ghost use Rattle.ktm_world.specs.Files.{own_changes};
 ghost use Rattle.ktm_world.specs.Tree.{units_of};
 ghost use Rattle.txf_overlay.specs.OverlayState.{final_of, own_of};
 ghost use Rattle.std.specs.List.{flat_map};
-ghost use Rattle.txf_laws.specs.FileEffects.{AreUnopened, AreVersionsFew, LeavesOthers, CanBeCounted};
 ghost use Rattle.txf_volume.specs.Commit.{MayCommit};
 ghost use Rattle.txf_volume.specs.Making.{parts, AreMade, AreRight, CanName, CanReplace, CanTake};
 ghost use Rattle.txf_volume.specs.Held.{files_of};
 
 use crate::change::units_in;
 use crate::files::{Files, end_version, law_of_older};
-use crate::own::{overlay_of, take_overlay};
-use ktm_base::{Bytes, Id, NoMemory};
+use crate::own::take_overlay;
+use ktm_base::{Bytes, Id};
 use ktm_types::Change;
 use txf_laws::law_of_forms;
 use txf_overlay::{Overlay, WrittenFile, law_of_other_trees};
@@ -104,27 +101,10 @@ fn commit_own(tree: &mut Tree, versions: &mut Versions, units: u64, own: Option<
 }
 
 impl Files {
-    /// Takes the memory that the commit of a transaction needs: room for the nodes that it makes and moves.
-    pub fn prepare_commit(&mut self, transaction: Id) -> Result<(), NoMemory>
-        ensures same { files_of self.new ≡ files_of self.old }
-        ensures ready { OnOk result (MayCommit self.new transaction) }
-        ensures enough { MayCommit self.old transaction → IsOk result }
-    {
-        match overlay_of(&self.overlays, transaction) {
-            Some(overlay) => self.tree.reserve(overlay.changes_len()),
-            None => Ok(()),
-        }
-    }
-
-    /// Commits what a transaction changed, and ends what it held, first opened and had open. It takes no memory and copies no
-    /// byte.
-    pub fn commit(&mut self, transaction: Id)
-        requires ready { MayCommit self.old transaction }
-        requires applies { changes_apply (files_of self.old).tree (own_changes (files_of self.old).table.own transaction) ≡ true }
-        requires left { LeavesOthers (files_of self.old) transaction }
-        requires unopened { AreUnopened (files_of self.old) transaction }
-        requires counted { CanBeCounted (files_committed (files_of self.old) transaction) }
-        requires few { AreVersionsFew (files_of self.old).versions }
+    // Commits what a transaction changed, and ends what it held, first opened and had open. It takes no memory, since its changes
+    // took it, and copies no byte.
+    pub(crate) fn commit_transaction(&mut self, transaction: Id)
+        requires { MayCommit (files_of self.old) transaction }
         ensures files { files_of self.new ≡ files_committed (files_of self.old) transaction }
     {
         law_of_forms();
@@ -133,7 +113,7 @@ impl Files {
         law_of_older(&self.versions);
         self.reserve.release(transaction);
         self.opens.end_group(transaction);
-        let own = take_overlay(&mut self.overlays, transaction);
+        let own = take_overlay(&mut self.overlays, &mut self.counts, transaction);
         self.units = commit_own(&mut self.tree, &mut self.versions, self.units, own);
     }
 }

@@ -11,6 +11,7 @@ ghost use Rattle.txf_overlay.specs.Laws.{IsOwn};
 ghost use Rattle.txf_volume.specs.Ties.{IsOver};
 ghost use Rattle.txf_volume.specs.Held.{files_begun, files_of, overlay_in, tree_units, version_bytes, FilesHeld};
 
+use crate::counts::Counts;
 use crate::own::{Own, overlay_of};
 use ktm_base::{Bytes, Id, NoMemory, read_at};
 use std::alloc::Global;
@@ -34,6 +35,8 @@ pub struct Files {
     pub(crate) next_node: u64,
     // Of the committed files.
     pub(crate) units: u64,
+    // Of what the transactions changed.
+    pub(crate) counts: Counts,
 }
 
 impl Model for Files {
@@ -59,7 +62,7 @@ impl Model for Files {
       opens = f.opens;
       reserve = f.reserve;
       next_node = f.next_node;
-    }) f.units };
+    }) f.units f.counts };
 }
 
 // A first open fixed each older version, and none is there twice.
@@ -179,6 +182,7 @@ impl Files {
             reserve: Reserve::new(alloc),
             next_node,
             units,
+            counts: Counts::new(),
         }
     }
 

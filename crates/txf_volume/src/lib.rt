@@ -5,6 +5,7 @@
 mod change;
 mod check;
 mod commit;
+mod counts;
 mod ends;
 mod files;
 mod handles;
@@ -13,10 +14,14 @@ mod limits;
 mod names;
 mod own;
 mod own_change;
+mod participant;
 mod plain;
 mod recorded;
 mod transacted;
 mod volume;
+mod written;
 
 pub use files::Files;
+pub use participant::PreparedChanges;
 pub use plain::Ready;
+pub use written::Written;

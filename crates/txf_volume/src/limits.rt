@@ -12,7 +12,6 @@ ghost use Rattle.txf_volume.specs.Uses.{kept, one_if, own_bytes, IsSteady};
 
 use crate::change::{gain, loss};
 use crate::files::Files;
-use crate::own::{names_of, nodes_of, units_of};
 use ktm_base::{END_OF_NODES, Id, MOST_NUMBER};
 use ktm_types::Change;
 use txf_calls::{Plan, Room};
@@ -54,9 +53,10 @@ impl Files {
     /// How many changes of files wait: what undecided transactions made, moved and dropped.
     pub fn changes_waiting(&self) -> u64
         ensures waiting { result ≡ file_changes_waiting (files_of self.now) }
+        ensures steady { IsSteady (files_of self.now) }
         ensures few { result < 2 ^ 63 }
     {
-        self.names_waiting()
+        self.counts.names
     }
 
     // The units in use.
@@ -65,7 +65,7 @@ impl Files {
         ensures steady { IsSteady (files_of self.now) }
         ensures few { result < 2 ^ 66 }
     {
-        let own = units_of(&self.overlays) as u128;
+        let own = self.counts.units as u128;
         self.units as u128 + own + self.versions.older_units() as u128
     }
 
@@ -75,16 +75,7 @@ impl Files {
         ensures steady { IsSteady (files_of self.now) }
         ensures few { result < 2 ^ 66 }
     {
-        1 + self.tree.len() as u128 + nodes_of(&self.overlays) as u128
-    }
-
-    // The changes of names that wait.
-    fn names_waiting(&self) -> u64
-        ensures names { result ≡ file_changes_waiting (files_of self.now) }
-        ensures steady { IsSteady (files_of self.now) }
-        ensures few { result < 2 ^ 63 }
-    {
-        names_of(&self.overlays)
+        1 + self.tree.len() as u128 + self.counts.nodes as u128
     }
 
     // The units of what a plain change ends, where it is kept since somebody first opened it.
@@ -175,7 +166,7 @@ impl Files {
     pub(crate) fn waiting_after(&self, who: Option<Id>, plan: &Plan) -> u64
         ensures { result ≡ file_changes_waiting (files_after (files_of self.now) who plan.now) }
     {
-        let waiting = self.names_waiting();
+        let waiting = self.changes_waiting();
         match (&plan.change, who) {
             (Some(change), Some(_)) if !changes_bytes(change) => waiting + 1,
             _ => waiting,

@@ -1,5 +1,5 @@
 // One change more of a transaction, in what it changed and in what it holds.
-ghost use Rattle.std.specs.Prelude.{◌≡◌, ℕ, ◌<◌, ◌+◌, ◌^◌, ◌≤◌, List, [], ◌∷◌, All, IsOk, None, Some, OnOk, OnErr, is_some, length, map, true, if◌then◌else◌};
+ghost use Rattle.std.specs.Prelude.{◌≡◌, ℕ, ◌<◌, ◌+◌, ◌^◌, ◌≤◌, List, [], ◌∷◌, All, IfOk, IsOk, None, Some, OnOk, OnErr, is_some, length, map, true, if◌then◌else◌};
 ghost use Rattle.ktm_types.specs.declared.recorded.Node.{Node};
 ghost use Rattle.ktm_types.specs.declared.change.Change.TheVariants.{Make, Put, Cut, Move, Drop};
 ghost use Rattle.ktm_world.specs.Changes.{applies, bytes_in, changed};
@@ -10,11 +10,12 @@ ghost use Rattle.txf_overlay.specs.Written.{total_units, HasBytes};
 ghost use Rattle.txf_reserve.specs.Acts.{listed};
 ghost use Rattle.txf_tree.specs.TreeState.{tree_of};
 ghost use Rattle.txf_volume.specs.Held.{overlay_in};
-ghost use Rattle.txf_volume.specs.OwnParts.{bare, bare_own, starts, unchanged, written_next, CanChange, IsChanged, IsChangedIn, IsPlace};
+ghost use Rattle.txf_volume.specs.OwnParts.{bare, bare_own, counts_of, starts, unchanged, written_next, CanChange, IsChanged, IsChangedIn, IsCounted, IsPlace};
 ghost use Rattle.txf_volume.specs.Ties.{held_by_two};
-ghost use Rattle.txf_volume.specs.Transacted.{CanOwn, IsWithin};
+ghost use Rattle.txf_volume.specs.Transacted.{CanAdd, IsWithin};
 ghost use Rattle.txf_laws.specs.Elements.{each_pair};
 
+use crate::counts::{Counted, Counts};
 use crate::holding::{hold_dropped, hold_file, hold_made, hold_moved};
 use crate::own::{Own, place_of};
 use ktm_base::{Id, NoMemory, Text};
@@ -213,7 +214,7 @@ fn change_overlay(
     }
 }
 
-// Makes room for a change, then makes it and holds what it holds.
+// Makes room for a change, then makes it, counts, and holds what it holds.
 fn make_room_and_change(
     tree: &Tree,
     reserve: &mut Reserve,
@@ -221,7 +222,7 @@ fn make_room_and_change(
     transaction: Id,
     fixed: &[u8],
     change: Change,
-) -> Result<(), NoMemory>
+) -> Result<Counted, NoMemory>
     requires spare { 0 < reserve.old.spare }
     requires stands { StandsOver (tree_of tree.now) overlay.old }
     requires applies { applies (seen (tree_of tree.now) overlay.old) change ≡ true }
@@ -229,12 +230,21 @@ fn make_room_and_change(
     ensures ok { OnOk result (IsChanged (tree_of tree.now) fixed.now transaction change overlay.old overlay.new reserve.old reserve.new) }
     ensures err { OnErr result (bare overlay.new ≡ bare overlay.old) }
     ensures same { OnErr result (reserve.new ≡ reserve.old) }
+    ensures before { IfOk result (λ counted. counted.before ≡ counts_of overlay.old) }
+    ensures after { IfOk result (λ counted. counted.after ≡ counts_of overlay.new) }
     ensures enough { 1 ≤ overlay.old.spare → IsWithin (Some overlay.old) change → IsOk result }
 {
+    let before = Counts::of(overlay);
     if let Err(NoMemory) = overlay.reserve(1) {
         return Err(NoMemory);
     }
-    change_overlay(tree, reserve, overlay, transaction, fixed, change)
+    if let Err(NoMemory) = change_overlay(tree, reserve, overlay, transaction, fixed, change) {
+        return Err(NoMemory);
+    }
+    Ok(Counted {
+        before,
+        after: Counts::of(overlay),
+    })
 }
 
 // Makes a change of a transaction whose changes are at this place.
@@ -246,14 +256,15 @@ fn change_at(
     transaction: Id,
     fixed: &[u8],
     change: Change,
-) -> Result<(), NoMemory>
+) -> Result<Counted, NoMemory>
     requires spare { 0 < reserve.old.spare }
     requires place { IsPlace overlays.old.items transaction place }
     requires can { CanChange (tree_of tree.now) fixed.now transaction change overlays.old.items }
     ensures ok { OnOk result (IsChangedIn (tree_of tree.now) fixed.now transaction change overlays.old.items overlays.new.items reserve.old reserve.new) }
+    ensures counted { IfOk result (IsCounted overlays.old.items overlays.new.items transaction) }
     ensures err { OnErr result (map bare_own overlays.new.items ≡ map bare_own overlays.old.items) }
     ensures same { OnErr result (reserve.new ≡ reserve.old) }
-    ensures enough { CanOwn overlays.old.items transaction (Some change) → IsOk result }
+    ensures enough { CanAdd overlays.old.items transaction change → IsOk result }
 {
     let overlay = &mut overlays[place].overlay;
     make_room_and_change(tree, reserve, overlay, transaction, fixed, change)
@@ -268,13 +279,14 @@ fn change_first(
     transaction: Id,
     fixed: &[u8],
     change: Change,
-) -> Result<(), NoMemory>
+) -> Result<Counted, NoMemory>
     requires spare { 0 < reserve.old.spare }
     requires first { overlay_in overlays.old.items transaction ≡ None }
     requires formed { IsWellFormed (tree_of tree.now) }
     requires applies { applies (tree_of tree.now) change ≡ true }
     requires few { total_units (written_next unchanged fixed.now change) < 2 ^ 64 }
     ensures ok { OnOk result (IsChangedIn (tree_of tree.now) fixed.now transaction change overlays.old.items overlays.new.items reserve.old reserve.new) }
+    ensures counted { IfOk result (IsCounted overlays.old.items overlays.new.items transaction) }
     ensures err { OnErr result (overlays.new.items ≡ overlays.old.items) }
     ensures same { OnErr result (reserve.new ≡ reserve.old) }
 {
@@ -287,22 +299,17 @@ fn change_first(
         overlay: Overlay::new(alloc),
     });
     let overlay = &mut overlays[place].overlay;
-    if let Err(NoMemory) = make_room_and_change(
-        tree,
-        reserve,
-        overlay,
-        transaction,
-        fixed,
-        change,
-    ) {
-        overlays.truncate(place);
-        return Err(NoMemory);
+    match make_room_and_change(tree, reserve, overlay, transaction, fixed, change) {
+        Ok(counted) => Ok(counted),
+        Err(NoMemory) => {
+            overlays.truncate(place);
+            Err(NoMemory)
+        }
     }
-    Ok(())
 }
 
-/// Makes a change of a transaction, and holds what it holds; a file that it has not written starts from these bytes, if the
-/// transaction has not made it.
+/// Makes a change of a transaction, counts what it has changed before and after it, and holds what the change holds; a
+/// file that it has not written starts from these bytes, if the transaction has not made it.
 pub(crate) fn change_own(
     tree: &Tree,
     reserve: &mut Reserve,
@@ -311,15 +318,16 @@ pub(crate) fn change_own(
     transaction: Id,
     fixed: &[u8],
     change: Change,
-) -> Result<(), NoMemory>
+) -> Result<Counted, NoMemory>
     requires spare { 0 < reserve.old.spare }
     requires once { each_pair held_by_two overlays.old.items ≡ true }
     requires formed { IsWellFormed (tree_of tree.now) }
     requires can { CanChange (tree_of tree.now) fixed.now transaction change overlays.old.items }
     ensures ok { OnOk result (IsChangedIn (tree_of tree.now) fixed.now transaction change overlays.old.items overlays.new.items reserve.old reserve.new) }
+    ensures counted { IfOk result (IsCounted overlays.old.items overlays.new.items transaction) }
     ensures err { OnErr result (map bare_own overlays.new.items ≡ map bare_own overlays.old.items) }
     ensures same { OnErr result (reserve.new ≡ reserve.old) }
-    ensures enough { CanOwn overlays.old.items transaction (Some change) → IsOk result }
+    ensures enough { CanAdd overlays.old.items transaction change → IsOk result }
 {
     match place_of(overlays, transaction) {
         Some(place) => change_at(tree, reserve, overlays, place, transaction, fixed, change),

@@ -1,5 +1,5 @@
 // What a plain call makes of the files, in two steps: it takes its memory, and once its change is recorded it is made.
-ghost use Rattle.std.specs.Prelude.{◌≡◌, ◌+◌, ◌-◌, ◌<◌, ◌^◌, ℕ, None, Some, All, IfOk, IsOk, is_some, true, if◌then◌else◌};
+ghost use Rattle.std.specs.Prelude.{◌≡◌, ◌+◌, ◌-◌, ◌<◌, ◌^◌, ℕ, ◌≤◌, None, Some, All, IfOk, IsOk, OnOk, is_some, sum_by, true, if◌then◌else◌};
 ghost use Rattle.std.specs.Option.{option_map};
 ghost use Rattle.ktm_world.specs.Changes.{applies, changed, changes_bytes, next_after, node_of};
 ghost use Rattle.ktm_world.specs.Committed.{version_of, versions_after};
@@ -7,9 +7,9 @@ ghost use Rattle.ktm_world.specs.FileOutcome.{changing, files_after, with_open};
 ghost use Rattle.ktm_world.specs.Tree.{is_file, numbers_rise};
 ghost use Rattle.txf_opens.specs.Acts.{open_of};
 ghost use Rattle.txf_opens.specs.declared.file.OpenFile.{OpenFile as Kept};
-ghost use Rattle.txf_tree.specs.TreeState.{fits, tree_of, versions_of};
+ghost use Rattle.txf_tree.specs.TreeState.{fits, takes, tree_of, versions_of};
 ghost use Rattle.txf_versions.specs.VersionsState.{is_pinned};
-ghost use Rattle.txf_volume.specs.Held.{files_of, tree_units};
+ghost use Rattle.txf_volume.specs.Held.{files_of, names_held, tree_units};
 ghost use Rattle.txf_laws.specs.FileEffects.{IsPlain, IsPlainChange, IsPlainOpen, LeavesOwn, CanBeCounted};
 ghost use Rattle.txf_volume.specs.Plain.{copied_for, CanBeKept, IsLeftOver, IsReady, KeepsEnded};
 ghost use Rattle.txf_volume.specs.Ties.{IsKeptOpen};
@@ -63,6 +63,7 @@ fn apply(tree: &mut Tree, versions: &mut Versions, change: Change, copy: Option<
     requires copied { copy ≡ copied_for tree.old versions.old.opens change }
     ensures tree { tree_of tree.new ≡ changed (tree_of tree.old) change }
     ensures versions { versions_of tree.new ≡ versions_after (versions_of tree.old) change }
+    ensures spare { tree.old.spare ≤ tree.new.spare + takes change }
     ensures opens { versions.new.opens ≡ versions.old.opens }
     ensures older { KeepsEnded tree.old change versions.old.opens versions.old.older versions.new.older }
 {
@@ -71,6 +72,23 @@ fn apply(tree: &mut Tree, versions: &mut Versions, change: Change, copy: Option<
     let dropped = tree.apply(change);
     if let Some(bytes) = copy.or(dropped) {
         end_version(versions, file, version, bytes);
+    }
+}
+
+// Takes the memory that a change needs, with room in the tree for the nodes that wait beside it.
+fn prepare_beside(tree: &mut Tree, waiting: u64, change: &Change) -> Result<(), NoMemory>
+    requires room { waiting ≤ tree.old.spare }
+    requires few { waiting < 2 ^ 63 }
+    ensures fits { OnOk result (fits tree.new change.now ≡ true) }
+    ensures room { OnOk result (waiting + takes change.now ≤ tree.new.spare) }
+    ensures enough { fits tree.old change.now ≡ true → waiting + takes change.now ≤ tree.old.spare → IsOk result }
+    ensures tree { tree_of tree.new ≡ tree_of tree.old }
+    ensures versions { versions_of tree.new ≡ versions_of tree.old }
+    ensures spare { tree.old.spare ≤ tree.new.spare }
+{
+    match change {
+        Change::Make { .. } | Change::Move { .. } => tree.reserve(waiting as usize + 1),
+        Change::Put { .. } | Change::Cut { .. } | Change::Drop { .. } => tree.prepare(change),
     }
 }
 
@@ -97,12 +115,15 @@ fn copy_for(
 }
 
 impl Files {
-    /// Takes the memory that a plain call needs. The bytes of a file that it changes are copied where somebody first opened
-    /// them, and else nothing is copied.
+    /// Takes the memory that a plain call needs, and leaves to the changes that wait the room that they took. The bytes of a
+    /// file that it changes are copied where somebody first opened them, and else nothing is copied.
     pub fn prepare(&mut self, plan: &Plan) -> Result<Ready, NoMemory>
         ensures same { files_of self.new ≡ files_of self.old }
         ensures ready { IfOk result (λ ready. IsReady self.new plan.now ready) }
         ensures enough { IsReady self.old plan.now None → IsOk result }
+        ensures spare { self.old.opens.spare ≤ self.new.opens.spare }
+        ensures versions { self.new.versions ≡ self.old.versions }
+        ensures reserve { self.new.reserve ≡ self.old.reserve }
     {
         if plan.opened.is_some() {
             if let Err(NoMemory) = self.opens.reserve(1) {
@@ -112,7 +133,7 @@ impl Files {
         let Some(change) = &plan.change else {
             return Ok(Ready { kept: None });
         };
-        if let Err(NoMemory) = self.tree.prepare(change) {
+        if let Err(NoMemory) = prepare_beside(&mut self.tree, self.counts.names, change) {
             return Err(NoMemory);
         }
         copy_for(self.alloc, &self.tree, &self.versions, change)
@@ -122,6 +143,7 @@ impl Files {
     fn commit_plain(&mut self, change: Change, copy: Option<Bytes>)
         requires plain { IsPlainChange (files_of self.old) change }
         requires fits { fits self.old.tree change ≡ true }
+        requires room { sum_by names_held self.old.overlays + takes change ≤ self.old.tree.spare }
         requires copied { copy ≡ copied_for self.old.tree self.old.versions.opens change }
         requires left { All (λ own. IsLeftOver (tree_of self.old.tree) change own.overlay) self.old.overlays }
         requires units { tree_units (changed (tree_of self.old.tree) change) < 2 ^ 64 }

@@ -8,28 +8,21 @@ ghost use Rattle.ktm_world.specs.FileOutcome.{files_after};
 ghost use Rattle.ktm_world.specs.Files.{tree_seen};
 ghost use Rattle.txf_opens.specs.Acts.{open_of};
 ghost use Rattle.txf_opens.specs.declared.file.OpenFile.{OpenFile as Kept};
-ghost use Rattle.txf_volume.specs.Held.{files_of, without_own};
+ghost use Rattle.txf_volume.specs.Held.{files_of};
 ghost use Rattle.txf_volume.specs.Restoring.{files_restored, CanBeRestored};
 ghost use Rattle.txf_laws.specs.FileEffects.{forgotten, IsNextOpen, IsNotOpened, IsPlanOf, CanBeCounted};
-ghost use Rattle.txf_volume.specs.Transacted.{changed_by, first_opened, opened_by, CanOwn, HasRoom};
+ghost use Rattle.txf_volume.specs.Transacted.{changed_by, first_opened, opened_by, CanAdd, CanOwn, HasRoom, HasTreeRoom};
 ghost use Rattle.txf_volume.specs.Uses.{IsSteady};
 
 use crate::files::{Files, fixed_bytes};
-use crate::own::Own;
+use crate::own::take_overlay;
 use crate::own_change::change_own;
 use ktm_base::{Id, NoMemory};
 use ktm_types::Change;
 use txf_calls::Plan;
 use txf_opens::OpenFile;
 use txf_overlay::law_of_own_forms;
-use txf_tree::{next_after, node_of};
-
-// The transaction has changed nothing from now on.
-fn drop_own(overlays: &mut Vec<Own>, transaction: Id)
-    ensures { overlays.new.items ≡ without_own overlays.old.items transaction }
-{
-    overlays.retain(|own| own.transaction != transaction);
-}
+use txf_tree::{changes_bytes, next_after, node_of};
 
 impl Files {
     // What is so of the files at every moment, as the contract of a function that does nothing.
@@ -39,14 +32,15 @@ impl Files {
         let _ = &self.alloc;
     }
 
-    // Takes the memory that a call needs whatever it changes.
-    fn make_room(&mut self) -> Result<(), NoMemory>
+    // Takes the memory that a call needs whatever it changes, and room in the tree for a change of names beside all that wait.
+    fn make_room(&mut self, change: &Option<Change>) -> Result<(), NoMemory>
         ensures files { files_of self.new ≡ files_of self.old }
         ensures opens { OnOk result (0 < self.new.opens.spare) }
         ensures versions { OnOk result (0 < self.new.versions.spare) }
         ensures reserve { OnOk result (0 < self.new.reserve.spare) }
+        ensures tree { OnOk result (HasTreeRoom self.new change.now) }
         ensures overlays { self.new.overlays ≡ self.old.overlays }
-        ensures enough { HasRoom self.old → IsOk result }
+        ensures enough { HasRoom self.old → HasTreeRoom self.old change.now → IsOk result }
     {
         if let Err(NoMemory) = self.opens.reserve(1) {
             return Err(NoMemory);
@@ -57,24 +51,30 @@ impl Files {
         if let Err(NoMemory) = self.reserve.reserve(1) {
             return Err(NoMemory);
         }
-        Ok(())
+        match change {
+            Some(change) if !changes_bytes(change) => {
+                self.tree.reserve(self.counts.names as usize + 1)
+            }
+            _ => Ok(()),
+        }
     }
 
     // A change of a transaction is its own from now on, and holds what it names.
     fn own(&mut self, transaction: Id, change: Change) -> Result<(), NoMemory>
         requires spare { 0 < self.old.reserve.spare }
+        requires tree { HasTreeRoom self.old (Some change) }
         requires applies { applies (tree_seen (files_of self.old) (Some transaction)) change ≡ true }
         requires counted { CanBeCounted (owned (files_of self.old) transaction change) }
         ensures done { OnOk result (files_of self.new ≡ owned (files_of self.old) transaction change) }
         ensures same { OnErr result (files_of self.new ≡ files_of self.old) }
         ensures opens { self.new.opens ≡ self.old.opens }
         ensures versions { self.new.versions ≡ self.old.versions }
-        ensures enough { CanOwn self.old.overlays transaction (Some change) → IsOk result }
+        ensures enough { CanAdd self.old.overlays transaction change → IsOk result }
     {
         law_of_own_forms();
         let next = next_after(self.next_node, &change);
         let fixed = fixed_bytes(&self.tree, &self.versions, transaction, node_of(&change));
-        if let Err(NoMemory) = change_own(
+        match change_own(
             &self.tree,
             &mut self.reserve,
             &mut self.overlays,
@@ -83,10 +83,13 @@ impl Files {
             fixed,
             change,
         ) {
-            return Err(NoMemory);
+            Ok(counted) => {
+                self.counts = self.counts.without(counted.before).with(counted.after);
+                self.next_node = next;
+                Ok(())
+            }
+            Err(NoMemory) => Err(NoMemory),
         }
-        self.next_node = next;
-        Ok(())
     }
 
     // Takes the memory that a call needs, and then the same, if there is a change.
@@ -97,9 +100,9 @@ impl Files {
         ensures same { OnErr result (files_of self.new ≡ files_of self.old) }
         ensures opens { OnOk result (0 < self.new.opens.spare) }
         ensures versions { OnOk result (0 < self.new.versions.spare) }
-        ensures enough { HasRoom self.old → CanOwn self.old.overlays transaction change → IsOk result }
+        ensures enough { HasRoom self.old → CanOwn self.old transaction change → IsOk result }
     {
-        if let Err(NoMemory) = self.make_room() {
+        if let Err(NoMemory) = self.make_room(&change) {
             return Err(NoMemory);
         }
         match change {
@@ -168,7 +171,7 @@ impl Files {
         ensures done { OnOk result (files_of self.new ≡ files_after (files_of self.old) (Some transaction) plan) }
         ensures same { OnErr result (files_of self.new ≡ files_of self.old) }
         ensures enough { HasRoom self.old → plan.change ≡ None → IsOk result }
-        ensures enough_for_change { HasRoom self.old → CanOwn self.old.overlays transaction plan.change → IsOk result }
+        ensures enough_for_change { HasRoom self.old → CanOwn self.old transaction plan.change → IsOk result }
     {
         let Plan {
             change,
@@ -189,7 +192,7 @@ impl Files {
     pub fn forget(&mut self, transaction: Id)
         ensures { files_of self.new ≡ forgotten (files_of self.old) transaction }
     {
-        drop_own(&mut self.overlays, transaction);
+        let _ = take_overlay(&mut self.overlays, &mut self.counts, transaction);
         self.reserve.release(transaction);
         self.versions.release(transaction);
         self.opens.end_group(transaction);

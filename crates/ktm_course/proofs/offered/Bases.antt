@@ -12,6 +12,7 @@ use Rattle.ktm_world.specs.Enlistments.{Enlistment, Manager}
 use Rattle.ktm_world.specs.Phases.{enlistment_part, event_if, has_settings}
 use Rattle.ktm_world.specs.Steps.{Basis, event_of_caller, events_ahead, events_of, held_event, is_of_durable, is_recorded_by}
 use Rattle.ktm_course.proofs.Bases.{recorded_basis}
+use Rattle.ktm_event.specs.Work.{FinalFile}
 use Rattle.ktm_course.specs.Recorded.{IsBasis, IsCaller, IsSuperior}
 use Rattle.ktm_course.specs.declared.parts.Enlisted.{Enlisted}
 use Rattle.ktm_course.specs.declared.parts.Parts.{Parts}
@@ -52,8 +53,8 @@ same_superior id (Some e) None None a b = absurd a
 same_superior id (Some e) None (Some o) a b = absurd b
 same_superior id (Some e) (Some f) None a b = absurd a
 
-module _ (id : Id) (parts : Parts) where
-  same_fact : (fact : Fact) (is_recorded : Bool) (a b : Basis) → IsBasis a id is_recorded parts → IsBasis b id is_recorded parts → (events_of fact a ≡ events_of fact b) × (is_recorded_by fact a ≡ is_recorded_by fact b)
+module _ {F : Type 0} {files_of : F → List FinalFile} (id : Id) (parts : Parts F) where
+  same_fact : (fact : Fact) (is_recorded : Bool) (a b : Basis) → IsBasis files_of a id is_recorded parts → IsBasis files_of b id is_recorded parts → (events_of fact a ≡ events_of fact b) × (is_recorded_by fact a ≡ is_recorded_by fact b)
   same_fact fact is_recorded a b is is' = go fact
     where
       of : a.id ≡ b.id
@@ -91,13 +92,13 @@ module _ (id : Id) (parts : Parts) where
       go Fact.SingleKeys = (λ i. Event.Single (of i) (Part.Settings (settings i)) ∷ [], recorded)
 
   -- the events of steps are the same from each basis of the same parts
-  pub same_events : (steps : List Step) (is_recorded : Bool) (a b : Basis) → IsBasis a id is_recorded parts → IsBasis b id is_recorded parts → events_ahead steps a ≡ events_ahead steps b
+  pub same_events : (steps : List Step) (is_recorded : Bool) (a b : Basis) → IsBasis files_of a id is_recorded parts → IsBasis files_of b id is_recorded parts → events_ahead steps a ≡ events_ahead steps b
   same_events [] is_recorded a b is is' = refl
   same_events (Record fact ∷ steps) is_recorded a b is is' =
       let same = same_fact fact is_recorded a b is is' in
       λ i. same.0 i ++ same_events steps (is_recorded_by fact a) (record a { is_recorded = is_recorded_by fact a }) (record b { is_recorded = is_recorded_by fact b }) (recorded_basis a id is_recorded (is_recorded_by fact a) parts is) (again b same.1 is') i
     where
-      again : (c : Basis) → is_recorded_by fact a ≡ is_recorded_by fact c → IsBasis c id is_recorded parts → IsBasis (record c { is_recorded = is_recorded_by fact c }) id (is_recorded_by fact a) parts
+      again : (c : Basis) → is_recorded_by fact a ≡ is_recorded_by fact c → IsBasis files_of c id is_recorded parts → IsBasis files_of (record c { is_recorded = is_recorded_by fact c }) id (is_recorded_by fact a) parts
       again c same is = record { id = is.id; recorded = sym same; changes = is.changes; settings = is.settings; caller = is.caller; superior = is.superior }
   same_events (Step.Commit ∷ steps) is_recorded a b is is' = same_events steps is_recorded a b is is'
   same_events (Tell who kind ∷ steps) is_recorded a b is is' = same_events steps is_recorded a b is is'

@@ -21,13 +21,11 @@ use Rattle.ktm_types.specs.declared.options.Durability.{Durability}
 use Rattle.ktm_types.specs.declared.reply.Reply.{Reply}
 use Rattle.ktm_types.specs.declared.reply.Reply.TheVariants.{Refused}
 use Rattle.ktm_types.specs.declared.step.Step.{Step}
-use Rattle.ktm_world.specs.Decide.{of_keys}
 use Rattle.ktm_world.specs.Enlistments.{Enlistment, Manager, Sent, is_unfinished, manager_at, tell}
 use Rattle.ktm_world.specs.FileOutcome.{FileOutcome}
 use Rattle.ktm_world.specs.Files.{OpenFile}
 use Rattle.ktm_world.specs.HandleCalls.{bind_to, duplicate_handle}
 use Rattle.ktm_world.specs.Handles.{object_at}
-use Rattle.ktm_world.specs.KeyCalls.{KeyOutcome}
 use Rattle.ktm_world.specs.Outcome.{Outcome, apply, only_reply, refuse_or}
 use Rattle.ktm_world.specs.Phases.{Course, ended, is_single_phase, telling}
 use Rattle.ktm_world.specs.Present.{Present}
@@ -261,10 +259,6 @@ inform_none x (Some e) information = record { made = length-map x.transactions.e
 pub told_none : (x : Present) (e : Option Enlistment) → GrantsNone x (get_information x e)
 unfolding get_information
 told_none x e = record { made = refl; sent = refl }
-
--- calls on keys
-pub keys_none : (x : Present) (o : KeyOutcome) → GrantsNone x (of_keys x o)
-keys_none x o = record { made = refl; sent = refl }
 
 -- and on files
 pub files_none : (x : Present) (process : Pid) (who : Option Id) (label : Option Label) (o : FileOutcome) → GrantsNone x (files_outcome x process who label o)

@@ -10,7 +10,7 @@ use Rattle.ktm_memory.specs.declared.settlement.Labels.{Labels}
 use Rattle.ktm_memory.specs.declared.settlement.Labels.TheVariants.{Bind, Duplicate, Unbind, UnbindAll}
 use Rattle.ktm_memory.specs.declared.settlement.Settlement.{Settlement}
 use Rattle.ktm_memory.specs.declared.settlement.Settlement.TheVariants.{Nothing, Begin, Change, Course, Handles, Pass, MakeManager, Recover, Take, Enlist, Inform}
-use Rattle.ktm_memory.specs.Memory.{CanCommit, MayBind, MayHandle, MaySettle, MemoryState, Shows, TellsWithin}
+use Rattle.ktm_memory.specs.Memory.{MayBind, MayHandle, MaySettle, MemoryState, Shows, TellsWithin}
 
 may_bind : (m : MemoryState) (j : JournalState) (process : Pid) (label : Option Label) (opened : Option OpenFile) → MayBind m process label opened → MayBind (record m { journal = j }) process label opened
 may_bind m j process (Some label) (Some file) may = may
@@ -45,10 +45,9 @@ settles_with m j (Change process label plan ready) may = (may.0, may.1, may_bind
 settles_with m j (Course t caller steps) may = record {
   there = may.there;
   leads = λ x shows. may.leads x (shows_with m j x shows);
-  places = may.places;
-  spare = may.spare;
-  commits = λ is. let can : CanCommit m t.id = may.commits is in
-      record { keys = can.keys; files = can.files; applies = can.applies; left = can.left; unopened = can.unopened; counted = can.counted; few = can.few };
+  few = may.few;
+  noted = may.noted;
+  commits = may.commits;
 }
 settles_with m j (Handles process labels) may = may_handle m j process labels may
 settles_with m j (Pass ms) may = may

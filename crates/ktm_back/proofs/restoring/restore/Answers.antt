@@ -12,12 +12,12 @@ with_tree-files-requires-clause-formed c = well-formed (tree_of c.args.committed
 
 pub restore_all-requires : goal.restore_all-requires
 restore_all-requires c =
-    subst (λ (f : FilesNow). CanHaveTheirOwn f c.with_store-keys.result.keys c.args.transactions.items) (sym c.with_tree-files.ensures)
-    (subst (λ (k : KeysNow). CanHaveTheirOwn (files_begun (tree_of c.args.committed.tree) c.args.committed.next_node) k c.args.transactions.items) (sym c.with_store-keys.ensures.keys)
+    subst (λ (f : FilesNow). CanHaveTheirOwn f c.with_store-keys.result c.args.transactions.items) (sym c.with_tree-files.ensures)
+    (subst (λ (k : KeysNow). CanHaveTheirOwn (files_begun (tree_of c.args.committed.tree) c.args.committed.next_node) k c.args.transactions.items) (sym c.with_store-keys.ensures)
     (can-start c.law_of_limits.ensures (tree_of c.args.committed.tree) c.args.committed.next_node c.args.store.items c.args.transactions.items c.requires.good))
 
 pub returns-in-Ok-clause-files : goal.returns-in-Ok-clause-files
 returns-in-Ok-clause-files c = c.in-Ok.ensures.files ∙ ap (λ (f : FilesNow). files_with_own f (own_changes_of c.args.transactions.items)) c.with_tree-files.ensures
 
 pub returns-in-Ok-clause-keys : goal.returns-in-Ok-clause-keys
-returns-in-Ok-clause-keys c = c.in-Ok.ensures.keys ∙ ap (λ (k : KeysNow). keys_with_own k (own_settings_of c.args.transactions.items)) c.with_store-keys.ensures.keys
+returns-in-Ok-clause-keys c = c.in-Ok.ensures.keys ∙ ap (λ (k : KeysNow). keys_with_own k (own_settings_of c.args.transactions.items)) c.with_store-keys.ensures

@@ -11,7 +11,7 @@ use Rattle.ktm_back.proofs.MoreOwned.{back-append, files-more, files-none, keys-
 use Rattle.ktm_back.proofs.restoring.restore_all.Goals as goal
 
 pub loop-t-init : goal.loop-t-init
-loop-t-init c = record { rest = c.into_iter-t-iterator.ensures.into_iter_gives.0; files = sym (files-none (files_of c.args.files.now)); keys = sym (keys-none c.args.keys.now.keys) }
+loop-t-init c = record { rest = c.into_iter-t-iterator.ensures.into_iter_gives.0; files = sym (files-none (files_of c.args.files.now)); keys = sym (keys-none c.args.keys.now) }
 
 pub restore_if_held-requires : goal.restore_if_held-requires
 restore_if_held-requires c =
@@ -19,7 +19,7 @@ restore_if_held-requires c =
     let t = c.in-Some.t in
     let behind = into_iter_items c.next.new.self in
     let all : before ++ t ∷ behind ≡ c.args.transactions.items = ap (λ (ts : List Recorded). before ++ ts) (sym c.in-Some.ensures.steps.0) ∙ c.loop-t.invariant.rest in
-    subst (λ (f : FilesNow). CanHaveItsOwn f c.loop-t.keys.keys t) (sym c.loop-t.invariant.files)
+    subst (λ (f : FilesNow). CanHaveItsOwn f c.loop-t.keys t) (sym c.loop-t.invariant.files)
     (subst (λ (k : KeysNow). CanHaveItsOwn (files_with_own (files_of c.args.files.now) (own_changes_of before)) k t) (sym c.loop-t.invariant.keys)
     (c.requires before behind t all))
 
@@ -41,8 +41,8 @@ loop-t-preserved c =
       keys =
           c.in_ok-restore_if_held.ensures.keys
           ∙ ap (λ (k : KeysNow). keys_with_own k (own_settings_of (t ∷ []))) c.loop-t.invariant.keys
-          ∙ keys-more c.args.keys.now.keys (own_settings_of before) (own_settings_of (t ∷ []))
-          ∙ ap (keys_with_own c.args.keys.now.keys) (back-append set_by has_own_settings before (t ∷ []));
+          ∙ keys-more c.args.keys.now (own_settings_of before) (own_settings_of (t ∷ []))
+          ∙ ap (keys_with_own c.args.keys.now) (back-append set_by has_own_settings before (t ∷ []));
     }
 
 pub returns : goal.returns
@@ -51,5 +51,5 @@ returns c =
     let all : c.loop-t.yielded ≡ c.args.transactions.items = sym (append-nil c.loop-t.yielded) ∙ ap (λ (ts : List Recorded). c.loop-t.yielded ++ ts) (sym none) ∙ c.loop-t.invariant.rest in
     record {
       files = c.loop-t.invariant.files ∙ ap (λ (ts : List Recorded). files_with_own (files_of c.args.files.now) (own_changes_of ts)) all;
-      keys = c.loop-t.invariant.keys ∙ ap (λ (ts : List Recorded). keys_with_own c.args.keys.now.keys (own_settings_of ts)) all;
+      keys = c.loop-t.invariant.keys ∙ ap (λ (ts : List Recorded). keys_with_own c.args.keys.now (own_settings_of ts)) all;
     }

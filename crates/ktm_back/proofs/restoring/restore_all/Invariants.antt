@@ -9,5 +9,5 @@ abbrev pub invariant-loop-t : goal.invariant-loop-t
 invariant-loop-t l = record {
   rest : l.yielded ++ into_iter_items l.t-iterator ≡ l.fn.transactions.items;
   files : files_of l.files ≡ files_with_own (files_of l.initial.files) (own_changes_of l.yielded);
-  keys : (l.keys).keys ≡ keys_with_own (l.initial.keys).keys (own_settings_of l.yielded);
+  keys : l.keys ≡ keys_with_own l.initial.keys (own_settings_of l.yielded);
 }

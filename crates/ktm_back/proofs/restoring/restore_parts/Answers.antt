@@ -19,7 +19,7 @@ use Rattle.ktm_back.proofs.OneOfKind.{alone, joined, no-changes, no-settings, no
 use Rattle.ktm_back.proofs.restoring.restore_parts.Goals as goal
 
 pub loop-p-init : goal.loop-p-init
-loop-p-init c = record { rest = c.into_iter-p-iterator.ensures.into_iter_gives.0; files = sym (files-none (files_of c.args.files.now)); keys = sym (keys-none c.args.keys.now.keys) }
+loop-p-init c = record { rest = c.into_iter-p-iterator.ensures.into_iter_gives.0; files = sym (files-none (files_of c.args.files.now)); keys = sym (keys-none c.args.keys.now) }
 
 pub restore_part-requires-clause-changes : goal.restore_part-requires-clause-changes
 restore_part-requires-clause-changes c = λ is.
@@ -47,14 +47,14 @@ restore_part-requires-clause-settings c = λ is.
     let behind = into_iter_items c.next.new.self in
     let all : before ++ p ∷ behind ≡ c.args.parts.items = ap (λ (ps : List RecordedPart). before ++ ps) (sym c.in-Some.ensures.steps.0) ∙ c.loop-p.invariant.rest in
     let few : count_among (is_part_of DonePart.Keys) (before ++ p ∷ behind) ≤ 1 = subst (λ ps. count_among (is_part_of DonePart.Keys) ps ≤ 1) (sym all) c.requires.one_of_keys in
-    let same : c.loop-p.keys.keys ≡ c.args.keys.now.keys =
+    let same : c.loop-p.keys ≡ c.args.keys.now =
     c.loop-p.invariant.keys
-    ∙ ap (λ (ss : OwnSettings). keys_with_own c.args.keys.now.keys (own_if_set id ss)) (none-before settings_in (is_part_of DonePart.Keys) no-settings before behind p few is)
-    ∙ keys-none c.args.keys.now.keys in
+    ∙ ap (λ (ss : OwnSettings). keys_with_own c.args.keys.now (own_if_set id ss)) (none-before settings_in (is_part_of DonePart.Keys) no-settings before behind p few is)
+    ∙ keys-none c.args.keys.now in
     let own : gathered settings_in c.args.parts.items ≡ settings_in p.part = ap (gathered settings_in) (sym all) ∙ alone settings_in (is_part_of DonePart.Keys) no-settings before behind p few is in
     let there : IsIn p c.args.parts.items = subst (IsIn p) all (IsIn-right p before (p ∷ behind) (inl refl)) in
     subst (λ (k : KeysNow). CanBeSetAgain k id (settings_in p.part)) (sym same)
-    (subst (CanBeSetAgain c.args.keys.now.keys id) own
+    (subst (CanBeSetAgain c.args.keys.now id) own
     (c.requires.settings (list_any-from (λ (q : RecordedPart). is_part_of DonePart.Keys q.part) c.args.parts.items p there is)))
 
 pub loop-p-preserved : goal.loop-p-preserved
@@ -76,8 +76,8 @@ loop-p-preserved c =
       keys =
           c.in_ok-restore_part.ensures.keys
           ∙ ap (λ (k : KeysNow). keys_with_own k (own_if_set id (settings_in p.part))) c.loop-p.invariant.keys
-          ∙ keys-more c.args.keys.now.keys (own_if_set id (gathered settings_in before)) (own_if_set id (settings_in p.part))
-          ∙ ap (keys_with_own c.args.keys.now.keys) (joined settings_in (is_part_of DonePart.Keys) no-settings before behind p few_keys (own_if_set id) refl);
+          ∙ keys-more c.args.keys.now (own_if_set id (gathered settings_in before)) (own_if_set id (settings_in p.part))
+          ∙ ap (keys_with_own c.args.keys.now) (joined settings_in (is_part_of DonePart.Keys) no-settings before behind p few_keys (own_if_set id) refl);
     }
 
 pub returns : goal.returns
@@ -87,5 +87,5 @@ returns c =
     let all : c.loop-p.yielded ≡ c.args.parts.items = sym (append-nil c.loop-p.yielded) ∙ ap (λ (ps : List RecordedPart). c.loop-p.yielded ++ ps) (sym none) ∙ c.loop-p.invariant.rest in
     record {
       files = c.loop-p.invariant.files ∙ ap (λ (ps : List RecordedPart). files_with_own (files_of c.args.files.now) (own_if_changed id (gathered changes_in ps))) all;
-      keys = c.loop-p.invariant.keys ∙ ap (λ (ps : List RecordedPart). keys_with_own c.args.keys.now.keys (own_if_set id (gathered settings_in ps))) all;
+      keys = c.loop-p.invariant.keys ∙ ap (λ (ps : List RecordedPart). keys_with_own c.args.keys.now (own_if_set id (gathered settings_in ps))) all;
     }

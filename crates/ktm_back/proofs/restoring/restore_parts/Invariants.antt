@@ -12,5 +12,5 @@ abbrev pub invariant-loop-p : goal.invariant-loop-p
 invariant-loop-p l = record {
   rest : l.yielded ++ into_iter_items l.p-iterator ≡ l.fn.parts.items;
   files : files_of l.files ≡ files_with_own (files_of l.initial.files) (own_if_changed l.transaction (flat_map (λ (p : RecordedPart). changes_in p.part) l.yielded));
-  keys : (l.keys).keys ≡ keys_with_own (l.initial.keys).keys (own_if_set l.transaction (flat_map (λ (p : RecordedPart). settings_in p.part) l.yielded));
+  keys : l.keys ≡ keys_with_own l.initial.keys (own_if_set l.transaction (flat_map (λ (p : RecordedPart). settings_in p.part) l.yielded));
 }

@@ -6,63 +6,63 @@ use Rattle.ktm_event.proofs.Writings.{on_ok_so, on_err_so, work, work_size, work
 use Rattle.ktm_event.proofs.event.put_work.Goals as goal
 
 pub put_tagged_id-requires : goal.put_tagged_id-requires
-put_tagged_id-requires c = work_id c.args.stage (part_of c.args.work) c.requires
+put_tagged_id-requires g c = work_id c.args.stage (part_of g.F.WrittenFiles.files c.args.work) c.requires
 
 pub returns-in_err-put_tagged_id-clause-full : goal.returns-in_err-put_tagged_id-clause-full
-returns-in_err-put_tagged_id-clause-full c =
+returns-in_err-put_tagged_id-clause-full g c =
     let p = err_from_is_err_and c.from_residual.result c.from_residual.ensures.1 in
-    rw p.1 (omega (arith, c.in_err-put_tagged_id.ensures.full, work_size c.args.stage c.args.transaction (part_of c.args.work)))
+    rw p.1 (omega (arith, c.in_err-put_tagged_id.ensures.full, work_size c.args.stage c.args.transaction (part_of g.F.WrittenFiles.files c.args.work)))
 
 pub put_names_and_files_part-requires : goal.put_names_and_files_part-requires
-put_names_and_files_part-requires c = work_changes c.args.stage c.args.transaction _ (rw c.in-Changes.is at c.requires)
+put_names_and_files_part-requires g c = work_changes c.args.stage c.args.transaction _ (rw c.in-Changes.is at c.requires)
 
 pub put_settings_part-requires : goal.put_settings_part-requires
-put_settings_part-requires c = work_settings c.args.stage c.args.transaction _ (rw c.in-Settings.is at c.requires)
+put_settings_part-requires g c = work_settings c.args.stage c.args.transaction _ (rw c.in-Settings.is at c.requires)
 
 pub put_enlistment-requires : goal.put_enlistment-requires
-put_enlistment-requires c = work_enlistment c.args.stage c.args.transaction _ _ _ (rw c.in-Enlistment.is at c.requires)
+put_enlistment-requires g c = work_enlistment c.args.stage c.args.transaction _ _ _ (rw c.in-Enlistment.is at c.requires)
 
 pub returns-in-Changes-clause-adds : goal.returns-in-Changes-clause-adds
-returns-in-Changes-clause-adds c =
+returns-in-Changes-clause-adds g c =
     let head = rw c.tag.ensures at c.in_ok-put_tagged_id.ensures.adds in
-    rw c.in-Changes.is (on_ok_so c.put_names_and_files_part.result c.put_names_and_files_part.ensures.adds (λ adds. work c.args.stage (Changes (changes_of c.in-Changes.names.now c.in-Changes.files.now)) (rw c.in-Changes.is at c.requires) head adds))
+    rw c.in-Changes.is (on_ok_so c.put_names_and_files_part.result c.put_names_and_files_part.ensures.adds (λ adds. work c.args.stage (Changes (changes_of c.in-Changes.names.now (g.F.WrittenFiles.files c.in-Changes.files.now))) (rw c.in-Changes.is at c.requires) head adds))
 
 pub returns-in-Changes-clause-len : goal.returns-in-Changes-clause-len
-returns-in-Changes-clause-len c =
-    let size = work_size c.args.stage c.args.transaction (Changes (changes_of c.in-Changes.names.now c.in-Changes.files.now)) in
+returns-in-Changes-clause-len g c =
+    let size = work_size c.args.stage c.args.transaction (Changes (changes_of c.in-Changes.names.now (g.F.WrittenFiles.files c.in-Changes.files.now))) in
     rw c.in-Changes.is (on_ok_so c.put_names_and_files_part.result c.put_names_and_files_part.ensures.len (λ len. omega (arith, len, c.in_ok-put_tagged_id.ensures.len, size)))
 
 pub returns-in-Changes-clause-full : goal.returns-in-Changes-clause-full
-returns-in-Changes-clause-full c =
-    let size = work_size c.args.stage c.args.transaction (Changes (changes_of c.in-Changes.names.now c.in-Changes.files.now)) in
+returns-in-Changes-clause-full g c =
+    let size = work_size c.args.stage c.args.transaction (Changes (changes_of c.in-Changes.names.now (g.F.WrittenFiles.files c.in-Changes.files.now))) in
     rw c.in-Changes.is (on_err_so c.put_names_and_files_part.result c.put_names_and_files_part.ensures.full (λ full. omega (arith, full, c.in_ok-put_tagged_id.ensures.len, c.put_tagged_id.ensures.room, size)))
 
 pub returns-in-Settings-clause-adds : goal.returns-in-Settings-clause-adds
-returns-in-Settings-clause-adds c =
+returns-in-Settings-clause-adds g c =
     let head = rw c.tag.ensures at c.in_ok-put_tagged_id.ensures.adds in
     rw c.in-Settings.is (on_ok_so c.put_settings_part.result c.put_settings_part.ensures.adds (λ adds. work c.args.stage (Settings c.in-Settings.settings.now) (rw c.in-Settings.is at c.requires) head adds))
 
 pub returns-in-Settings-clause-len : goal.returns-in-Settings-clause-len
-returns-in-Settings-clause-len c =
+returns-in-Settings-clause-len g c =
     let size = work_size c.args.stage c.args.transaction (Settings c.in-Settings.settings.now) in
     rw c.in-Settings.is (on_ok_so c.put_settings_part.result c.put_settings_part.ensures.len (λ len. omega (arith, len, c.in_ok-put_tagged_id.ensures.len, size)))
 
 pub returns-in-Settings-clause-full : goal.returns-in-Settings-clause-full
-returns-in-Settings-clause-full c =
+returns-in-Settings-clause-full g c =
     let size = work_size c.args.stage c.args.transaction (Settings c.in-Settings.settings.now) in
     rw c.in-Settings.is (on_err_so c.put_settings_part.result c.put_settings_part.ensures.full (λ full. omega (arith, full, c.in_ok-put_tagged_id.ensures.len, c.put_tagged_id.ensures.room, size)))
 
 pub returns-in-Enlistment-clause-adds : goal.returns-in-Enlistment-clause-adds
-returns-in-Enlistment-clause-adds c =
+returns-in-Enlistment-clause-adds g c =
     let head = rw c.tag.ensures at c.in_ok-put_tagged_id.ensures.adds in
     rw c.in-Enlistment.is (on_ok_so c.put_enlistment.result c.put_enlistment.ensures.adds (λ adds. work c.args.stage (Enlistment c.in-Enlistment.enlistment c.in-Enlistment.manager c.in-Enlistment.information.now) (rw c.in-Enlistment.is at c.requires) head adds))
 
 pub returns-in-Enlistment-clause-len : goal.returns-in-Enlistment-clause-len
-returns-in-Enlistment-clause-len c =
+returns-in-Enlistment-clause-len g c =
     let size = work_size c.args.stage c.args.transaction (Enlistment c.in-Enlistment.enlistment c.in-Enlistment.manager c.in-Enlistment.information.now) in
     rw c.in-Enlistment.is (on_ok_so c.put_enlistment.result c.put_enlistment.ensures.len (λ len. omega (arith, len, c.in_ok-put_tagged_id.ensures.len, size)))
 
 pub returns-in-Enlistment-clause-full : goal.returns-in-Enlistment-clause-full
-returns-in-Enlistment-clause-full c =
+returns-in-Enlistment-clause-full g c =
     let size = work_size c.args.stage c.args.transaction (Enlistment c.in-Enlistment.enlistment c.in-Enlistment.manager c.in-Enlistment.information.now) in
     rw c.in-Enlistment.is (on_err_so c.put_enlistment.result c.put_enlistment.ensures.full (λ full. omega (arith, full, c.in_ok-put_tagged_id.ensures.len, c.put_tagged_id.ensures.room, size)))

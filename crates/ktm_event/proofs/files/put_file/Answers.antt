@@ -1,6 +1,6 @@
 use Rattle.std.proofs.Common.{sym, ◌∙◌, arith}
 use Rattle.std.proofs.lemmas.Result.{err_from_is_err_and}
-use Rattle.ktm_event.proofs.WrittenFiles.{adds_bytes, adds_cut, size_bytes, size_cut, size_least, spellable_bytes}
+use Rattle.ktm_event.proofs.FileChanges.{adds_bytes, adds_cut, size_bytes, size_cut, size_least, spellable_bytes}
 use Rattle.ktm_event.proofs.files.put_file.Goals as goal
 
 pub put_whole-requires : goal.put_whole-requires

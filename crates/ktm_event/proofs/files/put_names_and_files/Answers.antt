@@ -11,35 +11,35 @@ use Rattle.ktm_event.proofs.Writings.{then, on_ok_so, on_err_so}
 use Rattle.ktm_event.proofs.files.put_names_and_files.Goals as goal
 
 pub put_files-requires : goal.put_files-requires
-put_files-requires c = all-right IsSpellableChange c.args.names.now _ c.requires.each
+put_files-requires g c = all-right IsSpellableChange c.args.names.now _ c.requires.each
 
 pub returns-clause-adds : goal.returns-clause-adds
-returns-clause-adds c =
-    let count = rw (c.count_of_changes.ensures, ← length-append c.args.names.now (flat_map changes_of_file c.args.files.now)) at c.put_u32.ensures.adds in
+returns-clause-adds g c =
+    let count = rw (c.count_of_changes.ensures, ← length-append c.args.names.now (flat_map changes_of_file (g.F.WrittenFiles.files c.args.files.now))) at c.put_u32.ensures.adds in
     rw (← c.in_ok-reserve.ensures.items)
     (on_ok_so c.put_files.result c.put_files.ensures.adds (λ adds. then count (adds_row IsChangeOf c.args.names.now _ c.in_ok-put_row.ensures.adds adds)))
 
 pub count_of_changes-requires : goal.count_of_changes-requires
-count_of_changes-requires c = omega (arith, length-append c.args.names.now (flat_map changes_of_file c.args.files.now), c.requires.few)
+count_of_changes-requires g c = omega (arith, length-append c.args.names.now (flat_map changes_of_file (g.F.WrittenFiles.files c.args.files.now)), c.requires.few)
 
 pub overflow_add-count : goal.overflow_add-count
-overflow_add-count c = omega (arith, c.count_of_changes.ensures, length-append c.args.names.now (flat_map changes_of_file c.args.files.now), c.requires.few)
+overflow_add-count g c = omega (arith, c.count_of_changes.ensures, length-append c.args.names.now (flat_map changes_of_file (g.F.WrittenFiles.files c.args.files.now)), c.requires.few)
 
 pub put_row-requires : goal.put_row-requires
-put_row-requires c = all-left IsSpellableChange c.args.names.now _ c.requires.each
+put_row-requires g c = all-left IsSpellableChange c.args.names.now _ c.requires.each
 
 pub returns-in_err-put_row-clause-full : goal.returns-in_err-put_row-clause-full
-returns-in_err-put_row-clause-full c =
+returns-in_err-put_row-clause-full g c =
     let p = err_from_is_err_and c.from_residual-in_err-put_row.result c.from_residual-in_err-put_row.ensures.1 in
-    let size = sum_by-append change_size c.args.names.now (flat_map changes_of_file c.args.files.now) in
+    let size = sum_by-append change_size c.args.names.now (flat_map changes_of_file (g.F.WrittenFiles.files c.args.files.now)) in
     rw p.1 (omega (arith, c.in_err-put_row.ensures.full, c.put_u32.ensures, c.in_ok-reserve.ensures.len, c.reserve.ensures.capacity, size))
 
 pub returns-clause-len : goal.returns-clause-len
-returns-clause-len c =
-    let size = sum_by-append change_size c.args.names.now (flat_map changes_of_file c.args.files.now) in
+returns-clause-len g c =
+    let size = sum_by-append change_size c.args.names.now (flat_map changes_of_file (g.F.WrittenFiles.files c.args.files.now)) in
     on_ok_so c.put_files.result c.put_files.ensures.len (λ len. omega (arith, len, c.in_ok-put_row.ensures.len, size))
 
 pub returns-clause-full : goal.returns-clause-full
-returns-clause-full c =
-    let size = sum_by-append change_size c.args.names.now (flat_map changes_of_file c.args.files.now) in
+returns-clause-full g c =
+    let size = sum_by-append change_size c.args.names.now (flat_map changes_of_file (g.F.WrittenFiles.files c.args.files.now)) in
     on_err_so c.put_files.result c.put_files.ensures.full (λ full. omega (arith, full, c.in_ok-put_row.ensures.len, c.put_row.ensures.room, size))

@@ -3,7 +3,7 @@ use Rattle.ktm_world.specs.Durable.{Durable}
 use Rattle.ktm_world.specs.Files.{FilesNow}
 use Rattle.txf_volume.specs.Held.{FilesHeld, files_of}
 use Rattle.ktm_back.specs.Bringing.{HasComeBack}
-use Rattle.ktm_trace.specs.Traces.{TraceState, traced}
+use Rattle.ktm_trace.specs.Traces.{traced}
 use Rattle.ktm_kernel.proofs.Begun.{fresh_slots, good_then, shows_fresh}
 use Rattle.ktm_kernel.proofs.OwnGroups.{own_leaves_committed}
 use Rattle.ktm_kernel.proofs.restart.begin.Goals as goal
@@ -23,11 +23,11 @@ returns-in-Ok-restore-clause-shows c = λ left.
     let is = c.into_parts-files.ensures in
     let back : HasComeBack (s.boots + 1) s.managers s.transactions c.start-in-Ok-restore.result.tm =
     rw (c.start-in-Ok-restore.ensures.tm) (rw (c.boots.ensures, c.managers.ensures, c.transactions.ensures) at c.in-Ok.ensures) in
-    let traces : c.start-in-Ok-restore.result.trace.transactions ≡ map traced c.begin.new.self.transactions =
-    ap (λ (t : TraceState). t.transactions) c.start-in-Ok-restore.ensures.trace ∙ c.in-Ok-of.ensures.transactions ∙ ap (λ ts. map traced ts) c.transactions-2.ensures in
+    let traces : c.start-in-Ok-restore.result.trace ≡ map traced c.begin.new.self.transactions =
+    c.start-in-Ok-restore.ensures.trace ∙ c.in-Ok-of.ensures.transactions ∙ ap (λ ts. map traced ts) c.transactions-2.ensures in
     let files = ap (λ (f : FilesHeld). files_of f) c.start-in-Ok-restore.ensures.files ∙ c.in-Ok-restore.ensures.files in
     let next_node = c.start-in-Ok-restore.ensures.next_node ∙ ap (λ (f : FilesNow). f.table.next_node) c.in-Ok-restore.ensures.files in
-    let keys = ap (λ k. k.keys) c.start-in-Ok-restore.ensures.keys ∙ c.in-Ok-restore.ensures.keys in
+    let keys = c.start-in-Ok-restore.ensures.keys ∙ c.in-Ok-restore.ensures.keys in
     shows_fresh s c.begin.new.self _ _ _ _ c.begin.ensures is.tree is.next_node is.keys is.transactions c.law_of_in_doubt.ensures c.requires.good
     c.start-in-Ok-restore.result left c.start-in-Ok-restore.ensures.up back traces files next_node keys c.start-in-Ok-restore.ensures.handles
 

@@ -1,9 +1,10 @@
-use Rattle.std.proofs.Common.{◌≡◌, ◌++◌, ◌∷◌, [], List, true, sym, ◌∙◌, ap, subst}
+use Rattle.std.proofs.Common.{◌≡◌, ◌++◌, ◌∷◌, [], List, set, true, sym, ◌∙◌, ap, subst}
 use Rattle.ktm_types.specs.declared.change.Change.{Change}
 use Rattle.ktm_world.specs.Changes.{applies, changed_all}
 use Rattle.txf_tree.specs.TreeState.{tree_of}
+use Rattle.txf_overlay.specs.OverlayState.{OverlayState}
 use Rattle.txf_volume.specs.Held.{OwnHeld}
-use Rattle.txf_volume.proofs.TransactedParts.{changed-first, few-new, pushed-is, pushed-put, pushed-taken, stands-new}
+use Rattle.txf_volume.proofs.TransactedParts.{changed-first, counted-first, few-new, pushed-is, pushed-put, pushed-taken, stands-new}
 use Rattle.txf_volume.proofs.own_change.change_first.Goals as goal
 use Rattle.txf_volume.proofs.own_change.change_first.Goals.{After-behind-overlays}
 
@@ -36,12 +37,22 @@ pub returns-in-Err-make_room_and_change-clause-err : goal.returns-in-Err-make_ro
 returns-in-Err-make_room_and_change-clause-err c =
     c.truncate.ensures.items ∙ pushed-taken c.reserve.new.self.items c.push_reserved.new.self.items c.len-place.result (record { transaction = c.args.transaction; overlay = c.new.result }) _ c.push_reserved.ensures.items (c.len-place.ensures ∙ c.reserve.new.self.ok.0) ∙ c.reserve.ensures.items
 
-pub returns-clause-ok : goal.returns-clause-ok
-returns-clause-ok c =
-    let before = (goal.at.returns-clause-ok c).After-behind-overlays in
-    let o = c.make_room_and_change.new.overlay in
-    changed-first (tree_of c.args.tree.now) c.args.fixed.now c.args.transaction c.args.change c.args.overlays.now.items _ c.behind-overlays.inside.overlay o c.args.reserve.now c.make_room_and_change.new.reserve c.requires.first
-    (pushed-put c.reserve.new.self.items c.push_reserved.new.self.items c.len-place.result (record { transaction = c.args.transaction; overlay = c.new.result }) (record { transaction = c.behind-overlays.inside.transaction; overlay = o })
+-- the entry stands at the end
+pushed : (c : After-behind-overlays) (o : OverlayState) → ◌≡◌ {A = List OwnHeld} (set c.push_reserved.new.self.items c.len-place.result (record { transaction = c.behind-overlays.inside.transaction; overlay = o }))
+    (c.args.overlays.now.items ++ record { transaction = c.args.transaction; overlay = o } ∷ [])
+pushed c o =
+    pushed-put c.reserve.new.self.items c.push_reserved.new.self.items c.len-place.result (record { transaction = c.args.transaction; overlay = c.new.result }) (record { transaction = c.behind-overlays.inside.transaction; overlay = o })
     c.push_reserved.ensures.items (c.len-place.ensures ∙ c.reserve.new.self.ok.0)
-    ∙ (λ i. c.reserve.ensures.items i ++ record { transaction = (is-new before i).transaction; overlay = o } ∷ []))
-    (names-new before) (written-new before) c.in_default-make_room_and_change.ensures.ok
+    ∙ (λ i. c.reserve.ensures.items i ++ record { transaction = (is-new c i).transaction; overlay = o } ∷ [])
+
+pub returns-in-Ok-clause-ok : goal.returns-in-Ok-clause-ok
+returns-in-Ok-clause-ok c =
+    let before = (goal.at.returns-in-Ok-clause-ok c).After-behind-overlays in
+    changed-first (tree_of c.args.tree.now) c.args.fixed.now c.args.transaction c.args.change c.args.overlays.now.items _ c.behind-overlays.inside.overlay c.make_room_and_change.new.overlay c.args.reserve.now c.make_room_and_change.new.reserve c.requires.first
+    (pushed before c.make_room_and_change.new.overlay) (names-new before) (written-new before) c.in-Ok.ensures.ok
+
+pub returns-in-Ok-clause-counted : goal.returns-in-Ok-clause-counted
+returns-in-Ok-clause-counted c =
+    let before = (goal.at.returns-in-Ok-clause-counted c).After-behind-overlays in
+    counted-first c.args.overlays.now.items _ c.args.transaction c.behind-overlays.inside.overlay c.make_room_and_change.new.overlay c.in-Ok.counted c.requires.first
+    (pushed before c.make_room_and_change.new.overlay) (names-new before) (written-new before) c.in-Ok.ensures.before c.in-Ok.ensures.after

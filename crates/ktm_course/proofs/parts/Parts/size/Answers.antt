@@ -10,13 +10,13 @@ use Rattle.ktm_event.proofs.Joined.{sizes_both}
 use Rattle.ktm_course.proofs.parts.Parts.size.Goals as goal
 
 pub loop-step-init : goal.loop-step-init
-loop-step-init c = record {
+loop-step-init g c = record {
   within = omega arith;
   counted = λ b is. omega (arith, ap (λ (r : Bool). sum_by event_size (events_ahead c.args.steps.now (record b { is_recorded = r }))) is.recorded);
 }
 
 pub loop-step-preserved : goal.loop-step-preserved
-loop-step-preserved c = record {
+loop-step-preserved g c = record {
   within = omega arith;
   counted = λ b is.
       let now = record b { is_recorded = c.loop-step.recorded } in
@@ -32,7 +32,7 @@ loop-step-preserved c = record {
 }
 
 pub returns : goal.returns
-returns c = λ b is.
+returns g c = λ b is.
     let now = record b { is_recorded = c.loop-step.recorded } in
     let none = ap (λ (left : List Step). min (c.loop-step.size + sum_by event_size (events_ahead left now)) (2 ^ 64 - 1)) (drop_all c.loop-step.step-index c.args.steps.now c.loop-step-test.false) in
     omega (arith, c.loop-step.invariant.within) ∙ sym none ∙ c.loop-step.invariant.counted b is

@@ -1,9 +1,9 @@
 use Rattle.std.proofs.Common.{◌≡◌, ℕ, ◌+◌, ◌≤◌, ◌∙◌, cond, length, List, Some, ap, subst, sym}
 use Rattle.ktm_course.specs.Moved.{records_files}
-use Rattle.ktm_memory.specs.Memory.{CanCommit, Shows, TellsWithin, course_then, present_of}
+use Rattle.ktm_memory.specs.Memory.{MemoryState, Shows, TellsWithin, course_then, present_of}
 use Rattle.ktm_memory.specs.contracts.memory.Memory.{the_view}
 use Rattle.ktm_memory.specs.declared.memory.Memory.TheInside.{Inside}
-use Rattle.ktm_memory.proofs.Carried.{arrived-sent, can_commit-same, carried_shows}
+use Rattle.ktm_memory.proofs.Carried.{arrived-sent, carried_shows}
 use Rattle.ktm_memory.proofs.Showing.{course_in, sent_in, shows_held}
 use Rattle.ktm_tm.specs.TmState.{TmState}
 use Rattle.ktm_tm.specs.Courses.{IsCourseIn, caller_of}
@@ -19,7 +19,8 @@ use Rattle.ktm_world.specs.Steps.{basis, events_ahead, run}
 use Rattle.ktm_world.specs.TransactionCalls.{arrived, course_of}
 use Rattle.ktm_world.specs.Transactions.{change_at, transaction_at}
 use Rattle.std.proofs.Common.{fold, map, None, arith}
-use Rattle.txf_volume.specs.Held.{files_of}
+use Rattle.txf_volume.specs.Commit.{MayCommit}
+use Rattle.txf_volume.specs.Held.{FilesHeld, files_of}
 use Rattle.ktm_memory.proofs.memory.Memory.carry_out.Goals as goal
 use Rattle.ktm_memory.proofs.memory.Memory.carry_out.Goals.{then-records_files, else-records_files}
 
@@ -41,13 +42,10 @@ carry_out-requires c =
 pub release-requires : goal.release-requires
 release-requires c is =
     let m = the_view c.self.inside in
-    let s = c.if-records_files.self-inside in
-    let n = record (the_view s) { tm = c.carry_out.new.self; trace = c.record.new.self } in
-    let keys : s.keys ≡ c.self.inside.keys =
-    elim c.if-records_files.branch [ then-records_files w ↦ ap (λ (s : Inside). s.keys) w.self-inside-is | else-records_files w ↦ ap (λ (s : Inside). s.keys) w.self-inside-is ] in
-    let files : s.files ≡ c.self.inside.files =
+    let files : c.if-records_files.self-inside.files ≡ c.self.inside.files =
     elim c.if-records_files.branch [ then-records_files w ↦ ap (λ (s : Inside). s.files) w.self-inside-is | else-records_files w ↦ ap (λ (s : Inside). s.files) w.self-inside-is ] in
-    can_commit-same m n c.args.t.id keys files (subst (λ k. CanCommit k c.args.t.id) (sym c.self.view_is) (c.requires.may.commits (sym c.commits.ensures ∙ is)))
+    subst (λ (f : FilesHeld). MayCommit (files_of f) c.args.t.id) (sym files)
+    (subst (λ (k : MemoryState). MayCommit (files_of k.files) c.args.t.id) (sym c.self.view_is) (c.requires.may.commits (sym c.commits.ensures ∙ is)))
 
 pub returns-clause-settles : goal.returns-clause-settles
 returns-clause-settles c =
@@ -81,7 +79,7 @@ returns-clause-settles c =
             boot = c.carry_out.ensures.room.boot ∙ ap (λ (k : TmState). k.boot) tm;
             now = c.carry_out.ensures.now start (course x old) ∙ ap (λ (k : TmState). record k.now { items = change_at k.now.items c.args.t.id (λ u. then.transaction); enlistments = then.enlistments }) tm;
             managers = c.carry_out.ensures.managers start (course x old) ∙ ap (λ (k : TmState). map (served None then.sent) k.managers) tm;
-            traces = c.record.ensures.transactions (basis start) (c.recording-recording.ensures x shows) ∙ ap (λ (i : Inside). fold traces_after i.trace.transactions (events_ahead c.args.steps.now (basis start))) same.1;
+            traces = c.record.ensures.transactions (basis start) (c.recording-recording.ensures x shows) ∙ ap (λ (i : Inside). fold traces_after i.trace (events_ahead c.args.steps.now (basis start))) same.1;
           })
           c.release.ensures;
       slots = λ x shows.

@@ -15,7 +15,7 @@ returns-clause-ok c = λ events holds.
     let after : MemoryState = record { is_up = c.self.inside.is_up; journal = c.self.inside.journal; handles = c.self.inside.handles; tm = c.self.inside.tm; trace = c.self.inside.trace; files = c.keep.new.self; next_node = c.self.inside.next_node; keys = c.self.inside.keys } in
     let reply = c.replace-reply.ensures.value ∙ ap (λ p. p.reply) c.plan.view_is in
     rw (c.binding.ensures, reply) (own_decided (held c.args.self.now) after c.args.process c.args.id c.args.label c.args.plan c.plan.inside.opened events c.requires.standing c.requires.active
-    (ap (λ files. record { is_up = c.self.inside.is_up; journal = c.self.inside.journal; handles = c.self.inside.handles.handles; boot = c.self.inside.tm.boot; transactions = c.self.inside.tm.now; managers = c.self.inside.tm.managers; traces = c.self.inside.trace.transactions; files = files; next_node = c.self.inside.next_node; keys = c.self.inside.keys.keys }) c.in_ok-keep.ensures.done
+    (ap (λ files. record { is_up = c.self.inside.is_up; journal = c.self.inside.journal; handles = c.self.inside.handles.handles; boot = c.self.inside.tm.boot; transactions = c.self.inside.tm.now; managers = c.self.inside.tm.managers; traces = c.self.inside.trace; files = files; next_node = c.self.inside.next_node; keys = c.self.inside.keys }) c.in_ok-keep.ensures.done
     ∙ ap (λ (h : Held). record h { files = files_after h.files (Some c.args.id) (record { reply = c.plan.inside.reply; change = c.plan.inside.change; first = c.plan.inside.first; opened = option_map open_of c.plan.inside.opened }) }) then
     ∙ ap (λ p. record (held c.args.self.now) { files = files_after (held c.args.self.now).files (Some c.args.id) p }) c.plan.view_is)
     (ap (λ p. p.opened) c.plan.view_is)

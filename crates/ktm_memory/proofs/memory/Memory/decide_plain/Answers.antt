@@ -20,7 +20,7 @@ returns-clause-ok c =
     let reserved = ap held c.self-2.view_is ∙ c.in_ok-reserve_for.ensures.same in
     let after : MemoryState = record { is_up = c.self-2.inside.is_up; journal = c.self-2.inside.journal; handles = c.self-2.inside.handles; tm = c.self-2.inside.tm; trace = c.self-2.inside.trace; files = c.prepare.new.self; next_node = c.self-2.inside.next_node; keys = c.self-2.inside.keys } in
     let same =
-    ap (λ (files : FilesNow). record { is_up = c.self-2.inside.is_up; journal = c.self-2.inside.journal; handles = c.self-2.inside.handles.handles; boot = c.self-2.inside.tm.boot; transactions = c.self-2.inside.tm.now; managers = c.self-2.inside.tm.managers; traces = c.self-2.inside.trace.transactions; files = files; next_node = c.self-2.inside.next_node; keys = c.self-2.inside.keys.keys }) c.in_ok-ready.ensures.same
+    ap (λ (files : FilesNow). record { is_up = c.self-2.inside.is_up; journal = c.self-2.inside.journal; handles = c.self-2.inside.handles.handles; boot = c.self-2.inside.tm.boot; transactions = c.self-2.inside.tm.now; managers = c.self-2.inside.tm.managers; traces = c.self-2.inside.trace; files = files; next_node = c.self-2.inside.next_node; keys = c.self-2.inside.keys }) c.in_ok-ready.ensures.same
     ∙ reserved in
     plain_decided (held c.args.self.now) after c.args.process c.args.label c.args.plan c.replace-reply.result _ c.in_ok-ready.ready c.record_plan.new.events
     (c.replace-reply.ensures.value ∙ ap (λ (p : FileOutcome). p.reply) plan)

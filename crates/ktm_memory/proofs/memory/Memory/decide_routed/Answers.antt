@@ -1,5 +1,4 @@
 use Rattle.std.proofs.Common.{Some, Result, Ok, Err, IfOk, arith}
-use Rattle.std.proofs.lemmas.Result.{IfOk-weaker}
 use Rattle.ktm_tm.specs.Courses.{caller_of}
 use Rattle.ktm_world.specs.Enlistments.{enlistment_at, manager_at}
 use Rattle.ktm_memory.specs.Memory.{present_of}
@@ -47,7 +46,7 @@ pub returns-in-Files-clause-enough : goal.returns-in-Files-clause-enough
 returns-in-Files-clause-enough c = rw c.in-Files.is c.decide_files.ensures.enough
 
 pub returns-in-Course-clause-ok : goal.returns-in-Course-clause-ok
-returns-in-Course-clause-ok c = rw c.in-Course.is (IfOk-weaker c.decide_course.result _ _ (λ d is. is c.args.process) c.decide_course.ensures.ok)
+returns-in-Course-clause-ok c = rw c.in-Course.is (c.decide_course.ensures.decided c.args.process)
 
 pub returns-in_ok-decide_recovery-in-Recover-clause-ok : goal.returns-in_ok-decide_recovery-in-Recover-clause-ok
 returns-in_ok-decide_recovery-in-Recover-clause-ok c = rw c.in-Recover.is (c.in_ok-decide_recovery-in-Recover.ensures.ok c.args.process c.args.events.now c.requires.empty)
@@ -68,7 +67,7 @@ pub returns-in_ok-decide_create-in-Create-clause-slots : goal.returns-in_ok-deci
 returns-in_ok-decide_create-in-Create-clause-slots c = rw c.in-Create.is (λ some. none_wanted (present_of c.args.self.now) (outcome_of (present_of c.args.self.now) c.args.process (Create c.in-Create.label c.in-Create.timeout)) _ _ (refuse_none (present_of c.args.self.now) _ _ (create_none (present_of c.args.self.now) c.args.process c.in-Create.label c.in-Create.timeout)) c.in_ok-decide_create-in-Create.ensures.slots)
 
 pub returns-in-Course-clause-slots : goal.returns-in-Course-clause-slots
-returns-in-Course-clause-slots c = rw c.in-Course.is (ok_all _ (λ d some. none_wanted (present_of c.args.self.now) (outcome_of (present_of c.args.self.now) c.args.process (Course c.in-Course.transaction c.in-Course.caller c.in-Course.input)) _ _ (course_none (present_of c.args.self.now) c.in-Course.transaction (caller_of c.args.self.now.tm.now.enlistments c.in-Course.caller) c.in-Course.input _) c.decide_course.ensures.slots) c.decide_course.result)
+returns-in-Course-clause-slots c = rw c.in-Course.is (λ some. none_wanted (present_of c.args.self.now) (outcome_of (present_of c.args.self.now) c.args.process (Course c.in-Course.transaction c.in-Course.caller c.in-Course.input)) _ _ (course_none (present_of c.args.self.now) c.in-Course.transaction (caller_of c.args.self.now.tm.now.enlistments c.in-Course.caller) c.in-Course.input _) (omega arith))
 
 pub returns-in-Information-clause-slots : goal.returns-in-Information-clause-slots
 returns-in-Information-clause-slots c = rw c.in-Information.is (λ some. none_wanted (present_of c.args.self.now) (outcome_of (present_of c.args.self.now) c.args.process (Information c.in-Information.t)) _ _ (information_none (present_of c.args.self.now) _) (omega arith))

@@ -9,6 +9,6 @@ pub returns : goal.returns
 returns c =
     file_room_is (held c.args.self.now) c.left.result c.saturating_sub.result c.units-2.result c.unset_count.result
     (c.left.ensures ∙ ap (λ m. MOST_HANDLES - length m.handles.handles) c.self.view_is)
-    (c.unset_count.ensures ∙ ap (λ m. keys_unset m.keys.keys) c.self.view_is)
+    (c.unset_count.ensures ∙ ap (λ m. keys_unset m.keys) c.self.view_is)
     (c.units-2.ensures ∙ ap (λ m. m.journal.units) c.self.view_is)
     (c.saturating_sub.ensures ∙ ap (λ n. n - c.unset_count.result) (c.units.ensures ∙ ap (λ m. m.journal.units) c.self.view_is))

@@ -1,11 +1,10 @@
-use Rattle.std.proofs.Common.{◌≡◌, ◌-◌, not, All, List, [], refl, sym, ap, subst, ◌∙◌}
+use Rattle.std.proofs.Common.{◌≡◌, ◌-◌, not, All, List, refl, sym, ap, subst, ◌∙◌}
 use Rattle.ktm_course.proofs.offered.Bases.{same_events}
 use Rattle.ktm_course.specs.declared.parts.Parts.{Parts}
 use Rattle.ktm_event.specs.Kept.{Holds}
 use Rattle.ktm_event.specs.Spelling.{IsSpellableEvent}
-use Rattle.ktm_event.specs.Work.{changes_of as recorded_changes}
+use Rattle.ktm_event.specs.Work.{FinalFile, changes_of as recorded_changes}
 use Rattle.ktm_tm.specs.Courses.{caller_of}
-use Rattle.ktm_types.specs.declared.change.Change.{Change}
 use Rattle.ktm_types.specs.declared.event.Event.{Event}
 use Rattle.ktm_world.specs.Files.{own_changes}
 use Rattle.ktm_world.specs.Keys.{own_settings}
@@ -14,10 +13,11 @@ use Rattle.ktm_world.specs.Phases.{Course}
 use Rattle.ktm_world.specs.Present.{Present}
 use Rattle.ktm_world.specs.TransactionCalls.{course_of}
 use Rattle.txf_volume.specs.Held.{files_of}
+use Rattle.txf_volume.specs.Shown.{shown}
 use Rattle.ktm_memory.specs.Memory.{MemoryState, present_of}
-use Rattle.ktm_memory.proofs.CourseRecords.{AreKnown, AreParts, known, known_without}
+use Rattle.ktm_memory.proofs.CourseRecords.{AreKnown, AreParts, known}
 use Rattle.ktm_memory.proofs.memory.Memory.record_course.Goals as goal
-use Rattle.ktm_memory.proofs.memory.Memory.record_course.Goals.{After-superior, then-are_of_files+in_ok-written, else-are_of_files}
+use Rattle.ktm_memory.proofs.memory.Memory.record_course.Goals.{After-superior}
 
 -- once it is known who takes part
 module _ (c : After-superior) where
@@ -27,30 +27,19 @@ module _ (c : After-superior) where
   abbrev course : Course
   course = course_of x c.args.t.now (caller_of x.transactions.enlistments c.args.caller)
 
-  abbrev parts : Parts
-  parts = record { names = c.if-are_of_files.files.0; files = c.deref.result; settings = c.own_settings.result; caller = c.calling.result; superior = c.superior.result }
+  abbrev parts : Parts (List FinalFile)
+  parts = record { names = c.names.result; files = record { ref_ptr = (c.files-1.given, 0); now = c.written-files.result }; settings = c.own_settings.result; caller = c.calling.result; superior = c.superior.result }
 
-  are : AreParts course parts
+  are : AreParts shown course parts
   are = record {
-    settings = sym (c.own_settings.ensures ∙ ap (λ (m : MemoryState). own_settings m.keys.keys.own c.args.t.now.id) c.self.view_is);
+    settings = sym (c.own_settings.ensures ∙ ap (λ (m : MemoryState). own_settings m.keys.own c.args.t.now.id) c.self.view_is);
     caller = c.calling.ensures;
     superior = c.superior.ensures;
   }
 
-  are_known : AreKnown course parts c.args.steps.now
-  are_known = elim c.if-are_of_files.branch [
-    | then-are_of_files+in_ok-written w ↦ known c.law_of_events_ahead.ensures course parts c.args.steps.now refl are
-        (sym (
-        ap (recorded_changes c.if-are_of_files.files.0.now) c.deref.ensures.value
-        ∙ (λ i. recorded_changes (w.files-is i).0.now (w.files-is i).1.items)
-        ∙ ap (λ (names : List Change). recorded_changes names w.in_ok-written.field-0.items) w.names.ensures
-        ∙ sym w.in_ok-written.ensures.files
-        ∙ ap (λ (m : MemoryState). own_changes (files_of m.files).table.own c.args.t.now.id) c.self.view_is
-        ))
-    | else-are_of_files w ↦ known_without c.law_of_events_ahead.ensures course parts c.args.steps.now refl are
-        (ap (recorded_changes c.if-are_of_files.files.0.now) c.deref.ensures.value ∙ (λ i. recorded_changes (w.files-is i).0.now (w.files-is i).1.items) ∙ ap (recorded_changes []) w.new.ensures.items)
-        (sym c.are_of_files.ensures ∙ w.if-are_of_files.false)
-  ]
+  are_known : AreKnown shown course parts c.args.steps.now
+  are_known = known shown c.law_of_events_ahead.ensures course parts c.args.steps.now refl are
+      (sym (ap (λ names. recorded_changes names (shown c.written-files.result)) c.names.ensures ∙ sym c.written-files.ensures ∙ ap (λ (m : MemoryState). own_changes (files_of m.files).table.own c.args.t.now.id) c.self.view_is))
 
   -- the room that the log has
   left : (es : List Event) → is_full (c.self.inside.journal.log.area.len - c.self.inside.journal.log.end) es ≡ is_full x.machine.left es

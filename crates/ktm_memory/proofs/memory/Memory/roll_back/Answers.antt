@@ -18,8 +18,8 @@ carry_out-requires-clause-may c =
     subst (λ (steps : List Step). CanGoOn c.args.self.now c.args.t None steps) (sym (c.as_slice.ensures.value ∙ c.step-steps.ensures.row)) (record {
       there = c.requires.there;
       leads = λ x shows. row_leads x c.args.t None PhaseInput.Rollback;
-      places = omega arith;
-      spare = omega arith;
+      few = λ some. absurd (omega (arith, some));
+      noted = omega arith;
       commits = λ is. absurd (true≢false (sym is));
     })
 

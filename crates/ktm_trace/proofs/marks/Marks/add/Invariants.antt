@@ -6,6 +6,6 @@ use Rattle.ktm_trace.proofs.marks.Marks.add.Given as goal
 abbrev pub invariant-loop-part : goal.invariant-loop-part
 invariant-loop-part l = record {
   marks : l.self.marks ++ map (mark_of l.transaction) (drop l.part-index l.parts) ≡ l.initial.self.marks ++ map (mark_of l.transaction) l.parts;
-  fits : length (drop l.part-index l.parts) ≤ l.self.spare;
-  spare : l.initial.self.spare + length (drop l.part-index l.parts) ≤ l.self.spare + length l.parts;
+  fits : length l.self.marks + length (drop l.part-index l.parts) ≤ l.self.capacity;
+  capacity : l.self.capacity ≡ l.initial.self.capacity;
 }

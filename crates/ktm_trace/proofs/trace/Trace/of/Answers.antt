@@ -1,24 +1,23 @@
 use Rattle.std.proofs.Common.{◌∙◌, ◌+◌, ◌++◌, List, ap, drop, map}
-use Rattle.ktm_trace.specs.Placed.{placed}
-use Rattle.ktm_trace.specs.Traces.{Traced, id_of, traced}
+use Rattle.ktm_trace.specs.Traces.{Traced, traced}
 use Rattle.ktm_trace.proofs.Bringing.{next-brought, next-last}
 use Rattle.ktm_trace.proofs.trace.Trace.of.Goals as goal
 
-pub add-requires-clause-new : goal.add-requires-clause-new
-add-requires-clause-new c =
-    let last = next-last c.args.transactions.now c.loop-transaction.trace.transactions c.loop-transaction.transaction-index c.transaction-item.result
+pub add-requires : goal.add-requires
+add-requires c =
+    let last = next-last c.args.transactions.now c.loop-transaction.trace c.loop-transaction.transaction-index c.transaction-item.result
     c.requires.rise c.loop-transaction-test.true c.transaction-item.is c.loop-transaction.invariant.transactions in
-    rw c.in_ok-reserve.ensures.same last.new
+    last.new
 
 pub loop-transaction-preserved : goal.loop-transaction-preserved
 loop-transaction-preserved c =
     let ts = c.args.transactions.now in
-    let brought = c.loop-transaction.trace.transactions in
+    let brought = c.loop-transaction.trace in
     let i = c.loop-transaction.transaction-index in
     let t = c.transaction-item.result in
     let last = next-last ts brought i t c.requires.rise c.loop-transaction-test.true c.transaction-item.is c.loop-transaction.invariant.transactions in
     record {
       transactions =
-          ap (λ (us : List Traced). us ++ map traced (drop (i + 1) ts)) (c.add.ensures.transactions ∙ ap (λ (us : List Traced). placed id_of us (traced t)) c.in_ok-reserve.ensures.same ∙ last.placed_last)
+          ap (λ (us : List Traced). us ++ map traced (drop (i + 1) ts)) (c.in_ok-add.ensures.transactions ∙ last.placed_last)
           ∙ next-brought ts brought i t c.loop-transaction-test.true c.transaction-item.is c.loop-transaction.invariant.transactions;
     }

@@ -9,3 +9,9 @@ returns-clause-unsets c =
     let settings = c.args.settings.now in
     let both : length settings ≡ count_by (is_of_kind Value) settings + count_by (is_of_kind Unset) settings = length-counts settings in
     omega (arith, both)
+
+pub returns-clause-few : goal.returns-clause-few
+returns-clause-few c =
+    let settings = c.args.settings.now in
+    let both : length settings ≡ count_by (is_of_kind Value) settings + count_by (is_of_kind Unset) settings = length-counts settings in
+    record { values = omega (arith, c.requires.values); unsets = omega (arith, both, c.requires.unsets) }

@@ -8,8 +8,8 @@ pub prove-unreachable-requires : goal.prove-unreachable-requires
 prove-unreachable-requires c =
     let first = subst (λ (h : FilesHeld). IsNotOpened (files_of h) c.args.transaction c.args.file) (sym c.self.view_is) c.requires.first in
     no-older c.older_bytes.result _ (rw c.version-version.ensures at c.older_bytes.ensures.bytes) (rw c.version-version.ensures at c.older_bytes.ensures.pinned)
-    (not-kept _ c.self.inside.units c.self.invariant c.args.transaction c.args.file first) c.is_none.ensures c.if-prove.true
+    (not-kept _ c.self.inside.units c.self.inside.counts c.self.invariant c.args.transaction c.args.file first) c.is_none.ensures c.if-prove.true
 
 pub pin-requires-clause-first : goal.pin-requires-clause-first
 pin-requires-clause-first c =
-    not-opened _ c.self.inside.units c.self.invariant c.args.transaction c.args.file (subst (λ (h : FilesHeld). IsNotOpened (files_of h) c.args.transaction c.args.file) (sym c.self.view_is) c.requires.first)
+    not-opened _ c.self.inside.units c.self.inside.counts c.self.invariant c.args.transaction c.args.file (subst (λ (h : FilesHeld). IsNotOpened (files_of h) c.args.transaction c.args.file) (sym c.self.view_is) c.requires.first)

@@ -8,8 +8,8 @@ use Rattle.txf_volume.specs.Ties.{AreTied}
 use Rattle.txf_volume.proofs.PlainTies.{few-kept, few-units, left-over}
 use Rattle.txf_volume.proofs.files.Files.settle.Goals as goal
 
-tied : (c : goal.After-commit_plain-arg-1) → AreTied c.args.self.now c.self.inside.units
-tied c = subst (λ (h : FilesHeld). AreTied h c.self.inside.units) c.self.view_is c.self.invariant
+tied : (c : goal.After-commit_plain-arg-1) → AreTied c.args.self.now c.self.inside.units c.self.inside.counts
+tied c = subst (λ (h : FilesHeld). AreTied h c.self.inside.units c.self.inside.counts) c.self.view_is c.self.invariant
 
 held : (c : goal.After-commit_plain-arg-1) → AreHeld c.args.self.now.versions.opens c.args.self.now.versions.older
 held c = subst (λ (h : FilesHeld). AreHeld h.versions.opens h.versions.older) c.self.view_is c.law_of_older.ensures
@@ -21,10 +21,10 @@ plain : (c : goal.After-commit_plain-arg-1) → IsPlainChange (files_of c.args.s
 plain c = subst (λ (o : Option Change). IfSome o (IsPlainChange (files_of c.args.self.now))) (change-is c) c.requires.plain.change
 
 pub commit_plain-requires-clause-left : goal.commit_plain-requires-clause-left
-commit_plain-requires-clause-left c = left-over c.args.self.now c.self.inside.units (tied c) c.in-Some.change (plain c) c.args.plan (change-is c) c.requires.left
+commit_plain-requires-clause-left c = left-over c.args.self.now c.self.inside.units c.self.inside.counts (tied c) c.in-Some.change (plain c) c.args.plan (change-is c) c.requires.left
 
 pub commit_plain-requires-clause-units : goal.commit_plain-requires-clause-units
-commit_plain-requires-clause-units c = few-units c.args.self.now c.self.inside.units (tied c) c.in-Some.change (plain c) (held c) c.args.plan (change-is c) c.requires.counted.units
+commit_plain-requires-clause-units c = few-units c.args.self.now c.self.inside.units c.self.inside.counts (tied c) c.in-Some.change (plain c) (held c) c.args.plan (change-is c) c.requires.counted.units
 
 pub commit_plain-requires-clause-kept : goal.commit_plain-requires-clause-kept
-commit_plain-requires-clause-kept c = few-kept c.args.self.now c.self.inside.units (tied c) c.in-Some.change (plain c) (held c) c.args.plan (change-is c) c.requires.counted.units
+commit_plain-requires-clause-kept c = few-kept c.args.self.now c.self.inside.units c.self.inside.counts (tied c) c.in-Some.change (plain c) (held c) c.args.plan (change-is c) c.requires.counted.units

@@ -11,4 +11,4 @@ invariant_of-result c =
       uses = c.new-4.ensures.uses;
       dropped = c.new-4.ensures.dropped;
       moves = c.new-4.ensures.moves;
-    }) c.args.units c.requires.formed c.requires.units
+    }) c.args.units c.new-5.result c.requires.formed c.requires.units c.new-5.ensures

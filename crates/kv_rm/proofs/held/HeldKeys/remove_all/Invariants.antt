@@ -1,0 +1,8 @@
+use Rattle.std.proofs.Common.{◌≡◌, ◌+◌, ℕ, count_by, drop}
+use Rattle.kv_rm.specs.Held.{count_at, has_hash}
+use Rattle.kv_rm.proofs.held.HeldKeys.remove_all.Given as goal
+
+-- the rest is still to be taken off
+abbrev pub invariant-loop-setting : goal.invariant-loop-setting
+invariant-loop-setting l =
+    (hash : ℕ) → count_at l.self.counts.items hash + count_by (has_hash hash) l.settings ≡ count_at l.initial.self.counts.items hash + count_by (has_hash hash) (drop l.setting-index l.settings)

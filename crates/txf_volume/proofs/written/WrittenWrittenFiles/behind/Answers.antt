@@ -1,0 +1,11 @@
+use Rattle.std.proofs.Common.{◌∙◌, ap}
+use Rattle.std.specs.Option.{option_map}
+use Rattle.ktm_event.specs.Work.{first_above}
+use Rattle.txf_volume.specs.Shown.{recorded_file}
+use Rattle.txf_volume.proofs.FilesShown.{behind-is, shown-now}
+use Rattle.txf_volume.proofs.written.WrittenWrittenFiles.behind.Goals as goal
+
+pub returns-in-Some : goal.returns-in-Some
+returns-in-Some c =
+    c.file_bytes.ensures ∙ ap (option_map recorded_file) c.written_behind.ensures ∙ behind-is c.in-Some.overlay.now.written c.args.file
+    ∙ ap (λ files. first_above files c.args.file) (shown-now c.self.inside.overlay c.in-Some.overlay c.args.self.now c.in-Some.is c.self.view_is c.self.invariant)
