@@ -57,7 +57,7 @@ impl Shelf {
         })
     }
 
-    // Writes bytes, on a disk on which nothing waits. For want of pages, which no table has, it gives up as for want of memory.
+    // Writes bytes, on a disk on which nothing waits. Out of pages, which no table is, it fails as where it is out of memory.
     fn put(&mut self, alloc: Global, at: u32, bytes: &[u8]) -> Result<(), ExtentFault>
         requires fits { IfSome (told_by self.old.disk) (λ s. end_of BEGIN ALL_PAGES ≤ length s.seen) }
         requires safe { IfSome (told_by self.old.disk) IsSafe }

@@ -1,8 +1,10 @@
-// The calls that a block over a file makes, where one of them fails.
-ghost use Rattle.std.specs.Prelude.{◌≡◌, Some, OnOk, OnErr};
+// The calls that a block over a file makes, and a disk over the block, where one of them fails.
+ghost use Rattle.std.specs.Prelude.{◌≡◌, ◌+◌, ◌<◌, ◌≤◌, Some, OnOk, OnErr};
 ghost use Rattle.ktm_base.specs.Count.{raised};
 
-use ktm_base::{Block, Failed, NoMemory};
+use crate::picks::write;
+use ktm_base::{Block, Disk, Down, Failed, NoMemory};
+use ktm_disk::BlockDisk;
 use ktm_os::{FileBlock, ImageFile};
 use std::alloc::Global;
 use std::io;
@@ -124,4 +126,29 @@ pub fn calls_of(alloc: Global, number: &str) -> Result<String, NoMemory> {
         return Ok(String::from_str(alloc, "another answer")?);
     }
     Ok(String::from_str(alloc, block.file().asked.as_str())?)
+}
+
+/// Grows a disk to 8 bytes, and makes two bytes stay at 2.
+pub fn change_disk<D: Disk>(disk: &mut D) -> Result<(), Down>
+    requires { (D.status disk.old).pending < 64 }
+    ensures { (D.status disk.new).pending ≤ (D.status disk.old).pending + 1 }
+{
+    disk.ensure(8)?;
+    write(disk, 2, &[1, 2])?;
+    disk.sync()
+}
+
+/// A letter for each call of a file whose call with this number fails, where a disk over it is changed twice, and synced once
+/// more.
+pub fn calls_of_disk(alloc: Global, number: &str) -> Result<String, NoMemory> {
+    let fails = number.parse::<u64>().unwrap_or(0);
+    let block = FileBlock::over(CountingFile::new(alloc, fails));
+    let mut disk = BlockDisk::new(alloc, block)?;
+    let _ = change_disk(&mut disk);
+    let _ = change_disk(&mut disk);
+    let _ = disk.sync();
+    if disk.is_down() != (fails != 0) {
+        return Ok(String::from_str(alloc, "another answer")?);
+    }
+    Ok(String::from_str(alloc, disk.block().file().asked.as_str())?)
 }

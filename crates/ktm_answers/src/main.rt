@@ -5,6 +5,9 @@
 //! - `events`, `groups`: bytes, as digits, and the event or the group that they are.
 //! - `picks`: the number of a pick, and what a loss of power leaves of a disk by it.
 //! - `calls`: the number of the first call of a file that fails, and the calls that a block makes over it.
+//! - `disks`: the same number, and the calls that a disk over the block makes.
+//! - `plain`: a path, and of the disk in the file there, once it has made two bytes stay: what length a second disk over the file
+//!   finds, and what length and which bytes a third one, once the first is dropped.
 //! - `spaces`: which four pages are free, and which are taken, with how many are free before and behind; the last one is given then,
 //!   and all are taken once more.
 //! - `rows`: steps over a row of four pages, of each the first and the last byte of the page that is read, or `written`, and then
@@ -25,6 +28,7 @@ mod extents;
 mod files;
 mod pages;
 mod picks;
+mod plain;
 mod texts;
 mod words;
 
@@ -35,7 +39,7 @@ fn main(rt: HostRuntime) -> io::Result<()> {
     for word in env::args(&rt)?.skip(1) {
         let table = fs::read_to_string(&rt, word.as_str())?;
         let (_, kind) = word.split_once('.').unwrap_or((word.as_str(), ""));
-        match answers::found(rt.alloc(), kind, &table) {
+        match answers::found(rt.alloc(), &rt, kind, &table) {
             Ok(None) => println!(rt; "{word} holds")?,
             Ok(Some(what)) => println!(rt; "{word} does not hold: {what}")?,
             Err(NoMemory) => return Err(io::ErrorKind::OutOfMemory.into()),

@@ -10,8 +10,8 @@ use std::alloc::Global;
 /// The length of the disk in bytes.
 const LEN: usize = 24;
 
-// Writes where the range is within the disk.
-fn write<D: Disk>(disk: &mut D, at: u64, bytes: &[u8]) -> Result<(), Down>
+/// Writes where the range is within the disk.
+pub fn write<D: Disk>(disk: &mut D, at: u64, bytes: &[u8]) -> Result<(), Down>
     requires { (D.status disk.old).pending < 64 }
     ensures { (D.status disk.new).pending ≤ (D.status disk.old).pending + 1 }
 {

@@ -19,7 +19,7 @@ there-back (a ∷ ids) id there = elim (cases_Bool (same_id a id)) [
   | inr other ↦ rw other (there-back ids id (rw other at there))
 ]
 
--- so that of each enlistment is
+-- the resource manager of each enlistment is there, where its Id was recorded
 pub all-there : (ids : List Id) (coming : List Enlistment) → list_all (λ (e : Enlistment). list_any (λ id. same_id id e.manager) ids) coming ≡ true → list_all (has_manager (map manager_back ids)) (by_rising_id coming) ≡ true
 all-there ids coming all = list_all-from (has_manager (map manager_back ids)) (by_rising_id coming)
     (λ e there. there-back ids e.manager (list_all-at (λ (f : Enlistment). list_any (λ id. same_id id f.manager) ids) coming all e (IsIn-rising coming e there)))

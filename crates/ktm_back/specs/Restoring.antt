@@ -75,7 +75,7 @@ pub record CanHaveItsOwn (files : FilesNow) (keys : KeysNow) (t : Recorded) : Ty
   pub changes : is_held t.stage ≡ true → has_changes_part t ≡ true → CanBeRestored files t.id (changes_of t)
   pub settings : is_held t.stage ≡ true → has_settings_part t ≡ true → CanBeSetAgain keys t.id (settings_of t)
 
--- and so can each of a list, once those before it have theirs
+-- each of a list can have again what it changed and set, once those before it have theirs
 abbrev pub CanHaveTheirOwn : FilesNow → KeysNow → List Recorded → Type 0
 CanHaveTheirOwn files keys ts =
     (before behind : List Recorded) (t : Recorded) → before ++ t ∷ behind ≡ ts → CanHaveItsOwn (files_with_own files (own_changes_of before)) (keys_with_own keys (own_settings_of before)) t

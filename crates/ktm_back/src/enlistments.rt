@@ -1,5 +1,5 @@
 // The enlistments that are brought back, by rising Id.
-ghost use Rattle.std.specs.Prelude.{◌≡◌, ◌≤◌, ◌∷◌, [], IfOk, OnOk, filter, if◌then◌else◌, length};
+ghost use Rattle.std.specs.Prelude.{◌≡◌, ◌≤◌, ◌∷◌, [], IfOk, OnOk, filter, length};
 ghost use Rattle.std.specs.List.{cons_option, flat_map, position, position_or_len};
 ghost use Rattle.ktm_world.specs.Durable.{is_before};
 ghost use Rattle.ktm_world.specs.World.{by_rising_id, enlistment_back, enlistments_back, is_brought_back, superior_back, with_enlistment};
@@ -162,7 +162,7 @@ fn put_those_of(
     put_superior(alloc, enlistments, t.id, &t.superior)
 }
 
-// The same, where the transaction is brought back.
+// Puts the enlistments of a transaction at their places, the superior's last, where the transaction is brought back.
 fn put_if_back(
     alloc: Global,
     enlistments: &mut Vec<Enlistment>,

@@ -45,7 +45,7 @@ fn restore_part(
     }
 }
 
-// The same of all parts of a transaction, of which one at most has changes, and one has settings.
+// The changes and settings of all parts, of which one at most has changes, and one has settings, are the transaction's own again.
 fn restore_parts(
     files: &mut Files,
     keys: &mut KvRm,
@@ -65,7 +65,7 @@ fn restore_parts(
     Ok(())
 }
 
-// The same of a transaction, if it is in doubt.
+// The changes and settings of a transaction are its own again, if it is in doubt.
 fn restore_if_held(files: &mut Files, keys: &mut KvRm, t: Recorded) -> Result<(), NoMemory>
     requires { CanHaveItsOwn (files_of files.old) keys.old t }
     ensures files { OnOk result (files_of files.new ≡ files_with_own (files_of files.old) (own_changes_of (t ∷ []))) }
@@ -83,7 +83,7 @@ fn restore_if_held(files: &mut Files, keys: &mut KvRm, t: Recorded) -> Result<()
     restore_parts(files, keys, id, parts)
 }
 
-// The same of all transactions that are in doubt, in order.
+// The changes and settings of each transaction that is in doubt are its own again, in order.
 fn restore_all(
     files: &mut Files,
     keys: &mut KvRm,

@@ -15,7 +15,7 @@ abbrev pub covers : List (ℕ × ℕ) → ℕ → Bool
 covers [] place = false
 covers (range ∷ ranges) place = (nat_le range.0 place && nat_lt place (range.0 + range.1)) || covers ranges place
 
--- the same length, and the same bytes outside of the ranges
+-- the length is as it was, and so are the bytes outside of the ranges
 pub record SameOutside (ranges : List (ℕ × ℕ)) (old new : List ℕ) : Type 0 where
   pub same_length : length new ≡ length old
   pub others : (place : ℕ) → covers ranges place ≡ false → slice_index new place ≡ slice_index old place
@@ -25,7 +25,7 @@ pub record GrewTowards (len : ℕ) (old new : List ℕ) : Type 0 where
   pub front : take (length old) new ≡ old
   pub no_longer : length new ≤ max (length old) len
 
--- the same, and at least of this length
+-- the old bytes with any bytes behind them until they have this length
 pub record GrewTo (len : ℕ) (old new : List ℕ) : Type 0 where
   pub front : take (length old) new ≡ old
   pub long : length new ≡ max (length old) len

@@ -4,7 +4,7 @@ use Rattle.ktm_base.specs.Bytes.{written}
 use Rattle.ktm_base.specs.Disk.{DiskState, DiskStatus, HasLengths, MayLeave, IsSafe, Wrote, WriteRefused, Synced, Grew, GrowthRefused, DeviceCalls}
 use Rattle.ktm_base.specs.Power.{Restored, NotRestored}
 
--- the same images may be left of both
+-- of both states a loss of power may leave the same images
 abbrev pub LeaveTheSame : DiskState → DiskState → Type 0
 LeaveTheSame s t = (image : List ℕ) → MayLeave s image ↔ MayLeave t image
 
@@ -24,7 +24,7 @@ with_longest s len = record s { longest = max s.longest len }
 abbrev pub WriteLaw : Type 0
 WriteLaw = (s t : DiskState) (at : ℕ) (bytes : List ℕ) → at + length bytes ≤ length s.seen → Wrote at bytes s t → LeaveTheSame (with_dirty s at (length bytes)) t
 
--- the same after a write that was refused
+-- after a write that was refused an image may be left exactly where it could be with the range dirty and its old bytes
 abbrev pub WriteRefusedLaw : Type 0
 WriteRefusedLaw = (s t : DiskState) (at len : ℕ) → WriteRefused at len s t → LeaveTheSame (with_dirty s at len) t
 
@@ -40,7 +40,7 @@ SyncLaw = (s t : DiskState) (image : List ℕ) → Synced s t → MayLeave t ima
 abbrev pub GrowthLaw : Type 0
 GrowthLaw = (s t : DiskState) (len : ℕ) → s.shortest ≤ length s.seen → Grew len s t → LeaveTheSame (with_longest s len) t
 
--- the same after a growth that was refused
+-- after a growth that was refused an image may be left exactly where it could be with the length asked for and the old bytes
 abbrev pub GrowthRefusedLaw : Type 0
 GrowthRefusedLaw = (s t : DiskState) (len : ℕ) → s.shortest ≤ length s.seen → GrowthRefused len s t → LeaveTheSame (with_longest s len) t
 

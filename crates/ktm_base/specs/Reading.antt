@@ -12,7 +12,7 @@ pub record IsRead {Z : Type 0} (bytes : List ℕ) (offset most : ℕ) (old new :
   pub kept : OnErr result (new.items ≡ old.items)
   pub full : OnErr result (vec_capacity old < vec_len old + length (bytes_from bytes offset most))
 
--- the same of bytes that may not be there: nothing is read then, and all is as it was
+-- bytes that may not be there were read; where they are not, nothing is read, and all is as it was
 abbrev pub IsReadIf : {Z : Type 0} → Option (List ℕ) → ℕ → ℕ → Vec ℕ Z → Vec ℕ Z → Option (Result (Unit {0}) NoMemory) → Type 0
 IsReadIf None offset most old new result = (result ≡ None) × (new ≡ old)
 IsReadIf (Some bytes) offset most old new result = IsSomeAnd result (IsRead bytes offset most old new)

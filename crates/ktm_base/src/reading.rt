@@ -14,7 +14,7 @@ pub fn read_at(bytes: &[u8], offset: u64, most: u64, onto: &mut Vec<u8>) -> Resu
     Ok(onto.extend_from_slice(&rest[..many])?)
 }
 
-/// The same of bytes that may not be there.
+/// Puts bytes from the offset on, at most so many, behind those that are there, or answers `None` where no bytes are given.
 pub fn read_if(
     bytes: Option<&[u8]>,
     offset: u64,

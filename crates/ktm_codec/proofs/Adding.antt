@@ -47,8 +47,3 @@ module _ {X : Type 0} (Item : X → List ℕ → Type 0) where
 
     pub adds_items : (xs : List X) (i : ℕ) (b : List ℕ) → length xs ≡ i → Adds (Then Count (IsRow Item (take i xs))) a b → Adds (Then Count (IsRow Item xs)) a b
     adds_items xs i b all list = subst (λ (ys : List X). Adds (Then Count (IsRow Item ys)) a b) (take_all i xs (omega arith)) list
-
--- a count, and then the one item
-pub one_item : {X : Type 0} (Item : X → List ℕ → Type 0) (Count : List ℕ → Type 0) (x : X) (b c : List ℕ) → Adds Count [] b → Adds (Item x) b c → Then Count (IsRow Item (x ∷ [])) c
-one_item Item Count x b c count item =
-    (count.more, item.more, item.is ∙ ap (λ (l : List ℕ). l ++ item.more) count.is, count.form, (item.more, [], sym (append-nil item.more), item.form, refl))

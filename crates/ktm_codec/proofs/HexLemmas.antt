@@ -115,7 +115,7 @@ not_dash : (c : ℕ) (cs bytes : List ℕ) → unhex (c ∷ cs) ≡ Some bytes �
 not_dash c cs [] e = cc (unhex_is (c ∷ cs) [] e).1
 not_dash c cs (b ∷ bs) e = unhex_is (c ∷ cs) (b ∷ bs) e
 
--- the same of the spelling with a dash for none
+-- a text from which bytes are read, where a dash stands for none, is their spelling
 pub unhex_or_dash_is : (text bytes : List ℕ) → unhex_or_dash text ≡ Some bytes → AreBytes bytes × (text ≡ hex_or_dash bytes)
 unhex_or_dash_is [] bytes e = cc
 unhex_or_dash_is (c ∷ cs) bytes e = elim (cases_Bool (bytes_eq (c ∷ cs) (codes "-"))) [

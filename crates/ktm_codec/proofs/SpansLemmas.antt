@@ -1,6 +1,6 @@
 -- How what is read at one place goes on at the next.
 use Rattle.std.proofs.Common.{◌≡◌, ℕ, ◌+◌, ◌-◌, ◌<◌, ◌≤◌, None, List, [], ◌∷◌, ◌++◌, length, take, drop, refl, sym, ◌∙◌, ap, subst, arith, length-append, length-drop}
-use Rattle.std.proofs.lemmas.List.{take_at, drop_at, length-take-le, take-take, drop-take, drop-drop, take-append-drop, nil_from_length}
+use Rattle.std.proofs.lemmas.List.{take_at, drop_at, length-take-le, take-take, drop-take, drop-drop, take-append-drop}
 use Rattle.std.proofs.lemmas.List.Folds.{drop_split}
 use Rattle.std.specs.List.{slice_range}
 use Rattle.ktm_base.specs.Grammar.{IsU8, IsU32, Then, Tagged, IsRow, IsListOf}
@@ -143,9 +143,6 @@ row_push Item bytes xs x at here end row item = record {
   form = subst (λ (l : List ℕ). IsRow Item (xs ++ x ∷ []) l) (sym (part_split bytes at here end row.forward item.forward))
       (row-push Item xs x (slice_range bytes at here) (slice_range bytes here end) row.form item.form);
 }
-
-pub row_none : {X : Type 0} (Item : X → List ℕ → Type 0) (bytes : List ℕ) (at : ℕ) → at ≤ length bytes → Spans (IsRow Item []) bytes at at
-row_none Item bytes at within = record { forward = omega arith; within = within; form = nil_from_length (slice_range bytes at at) (length-part bytes at at (omega arith) within ∙ omega arith) }
 
 -- a count, and then as many things
 module _ {X : Type 0} (Item : X → List ℕ → Type 0) (bytes : List ℕ) (at : ℕ) where

@@ -13,7 +13,7 @@ hex_pair b = hex_digit (b / 16) ∷ hex_digit (b % 16) ∷ []
 abbrev pub hex_of : List ℕ → List ℕ
 hex_of bytes = flat_map hex_pair bytes
 
--- the same, and a dash where there are none
+-- each byte as two digits, or a dash where there are no bytes
 abbrev pub hex_or_dash : List ℕ → List ℕ
 hex_or_dash [] = codes "-"
 hex_or_dash (b ∷ bs) = hex_of (b ∷ bs)
@@ -38,7 +38,7 @@ unhex [] = Some []
 unhex (high ∷ []) = None
 unhex (high ∷ low ∷ rest) = option_and_then (λ b. option_map (λ bs. b ∷ bs) (unhex rest)) (pair_value high low)
 
--- the same, where a dash stands for none
+-- the bytes that pairs of digits stand for, or none for a dash
 abbrev pub unhex_or_dash : List ℕ → Option (List ℕ)
 unhex_or_dash [] = None
 unhex_or_dash (c ∷ cs) = if bytes_eq (c ∷ cs) (codes "-") then Some [] else unhex (c ∷ cs)

@@ -47,7 +47,7 @@ pub fn put_hex(out: &mut Vec<u8>, bytes: &[u8]) -> Result<(), NoMemory>
     Ok(())
 }
 
-/// The same, and a dash where there are no bytes.
+/// Writes bytes at the end, each as two digits with lower-case letters, or a dash where there are no bytes.
 pub fn put_hex_or_dash(out: &mut Vec<u8>, bytes: &[u8]) -> Result<(), NoMemory>
     ensures ok { OnOk result (out.new.items ≡ out.old.items ++ hex_or_dash bytes.now) }
     ensures front { take (length out.old.items) out.new.items ≡ out.old.items }

@@ -64,8 +64,8 @@ pub fn read_last_number(most: u64, text: &[u8]) -> Option<u64>
     if rest.is_empty() { Some(number) } else { None }
 }
 
-/// What is read as a number is its digits, and the digits of a number are read as it, unless more digits follow them;
-/// likewise of a whole text.
+/// What is read as a number is its digits, and the digits of a number are read as it, unless more digits follow them. A whole
+/// text is read as a number exactly where it is the digits of one that is not too great.
 pub fn law_of_numbers()
     ensures found { (most : ℕ) (text : List ℕ) (n : ℕ) (rest : List ℕ) → most < 2 ^ 64 → number_at most text ≡ Some (n, rest)
         → (n ≤ most) × (text ≡ decimal n ++ rest) }

@@ -9,7 +9,7 @@ use Rattle.ktm_run.specs.declared.status.Status.TheVariants.{NoMemory as WantOfM
 abbrev pub path_at : {A : Type 0} → List (String A) → ℕ → List ℕ
 path_at words place = unwrap_or (slice_get (map string_bytes words) place) []
 
--- the number of how the run ended; want of memory before it is want of memory
+-- the number of how the run ended; where memory ran out before it, the number of that
 abbrev pub number_of : Result Status NoMemory → ℕ
 number_of (Ok status) = exit_code_of status
 number_of (Err _) = exit_code_of WantOfMemory

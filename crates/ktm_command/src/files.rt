@@ -1,7 +1,7 @@
 // The files that the words name.
 ghost use Rattle.std.specs.Prelude.{◌≡◌, IfOk, string_bytes};
 ghost use Rattle.ktm_cut.specs.Cut.{block_of, status_of};
-ghost use Rattle.ktm_cut.specs.Switch.{status_at_start};
+ghost use Rattle.ktm_disk.specs.Status.{status_at_start};
 ghost use Rattle.ktm_os.specs.Path.{path_of_block, path_of_source};
 ghost use Rattle.ktm_command.specs.Command.{path_at};
 

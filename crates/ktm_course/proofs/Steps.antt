@@ -39,12 +39,12 @@ first_records step steps left b is = ap (λ (l : List Step). events_ahead l b) i
 some_there : (n : ℕ) → (suc n == 0) ≡ false
 some_there n = false_from_ne_true (suc n == 0) (λ empty. absurd (omega (arith, eqb-true (suc n) 0 empty)))
 
--- by whether it changed names
+-- has it changes, where it changed names
 pub by_names : (names : List Change) (files : List FinalFile) (none : Bool) → none ≡ (length names == 0) → none ≡ false → not none ≡ has_changes (changes_of names files)
 by_names [] files none is some = absurd (cc)
 by_names (n ∷ ns) files none is some = ap not some
 
--- and else by whether it wrote files
+-- has it changes, where it changed no names, by whether it wrote files
 pub by_files : (names : List Change) (files : List FinalFile) (none unwritten : Bool) → none ≡ (length names == 0) → none ≡ true → unwritten ≡ (length files == 0) → not unwritten ≡ has_changes (changes_of names files)
 by_files (n ∷ ns) files none unwritten is all written = let there = some_there (length ns) in absurd (cc)
 by_files [] [] none unwritten is all written = ap not written

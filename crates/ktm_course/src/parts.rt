@@ -14,7 +14,7 @@ ghost use Rattle.ktm_world.specs.Changes.{has_changes};
 ghost use Rattle.ktm_world.specs.Phases.{enlistment_part, has_settings};
 
 use ktm_base::Id;
-use ktm_event::{Events, NoFiles, Stage, Work, WrittenFiles, event_size, held_size, work_size};
+use ktm_event::{Events, Stage, Work, WrittenFiles, event_size, held_size, work_size};
 use ktm_types::{Change, DonePart, Event, Fact, Setting, Step};
 
 /// An enlistment, as it is recorded.
@@ -138,25 +138,6 @@ fn held_entry<'a, F: WrittenFiles>(superior: Option<Enlisted<'a>>) -> Option<Ent
     }
 }
 
-impl Parts<'static, NoFiles> {
-    /// Nobody takes part, or what they have is not recorded.
-    pub fn none() -> Self
-        ensures names { result.names.now ≡ [] }
-        ensures files { ⟦<NoFiles as WrittenFiles>⟧.files result.files.now ≡ [] }
-        ensures settings { result.settings.now ≡ [] }
-        ensures caller { result.caller ≡ None }
-        ensures superior { result.superior ≡ None }
-    {
-        Parts {
-            names: &[],
-            files: &NoFiles,
-            settings: &[],
-            caller: None,
-            superior: None,
-        }
-    }
-}
-
 impl<'a, F: WrittenFiles> Parts<'a, F> {
     // Do the files take part.
     fn has_changes(&self) -> bool
@@ -220,7 +201,7 @@ impl<'a, F: WrittenFiles> Parts<'a, F> {
         }
     }
 
-    // The same, once a step is carried out.
+    // Has the log a Ready or a Held once a step is carried out.
     fn is_recorded_after(&self, step: &Step, is_recorded: bool) -> bool
         ensures { (id : OfTransaction) (b : Basis) → IsBasis F.files b id is_recorded self.now → result ≡ recorded_after (step.now ∷ []) b }
     {

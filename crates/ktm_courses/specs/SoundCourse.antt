@@ -206,7 +206,7 @@ pub record AreSoundNumbers (boots image clock : ℕ) : Type 0 where
   pub booted : 1 ≤ boots
   -- the count of boots fits a GUID
   pub boots_fit : boots < 2 ^ 32
-  -- and so does the number of the image
+  -- the number of the image fits a GUID
   pub image_fits : image < 2 ^ 16
   -- the clock has not come past its end
   pub clock_fits : clock ≤ 2 ^ 64 - 1
@@ -234,7 +234,7 @@ pub record AreSoundEnlistments (boot last : ℕ) (ts : List Transaction) (ms : L
   pub made : list_all (is_made_with_it boot) es ≡ true
   -- the transaction of each is there
   pub transactions_there : list_all (λ e. has_transaction ts e.transaction) es ≡ true
-  -- and so is its resource manager
+  -- the resource manager of each is there
   pub managers_there : list_all (λ e. has_manager ms e.manager) es ≡ true
   -- a superior's resource manager is durable
   pub superiors_durable : list_all (is_superior_durable ms) es ≡ true

@@ -20,11 +20,11 @@ pub record CoursesLaw : Type 0 where
   pub decided : (x : Present) (process : Pid) (command : Command) → IsSoundCourse x → IsSoundCourse (apply x (decide x process command))
   -- by the passing of time
   pub ticks : (x : Present) (ms : ℕ) → IsSoundCourse x → IsSoundCourse (apply x (decide_tick x ms))
-  -- so it is in worlds, by a command
+  -- in worlds, by a command
   pub worlds : (w : World) (process : Pid) (command : Command) → FirstOpensLieWithin w → IsSoundCourse (present w) → IsSoundCourse (present (after w process command))
-  -- and by the passing of time
+  -- in worlds, by the passing of time
   pub later_worlds : (w : World) (ms : ℕ) → FirstOpensLieWithin w → IsSoundCourse (present w) → IsSoundCourse (present (extend w (decide_tick (present w) ms)))
-  -- by the loss of power
+  -- in worlds, by the loss of power
   pub falls : (w : World) (power : Power) → IsSoundCourse (present w) → IsSoundCourse (present (record w { power = power }))
   -- by a restart of a good state
   pub restarts : (base : Durable) (room : ℕ) (log : List Group) → IsGoodState (stand base log) → IsSoundCourse (present (opened base room log))

@@ -10,7 +10,7 @@ use Rattle.rand_pcg.specs.Pcg.{pcg32, pcg32_of_seed}
 use Rattle.ktm_base.specs.Bytes.{SameOutside}
 use Rattle.ktm_base.specs.Told.{Goes}
 use Rattle.ktm_cut.specs.Left.{with_drawn, with_zeros, left_by, left_of_range, left_of_ranges, left_of_added, left_of}
-use Rattle.ktm_cut.specs.Told.{length_at_sync}
+use Rattle.ktm_disk.specs.Told.{length_at_sync}
 use Rattle.ktm_cut.proofs.Steps.{OnOk-map, Goes-map, Goes-then}
 
 chosen : (from end w : ℕ) (f g : Lcg) (x : List ℕ) → (w, g) ≡ pcg32 f → left_by (w % 4) from end g x ≡ left_of_range from end f x

@@ -1,4 +1,3 @@
-pub mod Calls
 pub mod Choices
 pub mod Drawn
 pub mod Pieces

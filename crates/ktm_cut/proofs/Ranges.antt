@@ -1,6 +1,6 @@
 -- Bytes outside of the ranges that are written.
 use Rattle.std.specs.Prelude.{IfSome}
-use Rattle.std.proofs.Common.{suc, zero, ◌≡◌, ◌⊎◌, ℕ, ◌+◌, ◌-◌, ◌<◌, ◌≤◌, false, List, [], ◌∷◌, length, get_or, Option, None, Some, ◌∙◌, ap, sym, arith, refl, min}
+use Rattle.std.proofs.Common.{suc, zero, ◌≡◌, ◌⊎◌, ℕ, ◌+◌, ◌-◌, ◌<◌, ◌≤◌, false, List, [], ◌∷◌, length, get_or, Option, None, Some, ◌∙◌, ap, sym, arith, min}
 use Rattle.std.proofs.lemmas.Grind.{common_steps}
 use Rattle.std.proofs.lemmas.Bool.Decides.{nat_tests}
 use Rattle.ktm_base.specs.Told.{Goes}
@@ -31,11 +31,6 @@ pub covers-at : (rs : List (ℕ × ℕ)) (i k : ℕ) (d : ℕ × ℕ) → i < le
 covers-at [] i k d low h = grind arith
 covers-at (r ∷ rs) zero k d low h = grind (arith, common_steps, nat_tests)
 covers-at (r ∷ rs) (suc i) k d low h = covers-at rs i k d (omega arith) (outside r rs k h).1
-
--- nothing is written
-pub same_outside : (rs : List (ℕ × ℕ)) (a : Option (List ℕ)) → Goes (SameOutside rs) a a
-same_outside rs None = tt
-same_outside rs (Some a) = record { same_length = refl; others = λ place h. refl }
 
 -- a write changes its range alone
 pub written_outside : (at : ℕ) (bytes : List ℕ) (a b : Option (List ℕ)) → IfSome a (λ old. at + length bytes ≤ length old) → Goes (λ old new. new ≡ written old at bytes) a b → Goes (SameOutside ((at, length bytes) ∷ [])) a b
@@ -77,11 +72,6 @@ length_stays rs len None None is goes = tt
 length_stays rs len None (Some b) is goes = absurd goes
 length_stays rs len (Some a) None is goes = tt
 length_stays rs len (Some a) (Some b) is goes = is ∙ sym goes.same_length
-
--- a part of the bytes ends within them
-pub part_within : (end len : ℕ) (a : Option (List ℕ)) → end ≤ len → IfSome a (λ bytes. len ≡ length bytes) → IfSome a (λ bytes. end ≤ length bytes)
-part_within end len None low is = tt
-part_within end len (Some a) low is = omega arith
 
 -- what of a range lies before the end covers no more
 pub part_covers : (r : ℕ × ℕ) (len from end k : ℕ) → from ≡ min len r.0 → end ≤ len → end ≤ r.0 + r.1 → covers (r ∷ []) k ≡ false → covers ((from, end - from) ∷ []) k ≡ false

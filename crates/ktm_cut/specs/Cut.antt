@@ -5,8 +5,8 @@ use Rattle.ktm_base.specs.Count.{Rose}
 use Rattle.ktm_base.specs.Disk.{DiskState, DiskStatus}
 use Rattle.ktm_base.specs.declared.block.Block.{Ghosts}
 use Rattle.ktm_cut.specs.declared.disk.CutDisk.{CutDisk}
-use Rattle.ktm_cut.specs.Switch.{after_call, with_pending}
-use Rattle.ktm_cut.specs.Told.{told_of}
+use Rattle.ktm_disk.specs.Status.{after_call, with_pending}
+use Rattle.ktm_disk.specs.Told.{told_of}
 
 -- the block below
 abbrev pub block_of : {B : Type 0} {g : Ghosts B} → CutDisk B g → B

@@ -1,5 +1,3 @@
-pub mod Told
-pub mod Switch
+pub mod Elsewhere
 pub mod Cut
 pub mod Left
-pub mod Lengths

@@ -6,13 +6,14 @@ ghost use Rattle.ktm_base.specs.Stream.{Faults};
 ghost use Rattle.ktm_base.specs.Told.{Goes};
 ghost use Rattle.ktm_base.specs.Disk.{DiskState, DiskStatus, Wrote, WriteRefused, Synced, Grew, GrowthRefused, DeviceCall, IsSafe};
 ghost use Rattle.ktm_base.specs.Power.{after_arm, after_off, Powers, Restored, NotRestored};
-ghost use Rattle.ktm_cut.specs.Switch.{with_pending, status_at_start};
+ghost use Rattle.ktm_disk.specs.Status.{with_pending, status_at_start};
 ghost use Rattle.ktm_cut.specs.Left.{left_of};
-ghost use Rattle.ktm_cut.specs.Told.{IsLengthKnown, length_at_sync};
+ghost use Rattle.ktm_disk.specs.Told.{IsLengthKnown};
 
 use crate::settle::settle;
 use crate::switch::Switch;
 use ktm_base::{Block, Disk, Down, Failed, MOST_PENDING, NoMemory, PowerCall, PowerDisk};
+use ktm_disk::length_after_sync;
 use std::alloc::Global;
 
 /// A disk over a block device.
@@ -31,7 +32,7 @@ pub struct CutDisk<B: Block> {
 
 impl<B: Block> Disk for CutDisk<B> {
     ghost use Rattle.ktm_cut.specs.Cut.{told_by, status_of, block_of, CutCall};
-    ghost use Rattle.ktm_cut.specs.Lengths.{known_lengths};
+    ghost use Rattle.ktm_disk.specs.Lengths.{known_lengths};
 
     ghost told = { told_by };
 
@@ -253,17 +254,5 @@ impl<B: Block + Drop> CutDisk<B> {
             grown_from: None,
             asked: 0,
         })
-    }
-}
-
-// The length after the last sync.
-fn length_after_sync<B: Block>(block: &mut B, grown_from: Option<u64>) -> Result<u64, Failed>
-    ensures value { IfOk result (λ n. IfSome (B.contents block.old) (λ bytes. n ≡ length_at_sync grown_from (length bytes))) }
-    ensures same { B.contents block.new ≡ B.contents block.old }
-    ensures faults { Faults (B.faults block.old) (B.faults block.new) result }
-{
-    match grown_from {
-        Some(from) => Ok(from),
-        None => block.len(),
     }
 }

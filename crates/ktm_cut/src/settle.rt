@@ -3,7 +3,8 @@ ghost use Rattle.std.specs.Prelude.{◌≡◌, ℕ, ◌+◌, ◌-◌, ◌%◌, �
 ghost use Rattle.ktm_base.specs.Bytes.{SameOutside};
 ghost use Rattle.ktm_base.specs.Stream.{Faults};
 ghost use Rattle.ktm_base.specs.Told.{Goes};
-ghost use Rattle.ktm_cut.specs.Told.{SameElsewhere, length_at_sync};
+ghost use Rattle.ktm_cut.specs.Elsewhere.{SameElsewhere};
+ghost use Rattle.ktm_disk.specs.Told.{length_at_sync};
 ghost use Rattle.ktm_cut.specs.Left.{with_zeros, with_drawn, left_of_range, left_of_ranges, left_of_added, left_of};
 
 use ktm_base::{Block, Failed};

@@ -2,7 +2,7 @@
 ghost use Rattle.std.specs.Prelude.{◌≡◌, ◌⊎◌, ℕ, ◌+◌, ◌<◌, ◌≤◌, [], Some, None, false, IsTrue, OnOk, OnErr, is_err};
 ghost use Rattle.ktm_base.specs.Disk.{DiskStatus, DeviceCall};
 ghost use Rattle.ktm_base.specs.Power.{after_arm, after_off, planned, Powers};
-ghost use Rattle.ktm_cut.specs.Switch.{after_call, fallen, status_at_start};
+ghost use Rattle.ktm_disk.specs.Status.{after_call, fallen, status_at_start};
 
 use ktm_base::{Down, NoMemory, PowerCall};
 use std::alloc::Global;

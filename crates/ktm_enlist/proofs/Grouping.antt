@@ -34,7 +34,7 @@ mapped_rising : (h : Group → Group) → ((g : Group) → (h g).transaction ≡
 mapped_rising h same [] = refl
 mapped_rising h same (g ∷ gs) = rw (same g, mapped_all h same g.transaction gs, mapped_rising h same gs) refl
 
--- and no other transaction has one
+-- a transaction that has no group has none among groups of the same transactions
 mapped_nowhere : (h : Group → Group) → ((g : Group) → (h g).transaction ≡ g.transaction) → (gs : List Group) (id : Id) → IsNowhere group_id (map h gs) id → IsNowhere group_id gs id
 mapped_nowhere h same [] id nowhere = tt
 mapped_nowhere h same (g ∷ gs) id nowhere = (ap (λ (own : Id). same_id own id) (sym (same g)) ∙ nowhere.0, mapped_nowhere h same gs id nowhere.1)
@@ -107,7 +107,7 @@ standing_from was is same =
 recounted_same : (n : ℕ) (b : Bool) → MayRecount n b b → n ≡ recounted n b b
 recounted_same n b may = omega (arith, may.0)
 
--- and so is a group
+-- a group of which one standing is taken and given back is itself
 regrouped_same : (g : Group) (s : Standing) → MayRegroup g s s → g ≡ regrouped s s g
 regrouped_same g s may = λ i. record g {
   counts = record {
@@ -120,7 +120,7 @@ regrouped_same g s may = λ i. record g {
   live = recounted_same g.live s.is_live may.live i;
 }
 
--- and so are all
+-- groups of which one standing is taken and given back are themselves
 all_same : (gs : List Group) (id : Id) (s : Standing) → MayRegroupAll gs id s s → gs ≡ regrouped_all id s s gs
 all_same [] id s may = refl
 all_same (g ∷ gs) id s may = elim (cases_Bool (same_id g.transaction id)) [
@@ -206,7 +206,7 @@ module _ (f : Enlistment → Enlistment) (keeps : Keeps f) (es : List Enlistment
       (counted_kept f es i d g nothing within is.counted (stands_not g.transaction (get_or es i d) not_own)
       (stands_not g.transaction (f (get_or es i d)) (own_kept f keeps g.transaction (get_or es i d) ∙ not_own)))
 
-  -- so each group stands for the enlistments
+  -- each group stands for the enlistments with the one that is changed
   each_changed : (gs : List Group) → AllByRecursion (IsGroup es) gs → AllByRecursion (IsGroup (changed f es i)) (regrouped_all (get_or es i d).transaction was now gs)
   each_changed [] all = tt
   each_changed (g ∷ gs) all = (
@@ -252,7 +252,7 @@ module _ (f : Enlistment → Enlistment) (keeps : Keeps f) (es : List Enlistment
     chained = are.chained ∙ sym (links_changed f keeps.transaction 0 es i);
   }
 
-  -- and its group can count it anew
+  -- the group of the enlistment that is changed can count it anew
   pub groups_fit : (gs : List Group) → length es < 2 ^ 32 → AllByRecursion (IsGroup es) gs → MayRegroupAll gs (get_or es i d).transaction (standing_of (get_or es i d)) (standing_of (f (get_or es i d)))
   groups_fit [] few all = tt
   groups_fit (g ∷ gs) few all = (
@@ -349,7 +349,7 @@ module _ (es : List Enlistment) (e : Enlistment) where
         chained = ap (λ (l : List (Option ℕ)). l ++ None ∷ []) are.chained ∙ sym (links_begun 0 es e none);
       }
 
-  -- and with a later one
+  -- the groups stand for the enlistments with a later one of a transaction
   grouped_joined : (next : List (Option ℕ)) (gs new : List Group) (last : ℕ) → AreGrouped es next gs → HasJoined e (length es) gs new last → AreGrouped (es ++ e ∷ []) (linked next (Some last) (length es) ++ None ∷ []) new
   grouped_joined next gs new last are joins =
       let group = group_is (IsGroup es) gs e.transaction joins.group are.each joins.before in
@@ -374,7 +374,7 @@ module _ (es : List Enlistment) (e : Enlistment) where
   grouped_push next gs new None are begun = grouped_begun next gs new are begun
   grouped_push next gs new (Some last) are joins = grouped_joined next gs new last are joins
 
-  -- and each group has room for it
+  -- each group of its transaction has room for the new enlistment
   pub push_fit : (gs : List Group) → length es + 1 < 2 ^ 32 → AllByRecursion (IsGroup es) gs → MayRegroupAll gs e.transaction nothing (standing_of e)
   push_fit [] few all = tt
   push_fit (g ∷ gs) few all = (λ same. push_fits es g (standing_of e) all.0.counted few, push_fit gs few all.1)

@@ -215,7 +215,7 @@ links_joined k (x ∷ xs) e (suc j) at =
     ] in
     rw (named, links_joined (suc k) xs e j at) (ap (λ (n : ℕ). place_from (is_own x.transaction) (suc k) xs ∷ (set (links (suc k) xs) j (Some n) ++ None ∷ [])) same)
 
--- the same of the link at a place among all
+-- the link at a place among all is the place of the next one of its transaction
 pub link_behind : (id : Id) (es : List Enlistment) (next : List (Option ℕ)) (p : ℕ) (d : Option ℕ) → next ≡ links 0 es → PassesAt (is_own id) es p → get_or next p d ≡ place_from (is_own id) (p + 1) (drop (p + 1) es)
 link_behind id es next p d chained at =
     let same : 0 + p ≡ p = omega arith in

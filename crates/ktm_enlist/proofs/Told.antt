@@ -172,7 +172,7 @@ module _ (t : Told) (owns : is_of_transaction t.who ≡ true) where
   skip_first (suc k) m [] none = refl
   skip_first (suc k) m (e ∷ es) none = ap (λ (l : List Enlistment). (if test e then f e else e) ∷ l) (skip_first k m es none)
 
-  -- nor told
+  -- those between are not told
   skip_taken : (k m : ℕ) (es : List Enlistment) → HasNone own (take m (drop k es)) → filter test (take (behind k m) es) ≡ filter test (take k es)
   skip_taken zero zero es none = refl
   skip_taken zero (suc m) [] none = refl
@@ -193,7 +193,7 @@ module _ (t : Told) (owns : is_of_transaction t.who ≡ true) where
   kept : (e : Enlistment) → own (if test e then f e else e) ≡ own e
   kept e = elim (cases_Bool (test e)) [ inl passes ↦ rw passes (same e) | inr not_told ↦ rw not_told refl ]
 
-  -- and so it passes among those that are changed so far
+  -- an enlistment stays one of the transaction at its place where the first so many are changed
   passes_first : (i : ℕ) (es : List Enlistment) (p : ℕ) → PassesAt own es p → PassesAt own (with_first test f i es) p
   passes_first zero es p at = at
   passes_first (suc i) [] p at = absurd at
@@ -231,7 +231,7 @@ module _ (t : Told) (owns : is_of_transaction t.who ≡ true) where
       let items : new ≡ with_first test f (p + 1) es = changes ∙ ap (λ (l : List Enlistment). changed (asked_if test t.owed) l p) r.items ∙ first_more test f p es r.within in
       subst (λ (l : List Enlistment). PassesAt own l p) (sym items) (passes_first (p + 1) es p r.here)
 
-  -- and fewer places are left from the next one on
+  -- fewer places are left from the next one on
   pub walk_smaller : (now new : List Enlistment) (p : ℕ) (next after : Option ℕ) → next ≡ Some p → p < length now → new ≡ changed (asked_if test t.owed) now p → after ≡ place_from own (p + 1) (drop (p + 1) new) → left_of after (length new) < left_of next (length now)
   walk_smaller now new p next after is within changes leads =
       let as_many : length new ≡ length now = ap length changes ∙ changed_length (asked_if test t.owed) now p in
@@ -278,13 +278,13 @@ module _ (t : Told) (owns : is_of_transaction t.who ≡ true) where
         ap (λ (l : List Enlistment). spare + length l) (sym taken) ∙ w.left,
       )
 
-  -- there is one to tell
+  -- the manager of the one that is reached is there
   pub reached_there : (es now : List Enlistment) (p : ℕ) (base ms : List Manager) (before spare : ℕ) (d : Enlistment) → IsReached t es now p base ms before spare
       → list_all (has_manager base) es ≡ true → has_manager ms (get_or now p d) ≡ true
   reached_there es now p base ms before spare d r all =
       rw (was_read test f es now p d r.items, r.sent) (there_served None _ base (get_or es p d).manager ∙ there_at base es p d all r.within)
 
-  -- and room to tell it
+  -- there is room to tell the one that is reached
   pub reached_fits : (es now : List Enlistment) (p : ℕ) (base ms : List Manager) (before spare : ℕ) (d : Enlistment) → IsReached t es now p base ms before spare
       → length (filter test es) ≤ before → length (told test t.kind (get_or now p d)) ≤ spare
   reached_fits es now p base ms before spare d r enough =
@@ -314,7 +314,7 @@ module _ (test : Enlistment → Bool) where
   one_filtered (e ∷ es) zero d at = rw at.0 (ap (λ (l : List Enlistment). e ∷ l) (none_filtered es at.1))
   one_filtered (e ∷ es) (suc i) d at = rw at.0 (one_filtered es i d at.1)
 
-  -- and all that is changed
+  -- the one that passes is all that is changed
   pub one_with : (f : Enlistment → Enlistment) (es : List Enlistment) (i : ℕ) → IsOnlyAt test es i → with_enlistments test f es ≡ changed f es i
   one_with f [] i at = absurd at
   one_with f (e ∷ es) zero at = rw at.0 (ap (λ (l : List Enlistment). f e ∷ l) (none_with f es at.1))
@@ -326,17 +326,17 @@ module _ (test : Enlistment → Bool) where
   only_passes (e ∷ es) zero d at = at.0
   only_passes (e ∷ es) (suc i) d at = only_passes es i d at.1
 
-  -- the same, changed only if it passes
+  -- where one alone may pass, changing all that pass is changing it if it passes
   pub one_with_if : (f : Enlistment → Enlistment) (es : List Enlistment) (i : ℕ) → IsOnlyAt test es i → with_enlistments test f es ≡ changed (λ e. if test e then f e else e) es i
   one_with_if f [] i at = absurd at
   one_with_if f (e ∷ es) zero at = ap (λ (l : List Enlistment). (if test e then f e else e) ∷ l) (none_with f es at.1)
   one_with_if f (e ∷ es) (suc i) at = rw at.0 (ap (λ (l : List Enlistment). e ∷ l) (one_with_if f es i at.1))
 
-  -- what is sent to it is all that is sent
+  -- what is sent to the one that passes is all that is sent
   pub one_told : (kind : Notify) (es : List Enlistment) (i : ℕ) (d : Enlistment) → IsOnlyAt test es i → told test kind (get_or es i d) ≡ map (tell kind) (filter test es)
   one_told kind es i d at = rw (only_passes es i d at, one_filtered es i d at) refl
 
-  -- and as much
+  -- as much is sent to the one that passes as there are that pass
   pub one_counted : (kind : Notify) (es : List Enlistment) (i : ℕ) (d : Enlistment) → IsOnlyAt test es i → length (told test kind (get_or es i d)) ≡ length (filter test es)
   one_counted kind es i d at = rw (only_passes es i d at, one_filtered es i d at) refl
 

@@ -22,7 +22,7 @@ pub record IsCounted (es : List Enlistment) (g : Group) : Type 0 where
   pub unfinished : g.unfinished ≡ count_by (is_unfinished g.transaction) es
   pub live : g.live ≡ count_by (is_live_until_end g.transaction) es
 
--- and its places are those of the superior, of the first and of the last
+-- what the group counts of its enlistments is so, and its places are those of the superior, of the first and of the last
 pub record IsGroup (es : List Enlistment) (g : Group) : Type 0 where
   pub counted : IsCounted es g
   pub superior : g.superior ≡ place_from (is_superior_of g.transaction) 0 es

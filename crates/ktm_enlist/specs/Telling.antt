@@ -17,7 +17,7 @@ abbrev pub asked : Option Owed → Enlistment → Enlistment
 asked None e = e
 asked (Some what) e = owing what e
 
--- the same, where it passes the test
+-- an enlistment that passes the test owes an answer to this from now on, where there is something
 abbrev pub asked_if : (Enlistment → Bool) → Option Owed → Enlistment → Enlistment
 asked_if test owed e = if test e then asked owed e else e
 

@@ -68,11 +68,11 @@ all-shown [] (Some g) rise is = absurd (none-some (final_file g) (sym is))
 all-shown (f ∷ fs) None rise is = absurd (none-some f is)
 all-shown (f ∷ fs) (Some g) rise is = ap (λ (h : FinalFile). h ∷ files_above (f ∷ fs) h.file) (same_Some (final_file g) f is) ∙ ap (λ (us : List FinalFile). f ∷ us) (behind-first f fs rise)
 
--- at first all are left
+-- at first the changes of all files are left
 pub left-all : (fs : List FinalFile) (next : Option FileBytes) → AreRising fs → option_map final_file next ≡ first_of fs → changes_left fs next ≡ flat_map changes_of_file fs
 left-all fs next rise is = ap (flat_map changes_of_file) (all-shown fs next rise is)
 
--- and at last none
+-- at last no changes are left
 pub left-none : (fs : List FinalFile) (next : Option FileBytes) → next ≡ None → changes_left fs next ≡ []
 left-none fs next none = ap (changes_left fs) none
 

@@ -13,11 +13,11 @@ use Rattle.ktm_codec.proofs.SpansLemmas.{one_reading}
 use Rattle.ktm_log.specs.Settle.{behind_gate}
 use Rattle.ktm_log.proofs.Appends.{length-behind_gate, length-body}
 use Rattle.ktm_types.specs.declared.event.Event.{Event}
-use Rattle.ktm_types.specs.EventGrammar.{IsEventOf, IsGroupOf}
+use Rattle.ktm_types.specs.EventGrammar.{IsEventOf}
 use Rattle.ktm_types.specs.Sizes.{event_size}
 use Rattle.ktm_event.specs.declared.fault.EventFault.{EventFault}
 use Rattle.ktm_event.specs.declared.fault.EventFault.TheVariants.{NotAnEvent, NoMemory}
-use Rattle.ktm_event.specs.Kept.{EventsState, Holds, IsKept, payload_of}
+use Rattle.ktm_event.specs.Kept.{EventsState, Holds, IsBodyKept, payload_of}
 use Rattle.ktm_event.specs.Reading.{Gives}
 use Rattle.ktm_event.proofs.LeastSizes.{event_size-least}
 use Rattle.ktm_event.proofs.OneEvent.{unambiguous_event, unambiguous_events}
@@ -39,7 +39,7 @@ module _ (bytes events : List ℕ) (count : ℕ) (small : count < 2 ^ 32) (close
   pub bytes_long : length bytes ≡ length events + 9
   bytes_long = omega (arith, ap (λ (l : List ℕ). length l) closed, length-behind_gate (to_le_bytes w32 count ++ events), length-append (to_le_bytes w32 count) events)
 
-  pub kept : (room capacity : ℕ) → 5 * count ≤ length events → length events ≤ room → room + 9 ≤ capacity → room + 4 < 2 ^ 32 → IsKept bytes count room capacity
+  pub kept : (room capacity : ℕ) → 5 * count ≤ length events → length events ≤ room → room + 9 ≤ capacity → room + 4 < 2 ^ 32 → IsBodyKept bytes count room capacity
   kept room capacity least within reserved few = record {
     body = record {
       small = omega (arith, ap (λ (l : List ℕ). length l) payload_is, length-append (to_le_bytes w32 count) events);
@@ -68,7 +68,7 @@ module _ (old bytes : List ℕ) (few : length old ≤ 8) (closed : bytes ≡ beh
   closed_empty : bytes ≡ behind_gate (to_le_bytes w32 0 ++ [])
   closed_empty = closed ∙ ap (λ (l : List ℕ). behind_gate (to_le_bytes w32 0 ++ l)) (drop_all 8 old few)
 
-  pub kept_none : (room capacity : ℕ) → room + 9 ≤ capacity → room + 4 < 2 ^ 32 → IsKept bytes 0 room capacity
+  pub kept_none : (room capacity : ℕ) → room + 9 ≤ capacity → room + 4 < 2 ^ 32 → IsBodyKept bytes 0 room capacity
   kept_none room capacity reserved small = kept bytes [] 0 (omega arith) closed_empty room capacity (omega arith) (omega arith) reserved small
 
   pub holds_none : (room capacity : ℕ) → Holds (seen bytes 0 room capacity) []
@@ -85,7 +85,7 @@ pub record Grew (bytes opened written new : List ℕ) (count n : ℕ) (event : E
   pub size : length written ≡ length opened + event_size event
   pub closed : new ≡ behind_gate (to_le_bytes w32 (count + 1) ++ drop 8 written)
 
-module _ (bytes opened written new : List ℕ) (count n room before : ℕ) (event : Event) (was : IsKept bytes count room before) (grew : Grew bytes opened written new count n event) where
+module _ (bytes opened written new : List ℕ) (count n room before : ℕ) (event : Event) (was : IsBodyKept bytes count room before) (grew : Grew bytes opened written new count n event) where
   opened_is : opened ≡ to_le_bytes w32 (length (payload_of bytes)) ++ payload_of bytes
   opened_is =
       let p = payload_of bytes in
@@ -112,7 +112,7 @@ module _ (bytes opened written new : List ℕ) (count n room before : ℕ) (even
   few_more = omega (arith, was.counted.4, body_long, was.within, was.few)
 
   module _ (fits : length bytes + event_size event ≤ room + 9) where
-    pub kept_more : (capacity : ℕ) → room + 9 ≤ capacity → IsKept new (count + 1) room capacity
+    pub kept_more : (capacity : ℕ) → room + 9 ≤ capacity → IsBodyKept new (count + 1) room capacity
     kept_more capacity reserved =
         kept new (drop 8 written) (count + 1) few_more grew.closed room capacity (omega (arith, long_more, was.counted.4, event_size-least event)) (omega (arith, long_more, body_long)) reserved was.few
 
@@ -126,11 +126,6 @@ module _ (bytes opened written new : List ℕ) (count n room before : ℕ) (even
         (row-push IsEventOf list event events grew.adds.more row grew.adds.form))
         (omega (arith, sizes_more list event, held.sizes, body_long, long_more))
         (omega (arith, long_more, body_long))
-
--- a list of events has a payload as long as its sizes say, which is a group if there is one event at least
-pub group_held : (state : EventsState) (events : List Event) → Holds state events → 1 ≤ length events → IsGroupOf events state.payload
-group_held state [] holds some = absurd (omega arith)
-group_held state (event ∷ events) holds some = holds.spelled
 
 pub one_kept : (state : EventsState) (a b : List Event) → Holds state a → Holds state b → a ≡ b
 one_kept state a b p q = (unambiguous_events a b state.payload state.payload [] [] p.spelled q.spelled refl).0

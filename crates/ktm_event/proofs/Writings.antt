@@ -40,7 +40,7 @@ tagged {tag} first rest =
     let both = then first rest in
     record { more = both.more; is = both.is; form = then_tagged tag both.more both.form }
 
--- the same, where the tag was pushed
+-- a tag that was pushed and what stands behind it
 pub pushed : {P : List ℕ → Type 0} {a b c : List ℕ} {tag : ℕ} → b ≡ a ++ tag ∷ [] → Adds P b c → Adds (Tagged tag P) a c
 pushed {P} {a} {b} {c} {tag} is rest = adds_tagged tag P a b c is rest
 

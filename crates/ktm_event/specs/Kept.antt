@@ -31,7 +31,7 @@ payload_of body = take (length body - 5) (drop 4 body)
 
 -- the bytes are the body of a frame, the count is at the front of the payload, each event has five bytes at least, and the
 -- room is reserved
-pub record IsKept (bytes : List ℕ) (count room capacity : ℕ) : Type 0 where
+pub record IsBodyKept (bytes : List ℕ) (count room capacity : ℕ) : Type 0 where
   pub body : IsBodyOf (payload_of bytes) bytes
   pub counted : Then (IsU32 count) (λ events. 5 * count ≤ length events) (payload_of bytes)
   pub within : length bytes ≤ room + 9

@@ -1,4 +1,4 @@
--- What is read at a place of the bytes, where reading may want memory.
+-- What is read at a place of the bytes, where reading may run out of memory.
 use Rattle.std.specs.Prelude.{ℕ, List, ◌∷◌, Result, Ok, Err, None}
 use Rattle.ktm_base.specs.declared.id.Id.{Id}
 use Rattle.ktm_base.specs.Grammar.{IsTextOf}

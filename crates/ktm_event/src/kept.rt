@@ -1,5 +1,5 @@
 // Events that are kept as their spellings, until they are recorded as one group.
-ghost use Rattle.std.specs.Prelude.{◌≡◌, ◌↔◌, ℕ, ◌+◌, ◌*◌, ◌^◌, ◌<◌, ◌≤◌, List, [], ◌∷◌, ◌++◌, take, drop, length, IfOk, IsTrue, vec_len, vec_capacity};
+ghost use Rattle.std.specs.Prelude.{◌≡◌, ◌↔◌, ◌+◌, ◌*◌, ◌^◌, ◌<◌, ◌≤◌, List, [], ◌∷◌, ◌++◌, take, drop, length, IfOk, IsTrue, vec_len, vec_capacity};
 ghost use Rattle.std.specs.Int.{to_le_bytes, w32};
 ghost use Rattle.ktm_base.specs.Bytes.{written};
 ghost use Rattle.ktm_log.specs.Settle.{IsBodyOf, behind_gate};
@@ -29,13 +29,13 @@ pub struct Events {
 
 impl Model for Events {
     ghost use Rattle.std.specs.Prelude.{◌+◌, ◌-◌, length, vec_capacity};
-    ghost use Rattle.ktm_event.specs.Kept.{EventsState, IsKept, payload_of};
+    ghost use Rattle.ktm_event.specs.Kept.{EventsState, IsBodyKept, payload_of};
 
     ghost Value = { EventsState };
 
     ghost view = { λ e. record { payload = payload_of e.bytes.items; count = e.count; room = e.room; spare = e.room + 9 - length e.bytes.items; capacity = vec_capacity e.bytes } };
 
-    ghost invariant = { λ e. IsKept e.bytes.items e.count e.room (vec_capacity e.bytes) };
+    ghost invariant = { λ e. IsBodyKept e.bytes.items e.count e.room (vec_capacity e.bytes) };
 }
 
 // Writes a number over four bytes.

@@ -21,4 +21,4 @@ pub use group::read_group;
 pub use kept::Events;
 pub use laws::{law_of_events, law_of_groups, law_of_kept_events, law_of_round_trip};
 pub use size::{event_size, held_size, work_size};
-pub use work::{FileBytes, NoFiles, Stage, Work, WrittenFiles};
+pub use work::{FileBytes, Stage, Work, WrittenFiles};

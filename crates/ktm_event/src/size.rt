@@ -134,7 +134,7 @@ pub fn event_size(event: &Event) -> usize
     }
 }
 
-/// The same of what a participant has to record of a transaction's work, which is the same for a Ready and a Single.
+/// How many bytes the Ready or Single of a participant's work takes, or the greatest number, where it would take more.
 pub fn work_size<F: WrittenFiles>(work: Work<'_, F>) -> usize
     ensures { (stage : Stage) (transaction : Id)
         → result ≡ min (event_size (work_event stage transaction (part_of F.files work.entry))) (2 ^ 64 - 1) }
@@ -150,7 +150,7 @@ pub fn work_size<F: WrittenFiles>(work: Work<'_, F>) -> usize
     part.saturating_add(9)
 }
 
-/// The same of the event of a superior that has prepared its transaction, from its recovery information.
+/// How many bytes the Held of a superior takes with its recovery information, or the greatest number, where it would take more.
 pub fn held_size(information: &[u8]) -> usize
     ensures { (transaction enlistment manager : Id)
         → result ≡ min (event_size (Held transaction enlistment manager information.now)) (2 ^ 64 - 1) }

@@ -1,5 +1,5 @@
 // What is recorded of a transaction's work.
-ghost use Rattle.std.specs.Prelude.{◌≡◌, ◌==◌, List, [], length, option_map};
+ghost use Rattle.std.specs.Prelude.{◌≡◌, ◌==◌, List, length, option_map};
 ghost use Rattle.ktm_event.specs.Work.{AreRising, FinalFile, final_file, first_above, first_of, stage_tag};
 
 use crate::event::{READY, SINGLE};
@@ -31,28 +31,6 @@ pub trait WrittenFiles {
 
     /// Their numbers rise.
     ghost rising: { (these : Self) → AreRising (files these) };
-}
-
-/// No files.
-#[derive(Clone, Copy)]
-pub struct NoFiles;
-
-impl WrittenFiles for NoFiles {
-    ghost files = { λ _. [] };
-
-    ghost rising = { λ _. tt };
-
-    fn is_empty(&self) -> bool {
-        true
-    }
-
-    fn first(&self) -> Option<FileBytes<'_>> {
-        None
-    }
-
-    fn behind(&self, _file: u64) -> Option<FileBytes<'_>> {
-        None
-    }
 }
 
 /// What one participant has to record of a transaction.

@@ -11,7 +11,7 @@ use Rattle.ktm_extent.specs.Units.{byte_over}
 pub over-outside : (at : ℕ) (bytes : List ℕ) (old : ℕ → ℕ) (k : ℕ) → (k < at) ⊎ (at + length bytes ≤ k) → byte_over at bytes old k ≡ old k
 over-outside at bytes old k out = grind (arith, nat_tests)
 
--- and one within
+-- a byte within those that are put over
 pub over-inside : (at : ℕ) (bytes : List ℕ) (old : ℕ → ℕ) (k : ℕ) → at ≤ k → k < at + length bytes → byte_over at bytes old k ≡ get_or bytes (k - at) 0
 over-inside at bytes old k low high = grind (arith, nat_tests)
 

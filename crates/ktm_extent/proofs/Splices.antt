@@ -26,7 +26,7 @@ use Rattle.ktm_extent.proofs.Uses.{contains-uses, distinct-once, once-distinct, 
 abbrev pub spliced : List ℕ → ℕ → ℕ → List ℕ → List ℕ
 spliced old first behind fresh = take first old ++ (fresh ++ drop behind old)
 
--- the same in a longer copy
+-- pages that are put into a copy that is long enough stand in place of those from the first unit up to the one behind
 pub put-spliced : (old fresh : List ℕ) (first behind more : ℕ) → first ≤ length old → first ≤ behind → more ≡ max (length old) behind - length old → put_mid first (behind - first) (old ++ replicate {A = ℕ} more 0) fresh ≡ spliced old first behind fresh
 put-spliced old fresh first behind more low order is =
     ap (λ (l : List ℕ). l ++ (fresh ++ drop (behind - first) (drop first (old ++ replicate {A = ℕ} more 0)))) (take-append-le first old (replicate {A = ℕ} more 0) low)
@@ -234,7 +234,7 @@ now-pages old d items fresh begin behind more len low order is d_is items_is len
     long : length (spliced old begin behind fresh) ≡ length items
     long = omega (arith, low, order, is, full, length-spliced old fresh begin behind low (omega (arith, full, order)), ap length items_is, ap length d_is, length-append old (replicate {A = ℕ} more 0), length-replicate {A = ℕ} more 0)
 
--- so a rewrite makes the extent with the new pages
+-- a rewrite makes the extent with the new pages
 pub made : (e : ExtentState) (at : ℕ) (bytes fresh : List ℕ) (count : ℕ) (held holds : ℕ → ℕ) (so : Splices e at bytes fresh count held holds) (d items : List ℕ) (begin more len size : ℕ) → begin ≡ first_unit e.size at
     → more ≡ max (length e.pages) ((at + length bytes - 1) / 4096 + 1) - length e.pages → d ≡ e.pages ++ replicate {A = ℕ} more 0 → items ≡ d → len ≡ length items → size ≡ max e.size (at + length bytes)
     → let list = put_mid begin ((at + length bytes - 1) / 4096 + 1 - begin) d fresh in record { size = size; pages = take len (list ++ drop (length list) items) } ≡ now e at bytes fresh count held holds so

@@ -35,7 +35,7 @@ pub record IsUnchanged (old new : ExtentState) (held holds : ℕ → ℕ) : Type
   pub extent : new ≡ old
   pub holders : (page : ℕ) → holds page ≡ held page
 
--- they were not: memory was wanting, and nothing was written; or the power went, and pages that were free may hold anything
+-- the bytes were not written: memory ran out, and nothing was; or the power went, and pages that were free may hold anything
 abbrev pub NotWritten : ExtentFault → (units count : ℕ) (held : ℕ → ℕ) (told tells : Option RowState) (before after : DiskStatus) → Type 0
 NotWritten NoMemory units count held told tells before after = (tells ≡ told) × (after ≡ before)
 NotWritten Down units count held told tells before after = Goes (OnlyFree count held) told tells × DeviceCalls (most_calls units) before after true

@@ -29,7 +29,7 @@ touched size at len = if len == 0 then 0 else (at + len - 1) / 4096 + 1 - min si
 abbrev pub AreBelow : ℕ → ExtentState → Type 0
 AreBelow count e = (page : ℕ) → Contains e.pages page → page < count
 
--- and each has a holder
+-- each of its pages has a holder
 abbrev pub AreOut : (ℕ → ℕ) → ExtentState → Type 0
 AreOut holders e = (page : ℕ) → Contains e.pages page → 0 < holders page
 

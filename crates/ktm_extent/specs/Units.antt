@@ -50,7 +50,7 @@ pub record AreTaken (count : ℕ) (pages : List ℕ) (held holds : ℕ → ℕ) 
   pub new : (page : ℕ) → 0 < uses_in pages page → (page < count) × (held page ≡ 0)
   pub once : (page : ℕ) → uses_in pages page ≤ 1
 
--- and units were written on them, and nothing else
+-- units were written on these pages, and nothing else was but pages that were free
 pub record AreWritten (target : List ℕ → List ℕ) (first : ℕ) (pages : List ℕ) (count : ℕ) (held : ℕ → ℕ) (old new : RowState) : Type 0 where
   pub only : OnlyFree count held old new
   pub units : AreUnits (target old.seen) first pages new.seen

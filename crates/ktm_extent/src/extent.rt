@@ -303,7 +303,7 @@ impl Extent {
         self.size = len;
     }
 
-    /// The same contents once more, in the same pages, which have a holder more each. Where memory is wanting nothing changes.
+    /// A copy of the contents in the same pages, which have a holder more each. Out of memory nothing changes.
     pub fn copy<G: PageSpace>(&self, alloc: Global, pages: &mut G) -> Result<Self, NoMemory>
         requires out { AreOut (G.holders pages.old) self.now }
         requires below { AreBelow (G.count pages.old) self.now }

@@ -22,7 +22,7 @@ has_room : (len end size : ℕ) (group : Group) → 1 ≤ length group → size 
 has_room len end size [] some is room = absurd (omega arith)
 has_room len end size (event ∷ events) some is room = grind (arith, nat_tests)
 
--- and none where its frame has none
+-- a group has no room where its frame has none
 no_room : (len end size : ℕ) (group : Group) → 1 ≤ length group → size ≡ frame_size group → len < end + size + 1 → is_full (len - end) group ≡ true
 no_room len end size [] some is room = absurd (omega arith)
 no_room len end size (event ∷ events) some is room = grind (arith, nat_tests)

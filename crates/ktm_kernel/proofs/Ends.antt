@@ -25,7 +25,7 @@ use Rattle.ktm_standing.proofs.offered.Decided.{full_log}
 use Rattle.ktm_standing.proofs.offered.Machine.{apply-full}
 use Rattle.ktm_memory.specs.declared.settlement.Settlement.{Settlement}
 use Rattle.ktm_memory.specs.Decided.{Decides}
-use Rattle.ktm_memory.specs.Memory.{Held, IsRoomy, MaySettle, MemoryState, SettlesGood, Shows, TellsWithin, appended, held, now_of, present_of}
+use Rattle.ktm_memory.specs.Memory.{IsRoomy, LayersNow, MaySettle, MemoryState, SettlesGood, Shows, TellsWithin, appended, held, now_of, present_of}
 use Rattle.ktm_memory.specs.Settled.{left_to_do}
 use Rattle.ktm_memory.specs.Recorded.{AreCutOff, AreRecorded, HaveNoRoom, LeavesWithOr}
 use Rattle.ktm_memory.proofs.offered.Settling.{settles_with, tells_with}
@@ -186,7 +186,7 @@ module _ (a : MemoryState) (o : Outcome) (reply : Reply) (rest : Settlement) (ev
         let fell = falls ∙ ap (λ (b : MemoryState). record b { is_up = false }) left.same in
         record {
           says = refl;
-          state = ap present_of fell ∙ ap (λ (g : Held). now_of (record g { is_up = false })) was;
+          state = ap present_of fell ∙ ap (λ (g : LayersNow). now_of (record g { is_up = false })) was;
           journal = ap (λ (b : MemoryState). b.journal) fell ∙ decided.journal;
           log = λ gs at. subst (λ (d : Outcome). IsSomeAnd now (LeavesWithOr a.journal gs (as_groups d.events))) (sym is)
               (subst (λ j. IsSomeAnd now (LeavesWithOr j gs (as_groups o.events))) decided.journal (left.either gs o.events decided.records (at_first gs at)));
@@ -211,10 +211,10 @@ stopped : (a : MemoryState) (o : Outcome) (n m : MemoryState) (told : Option Dis
 stopped a o n m told full same falls =
     let x = present_of a in
     let stops : within_log x o ≡ full_log x = ap (λ b. cond b (full_log x) o) full in
-    let journal = ap (λ (b : MemoryState). b.journal) falls ∙ ap (λ (g : Held). g.journal) same in
+    let journal = ap (λ (b : MemoryState). b.journal) falls ∙ ap (λ (g : LayersNow). g.journal) same in
     record {
       says = ap (λ (d : Outcome). d.reply) (sym stops);
-      state = ap present_of falls ∙ ap (λ (g : Held). now_of (record g { is_up = false })) same ∙ sym (apply-full x) ∙ ap (apply x) (sym stops);
+      state = ap present_of falls ∙ ap (λ (g : LayersNow). now_of (record g { is_up = false })) same ∙ sym (apply-full x) ∙ ap (apply x) (sym stops);
       units = ap (λ (j : JournalState). j.units) journal;
       image = ap (λ (j : JournalState). j.image) journal;
       log = λ gs at. subst (λ (d : Outcome). IsSomeAnd told (JournalAt m.journal (gs ++ as_groups d.events))) (sym stops)

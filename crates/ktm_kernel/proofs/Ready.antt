@@ -23,13 +23,17 @@ use Rattle.ktm_standing.specs.Laws.{KeptLaw, StandingLaw}
 use Rattle.ktm_standing.specs.Standing.{IsStanding, IsStandingNow}
 use Rattle.ktm_standing.proofs.offered.Decided.{decided_law}
 use Rattle.ktm_kernel.specs.Answers.{AnswerLeaves, CallLeaves, IsAnswered, IsLineAnswered}
-use Rattle.ktm_kernel.specs.Done.{Ends}
+use Rattle.ktm_kernel.specs.Done.{Ends, fallen}
 use Rattle.ktm_kernel.specs.Reserved.{KeepsReserved}
 use Rattle.ktm_kernel.specs.Stands.{DoesLine, IsPowered, IsReady, KernelAt, KernelState}
 use Rattle.ktm_kernel.proofs.Reserved.{call_reserved, tick_reserved}
 use Rattle.ktm_kernel.proofs.Worlds.{DoesCall, GoesOn, call_goes_on, down_call, down_tick, ended_line, tick_goes_on, tick_not_down}
 
 -- ---- a machine that is down
+
+-- what is so of it is what is so once it is down
+is_fallen : (x : Present) → x.machine.is_up ≡ false → x ≡ fallen x
+is_fallen x off i = record x { machine = record x.machine { is_up = off i } }
 
 -- a machine that is down owes its disk nothing
 pub unpowered : (k : KernelState) (told : Option DiskState) (status : DiskStatus) → k.now.machine.is_up ≡ false → IsPowered k told status
@@ -68,6 +72,12 @@ down_cause true old new o reply before now a b other on cut calls is = elim (cal
   | inr rose ↦ inr rose
 ]
 
+-- the reply and what is so then are the outcome's, or the machine went down and says so
+ends_says : (is_down : Bool) (old new : KernelState) (o : Outcome) (reply : Reply) (before now : Option DiskState) → Ends is_down old o reply new before now
+    → ((reply ≡ o.reply) × (new.now ≡ apply old.now o)) ⊎ ((reply ≡ Refused MachineDown) × (new.now ≡ fallen old.now))
+ends_says false old new o reply before now done = inl (done.says, done.state)
+ends_says true old new o reply before now cut = inr (cut.says, cut.state)
+
 -- ---- a line
 
 or_same : (b : Bool) → b ≡ (b || b)
@@ -82,6 +92,7 @@ module _ (line : Line) (decides : Present → Outcome) (does : (w : World) (k : 
       → (reply : Reply) → KeepsReserved line old.it.now new.it.now → IsAnswered (decides old.it.now) old new reply → IsLineAnswered line (decides old.it.now) old new reply
   up_answered goes_on old new up ready standing other reply reserved answered = record {
     does = λ w at. does w new.it new.told reply (ended_line decides new.status.is_down old.it new.it reply old.told new.told up goes_on answered.ends w at);
+    says = ends_says new.status.is_down old.it new.it (decides old.it.now) reply old.told new.told answered.ends;
     cause = down_cause new.status.is_down old.it new.it (decides old.it.now) reply old.told new.told old.status new.status other (ready.powered.power up) answered.ends answered.calls;
     ready = record {
       powered = answered.powered;
@@ -98,6 +109,7 @@ module _ (line : Line) (decides : Present → Outcome) (does : (w : World) (k : 
       → old.it.now.machine.is_up ≡ false → IsReady old.it old.told old.status → IsLineAnswered line (decides old.it.now) old old (Refused MachineDown)
   down_answered old stays off ready = record {
     does = λ w at. does w old.it old.told (Refused MachineDown) (stays w at);
+    says = inr (refl, is_fallen old.it.now off);
     cause = λ is. inl off;
     ready = ready;
     calls = record { later = omega arith; counted = omega arith; few = omega arith; cause = λ refused. inl refused; down = or_same old.status.is_down; plan = refl; places = refl };

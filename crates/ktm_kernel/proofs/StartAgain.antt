@@ -193,8 +193,9 @@ module _ {Z : Type 0} (law : StandingLaw) (k : KernelState) (o n : Option DiskSt
   pub restart_answered : (r : RestartedMachine) → IsStarted (on b o s) (on d n t) r → IsRestartAnswered (on k o s) (on r.kernel n t) (Restarted r.events r.in_doubt)
   restart_answered r is = record {
     does = started_line law k r.kernel r.events r.in_doubt o n is.starts;
+    says = tt;
     cause = λ e. absurd (cc);
-    not_up = λ e. absurd (cc);
+    up = is.up;
     ready = is.ready;
     unwritten = tt;
   }
@@ -208,22 +209,25 @@ module _ {Z : Type 0} (law : StandingLaw) (k : KernelState) (o n : Option DiskSt
         → (r : Result Reply NoMemory) → IfOk r (λ reply. answer_of fault ≡ Some reply) → OnErr r (answer_of fault ≡ None) → StartAgainLeaves (on k o s) (on k n t) r
     unstarted_answered most Down is calls (Ok reply) says none = let same : Refused MachineDown ≡ reply = cc in subst (IsRestartAnswered (on k o s) (on k n t)) same (record {
       does = interrupted_line law k o n is.leaves;
+      says = tt;
       cause = λ e. elim (calls.cause refl) [ inl was ↦ absurd (both_ways s.is_down up was) | inr rose ↦ rose ];
-      not_up = λ e. absurd (cc);
+      up = off;
       ready = off_ready k n t off;
       unwritten = tt;
     })
     unstarted_answered most (Bad offset) is calls (Ok reply) says none = let same : BadImage offset ≡ reply = cc in subst (IsRestartAnswered (on k o s) (on k n t)) same (record {
       does = λ pick w at. absurd (found_is_good k o offset is.bad w at);
+      says = tt;
       cause = λ e. absurd (cc);
-      not_up = λ e. absurd (cc);
+      up = off;
       ready = off_ready k n t off;
       unwritten = as_before most is.unwritten calls;
     })
     unstarted_answered most Full is calls (Ok reply) says none = let same : Refused LogFull ≡ reply = cc in subst (IsRestartAnswered (on k o s) (on k n t)) same (record {
       does = full_line law k o n is.unwritten.told is.full;
+      says = tt;
       cause = λ e. absurd (cc);
-      not_up = λ e. absurd (cc);
+      up = off;
       ready = off_ready k n t off;
       unwritten = as_before most is.unwritten calls;
     })

@@ -1,9 +1,9 @@
 -- What an answer of the machine leaves.
-use Rattle.std.specs.Prelude.{◌≡◌, ◌⊎◌, ℕ, ◌≤◌, true, false, Some, Result, Ok, Err}
+use Rattle.std.specs.Prelude.{◌≡◌, ◌⊎◌, ℕ, ◌≤◌, Bool, true, false, Some, Result, Ok, Err}
 use Rattle.ktm_base.specs.Count.{Rose}
 use Rattle.ktm_base.specs.declared.fault.NoMemory.{NoMemory}
 use Rattle.ktm_base.specs.declared.id.Pid.{Pid}
-use Rattle.ktm_base.specs.declared.refusal.Refusal.TheVariants.{LogFull, MachineDown, MachineUp}
+use Rattle.ktm_base.specs.declared.refusal.Refusal.TheVariants.{LogFull, MachineDown}
 use Rattle.ktm_base.specs.Disk.{DeviceCalls}
 use Rattle.ktm_log.specs.OnDisk.{OnDisk}
 use Rattle.ktm_slots.specs.Owed.{owed_slots}
@@ -11,12 +11,12 @@ use Rattle.ktm_types.specs.declared.command.Command.{Command}
 use Rattle.ktm_types.specs.declared.command.Line.{Line}
 use Rattle.ktm_types.specs.declared.command.Line.TheVariants.{Process, Restart}
 use Rattle.ktm_types.specs.declared.reply.Reply.{Reply}
-use Rattle.ktm_types.specs.declared.reply.Reply.TheVariants.{BadImage, Refused}
+use Rattle.ktm_types.specs.declared.reply.Reply.TheVariants.{BadImage, Refused, Restarted}
 use Rattle.ktm_world.specs.Decide.{decide}
-use Rattle.ktm_world.specs.Outcome.{Outcome}
+use Rattle.ktm_world.specs.Outcome.{Outcome, apply}
 use Rattle.ktm_world.specs.World.{World}
 use Rattle.ktm_memory.specs.Recorded.{IsUntouched}
-use Rattle.ktm_kernel.specs.Done.{Ends, TouchesNothing}
+use Rattle.ktm_kernel.specs.Done.{Ends, TouchesNothing, fallen}
 use Rattle.ktm_kernel.specs.Reserved.{KeepsReserved}
 use Rattle.ktm_kernel.specs.Stands.{DoesLine, FoundAt, IsPowered, IsReady, KernelAt, KernelState}
 
@@ -31,13 +31,13 @@ pub record IsAnswered (o : Outcome) (old new : OnDisk KernelState) (reply : Repl
   pub calls : DeviceCalls 4 old.status new.status new.status.is_down
   pub untouched : TouchesNothing o reply → IsUntouched old new
 
--- where memory was wanting nothing has changed, and there is room for no fewer notifications
+-- out of memory: nothing has changed, and there is room for no fewer notifications
 pub record IsAsItWas (old new : KernelState) : Type 0 where
   pub now : new.now ≡ old.now
   pub journal : new.journal ≡ old.journal
   pub slots : old.slots ≤ new.slots
 
--- what that leaves; where memory is wanting the disk is as it was
+-- what that leaves; out of memory the disk is as it was
 abbrev pub AnswerLeaves : Outcome → OnDisk KernelState → OnDisk KernelState → Result Reply NoMemory → Type 0
 AnswerLeaves o old new (Ok reply) = IsAnswered o old new reply
 AnswerLeaves o old new (Err fault) = IsUntouched old new
@@ -48,6 +48,8 @@ AnswerLeaves o old new (Err fault) = IsUntouched old new
 -- nothing left the disk as it was
 pub record IsLineAnswered (line : Line) (o : Outcome) (old new : OnDisk KernelState) (reply : Reply) : Type 0 where
   pub does : (w : World) → KernelAt old.it old.told w → DoesLine w (Some line) reply new.it new.told
+  -- on whatever disk: the outcome came, or the machine is down and is otherwise as it was
+  pub says : ((reply ≡ o.reply) × (new.it.now ≡ apply old.it.now o)) ⊎ ((reply ≡ Refused MachineDown) × (new.it.now ≡ fallen old.it.now))
   pub cause : reply ≡ Refused MachineDown → (old.it.now.machine.is_up ≡ false) ⊎ Rose old.status.downs new.status.downs
   pub ready : IsReady new.it new.told new.status
   pub calls : DeviceCalls 4 old.status new.status new.status.is_down
@@ -55,7 +57,7 @@ pub record IsLineAnswered (line : Line) (o : Outcome) (old new : OnDisk KernelSt
   -- while the machine is up, what undecided transactions did to the files stays reserved for them
   pub reserved : old.it.now.machine.is_up ≡ true → KeepsReserved line old.it.now new.it.now
 
--- what a call leaves; where memory is wanting the disk is as it was
+-- what a call leaves; out of memory the disk is as it was
 abbrev pub CallLeaves : Pid → Command → OnDisk KernelState → OnDisk KernelState → Result Reply NoMemory → Type 0
 CallLeaves process command old new (Ok reply) = IsLineAnswered (Process process command) (decide old.it.now process command) old new reply
 CallLeaves process command old new (Err fault) = IsUntouched old new
@@ -75,11 +77,25 @@ IfUnwrittenBy (BadImage offset) P = P
 IfUnwrittenBy (Refused LogFull) P = P
 IfUnwrittenBy reply P = Unit {0}
 
+-- the replies of a restart of a machine that is down
+abbrev pub IsOfRestart : Reply → Type 0
+IsOfRestart (Restarted events in_doubt) = Unit {0}
+IsOfRestart (BadImage offset) = Unit {0}
+IsOfRestart (Refused LogFull) = Unit {0}
+IsOfRestart (Refused MachineDown) = Unit {0}
+IsOfRestart reply = ⊥
+
+-- does the reply say that the machine started
+abbrev pub says_started : Reply → Bool
+says_started (Restarted events in_doubt) = true
+says_started reply = false
+
 -- it was answered, for each world of which one of the possible logs was found
 pub record IsRestartAnswered (old new : OnDisk KernelState) (reply : Reply) : Type 0 where
   pub does : (pick : ℕ) (w : World) → FoundAt old.it old.told w → DoesLine w (Some (Restart pick)) reply new.it new.told
+  pub says : IsOfRestart reply
   pub cause : reply ≡ Refused MachineDown → Rose old.status.downs new.status.downs
-  pub not_up : reply ≡ Refused MachineUp → ⊥
+  pub up : new.it.now.machine.is_up ≡ says_started reply
   pub ready : IsReady new.it new.told new.status
   pub unwritten : IfUnwrittenBy reply (IsAsBefore old new)
 

@@ -24,6 +24,6 @@ pub record KeepsReserved (line : Line) (old new : Present) : Type 0 where
   -- where the line is not one of its own
   pub by_others : (id : Id) → is_undecided_in old.transactions.items id ≡ true → is_undecided_in new.transactions.items id ≡ true → is_by_line old line id ≡ false
       → IsLeft old.files new.files id
-  -- and where the line closes handles, but that of its open files it then holds those alone that are still open
+  -- where the line closes handles, but that of its open files it then holds those alone that are still open
   pub by_closings : (id : Id) → is_undecided_in old.transactions.items id ≡ true → is_undecided_in new.transactions.items id ≡ true → line_closes line ≡ true
       → IsLeft (with_opens old.files new.files.table.opens) new.files id

@@ -101,7 +101,7 @@ abbrev pub unrecorded : AppendFault → RestartFault
 unrecorded AppendFault.Down = Down
 unrecorded AppendFault.Full = Full
 
--- what a restart answers, by why the machine did not start, if memory was not wanting
+-- what a restart answers, by why the machine did not start; out of memory it has no reply
 abbrev pub answer_of : RestartFault → Option Reply
 answer_of Down = Some (Refused MachineDown)
 answer_of (Bad offset) = Some (BadImage offset)

@@ -52,7 +52,7 @@ pub record HasFallen (k : KernelState) (told : Option DiskState) (w : World) : T
   pub began : Began k.journal before w
   pub disk : IsSomeAnd told (LeavesPossible k.journal before w)
 
--- the same, by whether the world's machine is up
+-- a machine stands for the world, by whether the world's machine is up
 abbrev pub StandsBy : Bool → KernelState → Option DiskState → World → Type 0
 StandsBy true k told w = Stands k told w
 StandsBy false k told w = HasFallen k told w
@@ -71,7 +71,7 @@ pub record IsPowered (k : KernelState) (told : Option DiskState) (status : DiskS
   pub settled : k.now.machine.is_up ≡ true → status.pending ≡ 0
   pub image : k.now.machine.is_up ≡ true → IfSome told (λ s. IsFormatted k.journal.units k.journal.image s.seen)
 
--- and it keeps what it is to keep of what is so now
+-- a machine is ready for a line: its disk is as `IsPowered` says, and it keeps what it is to keep of what is so now
 pub record IsReady (k : KernelState) (told : Option DiskState) (status : DiskStatus) : Type 0 where
   pub powered : IsPowered k told status
   pub standing : k.now.machine.is_up ≡ true → IsStandingNow k.now

@@ -24,7 +24,7 @@ pub record Begun (loaded : Loaded) (events : EventsState) (m : MemoryState) : Ty
   pub shows : (left : ℕ) → Shows m (fresh loaded.state left)
   pub slots : (left : ℕ) → owed_slots (fresh loaded.state left) ≤ m.tm.slots
 
--- why nothing starts from what was loaded: the log has no room, or memory is wanting
+-- why nothing starts from what was loaded: the log has no room, or out of memory
 abbrev pub NothingBegins : Loaded → RestartFault → Type 0
 NothingBegins loaded Full = has_no_room loaded.journal (own_group loaded.state) ≡ true
 NothingBegins loaded NoMemory = Unit {0}

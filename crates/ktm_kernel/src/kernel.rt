@@ -5,6 +5,7 @@ ghost use Rattle.ktm_base.specs.declared.refusal.Refusal.TheVariants.{MachineDow
 ghost use Rattle.ktm_types.specs.declared.command.Line.TheVariants.{Crash, Tick};
 ghost use Rattle.ktm_types.specs.declared.reply.Reply.TheVariants.{Refused, Done};
 ghost use Rattle.ktm_types.specs.Values.{IsCommand};
+ghost use Rattle.ktm_world.specs.Labels.{is_bound};
 ghost use Rattle.ktm_world.specs.World.{World, decide_tick};
 ghost use Rattle.ktm_kernel.specs.Answers.{AnswerLeaves, CallLeaves, IsAsItWas, IsLineAnswered};
 ghost use Rattle.ktm_kernel.specs.Done.{fallen};
@@ -13,7 +14,7 @@ ghost use Rattle.ktm_route.specs.Route.{CanBeAsked, decided};
 ghost use Rattle.ktm_kernel.specs.Stands.{KernelAt, DoesLine, IsReady};
 ghost use Rattle.ktm_route.specs.Takes.{asked_takes_memory, takes_memory};
 
-use ktm_base::{Disk, NoMemory, Pid, Refusal};
+use ktm_base::{Disk, Label, NoMemory, Pid, Refusal};
 use ktm_event::Events;
 use ktm_journal::AppendFault;
 use ktm_laws::law_of_reserved_files;
@@ -54,6 +55,13 @@ impl Kernel {
         self.memory.is_up()
     }
 
+    /// Is the label of the process bound.
+    pub fn is_bound(&self, process: Pid, label: Label) -> bool
+        ensures { result ≡ is_bound self.now.now process label }
+    {
+        self.memory.handles().get(process, label).is_some()
+    }
+
     /// The power is gone: the machine is down until it is started again from its disk.
     pub fn crash(&mut self)
         requires { self.old.now.machine.is_up ≡ true }
@@ -65,7 +73,7 @@ impl Kernel {
     }
 
     /// Answers a call of a process, with any command of the grammar. After MACHINE_DOWN and ERROR_LOG_FULL the machine is down.
-    /// A call that is refused, but for MACHINE_DOWN, and one that records nothing make no device call. Where memory is wanting
+    /// A call that is refused, but for MACHINE_DOWN, and one that records nothing make no device call. Out of memory
     /// nothing has changed, in the machine or on its disk.
     pub fn call<D: Disk>(
         &mut self,

@@ -159,12 +159,12 @@ pub enum RestartFault {
     /// The log has no room for what a start records. Nothing was written.
     #[error("the log is full")]
     Full,
-    /// Memory was wanted and not to be had. Nothing was written.
+    /// Out of memory. Nothing was written.
     #[error("out of memory")]
     NoMemory,
 }
 
-// Why a machine did not start whose start was not recorded. No memory is wanted once its image was read.
+// Why a machine did not start whose start was not recorded. It takes no memory once its image was read.
 fn unrecorded(fault: AppendFault) -> RestartFault
     ensures { result ≡ unrecorded fault }
 {
@@ -325,8 +325,8 @@ impl Kernel {
 impl Kernel {
     /// Starts a machine that is down again, from its disk, whose power is back; what it held in memory is gone. The reply is
     /// that of a restart: how many events were found; ERROR_LOG_FULL or BAD_IMAGE, and the machine stays down; or
-    /// MACHINE_DOWN where the power went again. With ERROR_LOG_FULL, with BAD_IMAGE and where memory is wanting nothing was
-    /// written, and it can be called again.
+    /// MACHINE_DOWN where the power went again. With ERROR_LOG_FULL, with BAD_IMAGE and out of memory nothing was written,
+    /// and it can be called again.
     pub fn start_again<D: Disk>(&mut self, disk: &mut D) -> Result<Reply, NoMemory>
         requires off { self.old.now.machine.is_up ≡ false }
         requires power { (D.status disk.old).is_down ≡ false }

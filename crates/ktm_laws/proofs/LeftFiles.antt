@@ -105,7 +105,7 @@ module _ (lists : ListsLaw) where
   left-committed x sound id o is cs all apart tree =
       left-by lists (with_opens x.files o.table.opens) (apply x o).files cs id sound.formed all (own-apply x sound id) apart tree is.own (first-untouched id x o is) refl
 
-  -- or nothing is
+  -- nothing is committed by such an outcome
   pub left-idle : (x : Present) → IsSoundFiles x → (id : Id) (o : Outcome) → Untouched id x o → o.works ≡ [] → IsLeft (with_opens x.files o.table.opens) (apply x o).files id
   left-idle x sound id o is none =
       left-committed x sound id o is [] refl (apart-from-none x.files.tree (own_changes x.files.table.own id)) (ap (λ ws. (committed_with (committed_now x) ws).tree) none)
@@ -187,7 +187,7 @@ pub record IsQuiet (keeps : Bool) (id : Id) (x : Present) (o : Outcome) : Type 0
   pub untouched : Untouched id x o
   pub written : keeps ≡ true → written_by o.table.opens id ≡ written_by x.files.table.opens id
 
--- so it is where the transaction is undecided then
+-- the outcome adds no open file and no handle, and is quiet where the transaction is undecided then
 pub record IsStill (keeps : Bool) (id : Id) (x : Present) (o : Outcome) : Type 0 where
   pub less : Lessens x o
   pub quiet : Rise x.transactions.items → is_undecided_in o.transactions.items id ≡ true → IsQuiet keeps id x o

@@ -66,7 +66,7 @@ use Rattle.ktm_steps.proofs.offered.Ways.{if_cases}
 abbrev may_tell : Id → Bool → Durable → Bool
 may_tell id k s = nat_le id.boot s.boots && list_all (λ (r : Recorded). not (same_id r.id id) || (k && is_decided r.stage)) s.transactions
 
--- nor does a log, if there is room for it
+-- does a log, if there is room for it, not deny that the transaction came to this outcome
 abbrev may_tell_log : World → Id → Bool → List Group → Bool
 may_tell_log w id k log = not (nat_le (log_size log) w.room) || may_tell id k (stand w.base log)
 
@@ -175,7 +175,7 @@ may-own id k s may =
 abbrev IsNow : World → Id → Bool → Type 0
 IsNow w id k = HasOutcome w.transactions.items id k ⊎ (((t : Transaction) → IsIn t w.transactions.items → t.id ≡ id → ⊥) × (id.boot < w.recorded.boots))
 
--- the same of a machine that is up; of one that is down each log that may be found does not deny it
+-- what was told is so on a machine that is up; of one that is down each log that may be found does not deny it
 abbrev PastBy : Power → World → Id → Bool → Type 0
 PastBy up w id k = IsNow w id k
 PastBy (down may) w id k = list_all (may_tell_log w id k) may ≡ true
@@ -251,7 +251,7 @@ now-told w run id k now = may-from id k w.recorded (boots now) (λ r there is.
         decided-only t k r.stage (list_all-at (λ (t : Transaction). is_outcome_of t.phase t) w.transactions.items run.now.sound.course.transactions.outcomes t there)
         (ap (λ (t : Transaction). told_outcome t.outcome) (sym same) ∙ out.outcome) at
 
--- nor does the log
+-- the log does not deny an outcome that was told
 now-log : (w : World) → IsRunning w → (id : Id) (k : Bool) → IsNow w id k → may_tell_log w id k w.log ≡ true
 now-log w run id k now = or_right _ _ (subst (λ s. may_tell id k s ≡ true) (sym run.comes_to) (now-told w run id k now))
 

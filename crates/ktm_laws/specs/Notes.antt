@@ -28,7 +28,7 @@ pub record IsToldTruly (ts : Transactions) (note : Note) (committed : Bool) : Ty
 pub record AreNotesTrue (x : Present) : Type 0 where
   pub each : (m : Manager) (note : Note) (committed : Bool) → IsIn m x.managers → IsIn note m.queue → told_by note.kind ≡ Some committed → IsToldTruly x.transactions note committed
 
--- so it stays in a sound machine
+-- in a sound machine each notification that waits still tells the outcome of its transaction
 pub record NotesLaw : Type 0 where
   -- by a command
   pub commands : (x : Present) (process : Pid) (command : Command) → IsSoundCourse x → AreNotesTrue x → AreNotesTrue (apply x (decide x process command))
@@ -36,5 +36,5 @@ pub record NotesLaw : Type 0 where
   pub ticks : (x : Present) (ms : ℕ) → IsSoundCourse x → AreNotesTrue x → AreNotesTrue (apply x (decide_tick x ms))
   -- by the loss of power
   pub falls : (w : World) (power : Power) → AreNotesTrue (present w) → AreNotesTrue (present (record w { power = power }))
-  -- and after a restart no notification waits
+  -- after a restart no notification waits
   pub restarts : (base : Durable) (room : ℕ) (log : List Group) → AreNotesTrue (present (opened base room log))

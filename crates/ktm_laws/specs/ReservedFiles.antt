@@ -63,5 +63,5 @@ pub record ReservedFilesLaw : Type 0 where
       → IsLeft (with_opens x.files (decide x process command).table.opens) (apply x (decide x process command)).files id
   -- by the passing of time
   pub ticks : (x : Present) (ms : ℕ) (id : Id) → IsKept x → StaysUndecided x (decide_tick x ms) id → IsLeft x.files (apply x (decide_tick x ms)).files id
-  -- and by the loss of power, until the restart
+  -- by the loss of power, until the restart
   pub falls : (w : World) (power : Power) (id : Id) → IsKept (present w) → IsLeft (present w).files (present (record w { power = power })).files id

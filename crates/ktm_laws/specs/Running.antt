@@ -45,7 +45,7 @@ is_last_since w o = not (is_last_version (present w).files (first_open_now w o))
 pub record IsRunning (w : World) : Type 0 where
   -- the image that the run began with is good
   pub base : IsGoodState w.base
-  -- and its counts do not end
+  -- the counts of the image that the run began with do not end
   pub roomy : IsRoomy w.base w.room
   -- each first open is of works that the world has
   pub openings : FirstOpensLieWithin w
@@ -57,7 +57,7 @@ pub record IsRunning (w : World) : Type 0 where
   pub notes : AreNotesTrue (present w)
   -- what was committed at the restart is well formed
   pub formed : IsWellFormed w.start.tree
-  -- and the works apply to it in order
+  -- the works apply in order to what was committed at the restart
   pub works : works_apply w.start w.works ≡ true
   -- a first open whose version is the last one has been so since it was made
   pub last : list_all (is_last_since w) w.first_opens ≡ true
@@ -97,7 +97,7 @@ pub record LawfulWorldsLaw : Type 0 where
   pub full_restarts : (w : World) (log : List Group) → Finds w log true → IsRunning w → IsRunning (found_full w log)
   -- a line came to its reply
   pub lines : (w : World) (line : Option Line) (step : Step) (reply : Reply) (new : World) → Does w line step reply new → IsRunning w → IsRunning new
-  -- and so did several
+  -- several lines came to their replies
   pub transcripts : (w : World) (lines : List (Option Line)) (steps : List Step) (replies : List Reply) (new : World) → Transcript w lines steps replies new → IsRunning w → IsRunning new
   -- such a world is lawful
   pub lawful : (w : World) → IsRunning w → IsLawful w

@@ -86,7 +86,7 @@ module _ (lists : ListsLaw) (x : Present) (sound : IsSoundFiles x) (t : Transact
     changes = (let a = sum-filter-less (λ (o : OwnChanges). count_by (λ c. not (changes_bytes c)) o.changes) (λ (o : OwnChanges). not (same_id o.transaction t.id)) x.files.table.own in let b = budget.changes in omega arith);
   }
 
--- and its settings
+-- a transaction commits its settings
 pub budget-keys : (room : ℕ) (tree : Tree) (own : List OwnChanges) (store : Store) (set : List Own) (id : Id) → Budget room tree own store set → Budget room tree own (stored_all store (own_settings set id)) (without_own set id)
 budget-keys room tree own store set id budget = record {
   units = budget.units;

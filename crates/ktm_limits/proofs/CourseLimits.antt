@@ -309,7 +309,7 @@ module _ (lists : ListsLaw) (x : Present) (agrees : Agrees x) (sound : IsSoundFi
                 },
               )
 
--- ---- and once it is
+-- ---- once it is decided
 
 -- parts that are done are no more enlistments
 parts-fewer : (done : DonePart) (ps : List RecordedPart) → length (gathered enlistments_in (parts_done done ps)) ≤ length (gathered enlistments_in ps)

@@ -130,7 +130,7 @@ module _ (lists : ListsLaw) (x : Present) (course : IsSoundCourse x) (good : IsG
       IsIn-unmap summary_of (summary_now x t Stage.Held) x.recorded.transactions (subst (IsIn (summary_now x t Stage.Held)) (sym agrees.transactions)
       (IsIn-flat_map (λ (u : Transaction). if u.is_recorded then summary_in x u (stage_in u.phase) else []) x.transactions.items t (summary_now x t Stage.Held) there mine))
 
-  -- so many superiors it has
+  -- how many superiors it has
   abbrev above_of : Id → ℕ
   above_of id = length (superior_ids (superior_now (superior_of x.transactions.enlistments id)))
 

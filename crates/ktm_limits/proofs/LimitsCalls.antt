@@ -307,7 +307,7 @@ ended-idle e is = elim (if_parts (is_superior e) (is_idle e && not e.is_read_onl
     idle : is_idle e ≡ true → is_none e.owes ≡ true
     idle both = (and_parts (is_none e.owes) (not e.is_prepared) (and_parts (is_none e.owes && not e.is_prepared) (not e.is_finished) both).0).0
 
--- and one that takes part has finished
+-- an enlistment that takes part in a transaction that has ended has finished
 ended-finished : (e : Enlistment) → is_enlistment_as Ended e ≡ true → is_superior e ≡ false → e.is_read_only ≡ false → e.is_finished ≡ true
 ended-finished e is below part = let both : (is_none e.owes && e.is_finished) ≡ true = rw (below, part) at is in (and_parts (is_none e.owes) e.is_finished both).1
 

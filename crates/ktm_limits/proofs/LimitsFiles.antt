@@ -58,7 +58,7 @@ store-same x None None = refl
 store-same x None (Some change) = refl
 store-same x (Some id) change = refl
 
--- nor is what is committed of the files one of the store
+-- what is committed of the files does not depend on the store
 pub tree-same : (x : Present) (who : Option Id) (change : Option Change) → (committed_with (committed_now x) (works_of who change)).tree ≡ (committed_with (committed_files x.files []) (works_of who change)).tree
 tree-same x None None = refl
 tree-same x None (Some change) = refl

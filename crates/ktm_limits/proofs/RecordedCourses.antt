@@ -55,7 +55,7 @@ no-setting : (ss : OwnSettings) → has_settings ss ≡ false → ss ≡ []
 no-setting [] none = refl
 no-setting (s ∷ ss) none = absurd (true≢false none)
 
--- the same, with more room
+-- the state while nothing is decided, by equal changes and settings and with room for more enlistments
 along-as : (x : Present) (t : Transaction) (s : Durable) (cs cs' : List Change) (ss ss' : OwnSettings) (n n' m : ℕ) → cs ≡ cs' → ss ≡ ss' → n ≤ n' → Along x t s cs ss n m → Along x t s cs' ss' n' m
 along-as x t s cs cs' ss ss' n n' m changes settings more along = record {
   rises = along.rises;

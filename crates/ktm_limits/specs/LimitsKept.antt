@@ -26,13 +26,13 @@ pub record LimitsLaw : Type 0 where
   pub ticks : (x : Present) (ms : ℕ) → IsKept x → AreVersionsFixed x → IsWithin (apply x (decide_tick x ms))
   -- after each event that a command records
   pub recorded : (x : Present) (process : Pid) (command : Command) → IsKept x → limits_hold x.recorded (decide x process command).events ≡ true
-  -- and that the passing of time records
+  -- after each event that the passing of time records
   pub later : (x : Present) (ms : ℕ) → IsKept x → limits_hold x.recorded (decide_tick x ms).events ≡ true
   -- versions stay fixed by a command
   pub versions : (x : Present) (process : Pid) (command : Command) → IsKept x → AreVersionsFixed x → AreVersionsFixed (apply x (decide x process command))
-  -- and by the passing of time
+  -- versions stay fixed by the passing of time
   pub later_versions : (x : Present) (ms : ℕ) → IsKept x → AreVersionsFixed x → AreVersionsFixed (apply x (decide_tick x ms))
   -- after a restart of a good state
   pub restarts : (base : Durable) (room : ℕ) (log : List Group) → IsGoodState (stand base log) → IsWithin (present (opened base room log))
-  -- and all versions are fixed then
+  -- after a restart all versions are fixed
   pub first_versions : (base : Durable) (room : ℕ) (log : List Group) → AreVersionsFixed (present (opened base room log))

@@ -48,7 +48,7 @@ flat-at (b ∷ bs) zero within = refl
 flat-at (b ∷ bs) (suc i) within =
     ap (λ l. b ++ l) (flat-at bs i (omega (arith, within))) ∙ sym (append_assoc b (flat (take i bs)) (block_at bs i ++ flat (drop (suc i) bs)))
 
--- the same, once the block has other keys
+-- all keys, once one block has other keys
 flat-set : (bs : List (List Key)) (i : ℕ) (k : List Key) → i < length bs → flat (set bs i k) ≡ flat (take i bs) ++ (k ++ flat (drop (suc i) bs))
 flat-set [] i k within = absurd (omega (arith, within))
 flat-set (b ∷ bs) zero k within = refl
@@ -137,11 +137,6 @@ used-remove [] zero k used = tt
 used-remove [] (suc i) k used = tt
 used-remove (b ∷ bs) zero k used = used.1
 used-remove (b ∷ bs) (suc i) k used = (used.0, used-remove bs i k used.1)
-
--- there are as many keys as blocks at least
-used-length : (bs : List (List Key)) → AreUsed bs → length bs ≤ length (flat bs)
-used-length [] used = omega arith
-used-length (b ∷ bs) used = omega (arith, used.0, used-length bs used.1, length-append b (flat bs))
 
 -- one more block with no key
 free-push : (bs : List (List Key)) (k : List Key) → AreFree bs → k ≡ [] → AreFree (bs ++ k ∷ [])
@@ -237,7 +232,7 @@ few-blocks (b ∷ []) paired used = omega (arith, used.0, length-append b [])
 few-blocks (b ∷ c ∷ bs) paired used =
     omega (arith, paired.0, few-blocks bs paired.1.1 used.1.1, length-append b (c ++ flat bs), length-append c (flat bs))
 
--- and where one is full, fewer
+-- where a block is full there are at least eight keys for each block
 few-full : (bs : List (List Key)) (i : ℕ) → ArePaired bs → AreUsed bs → i < length bs → 32 ≤ length (block_at bs i) → 8 * length bs ≤ length (flat bs)
 few-full bs i paired used within full = omega (arith, go bs i paired used within full)
   where
@@ -283,7 +278,7 @@ pub stocked_full : (bs stock : List (List Key)) (blocks_room stock_room len capa
 stocked_full bs stock blocks_room stock_room len capacity i are spare within full none =
     omega (arith, few-full bs i are.paired are.used within full, are.eight, spare, none)
 
--- the same behind a last block that is full, or where there is none
+-- where more keys can come and the last block is full, or there is no block, the stock has one
 pub stocked : (bs stock : List (List Key)) (blocks_room stock_room len capacity : ℕ) → AreBlocks bs stock blocks_room stock_room len capacity
     → length (flat bs) < capacity → ((last : ℕ) → last + 1 ≡ length bs → 32 ≤ length (block_at bs last)) → length stock ≡ 0 → ⊥
 stocked [] stock blocks_room stock_room len capacity are spare full none = omega (arith, are.eight, spare, none)

@@ -341,7 +341,7 @@ module _ {T : Type 0} where
         | inr other ↦ at-stands_present items ks q key v present.1 (rw other at found')
       ]
 
-  -- the same, of keys in order
+  -- among keys in order, what stands under a name is a value with that name
   pub at-stands : (items : List (Item (NameAndValue T))) (ks : List Key) (q : List ℕ) (key : Key) (v : T) → IsInOrder items ks
       → at (entries_of items ks) q ≡ Some (key, v) → (n : NameAndValue T) × (value_at items key ≡ Some n) × (n.name ≡ q) × (n.value ≡ v)
   at-stands items ks q key v ordered found = at-stands_present items ks q key v ordered.present found

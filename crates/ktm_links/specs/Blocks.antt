@@ -70,7 +70,7 @@ abbrev pub IsPaired : List Key → List (List Key) → Type 0
 IsPaired keys [] = Unit {0}
 IsPaired keys (next ∷ blocks) = 16 < length keys + length next
 
--- the same of each two neighbours
+-- each block and the one behind it have more keys together than half a block
 abbrev pub ArePaired : List (List Key) → Type 0
 ArePaired [] = Unit {0}
 ArePaired (keys ∷ blocks) = IsPaired keys blocks × ArePaired blocks

@@ -15,7 +15,7 @@ module _ (T : RattleType) (list : MutBor (Listed T.Denot)) (key : Key) where
   abbrev pub lends_value : MutBor T.Denot → Fml
   lends_value r = Lends (the_row T) T list r (λ w. record list.now { items = with_value list.now.items key w })
 
-  -- the same where r is a reference, and at `None` the list stays as it is
+  -- where r is a reference, the key names the last value written through it, and at `None` the list stays as it is
   abbrev pub lends_get : Option (MutBor T.Denot) → Fml
   lends_get r = LendsIf (the_row T) T list r (λ w. record list.now { items = with_value list.now.items key w }) list.now
 

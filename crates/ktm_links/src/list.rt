@@ -1,5 +1,5 @@
 // A list in order.
-ghost use Rattle.std.specs.Prelude.{◌≡◌, ◌≢◌, ℕ, ◌+◌, ◌-◌, ◌^◌, ◌≤◌, ◌<◌, ◌++◌, ◌∷◌, [], min, None, length, option_copied, OnSome, IfSome, IfNone, IfOk, IfErr, IsOk, OnOk, OnErr, Some, is_some, true};
+ghost use Rattle.std.specs.Prelude.{◌≡◌, ◌≢◌, ◌+◌, ◌-◌, ◌^◌, ◌≤◌, ◌<◌, ◌++◌, ◌∷◌, [], min, None, length, option_copied, OnSome, IfNone, IfOk, IfErr, IsOk, OnOk, OnErr, Some, is_some, true};
 ghost use Rattle.std.specs.Option.{option_copied_mut};
 ghost use Rattle.ktm_links.specs.Items.{item, value_at, with_value, without, first_key, first_value, rest, IsSpent, KeepsSpent};
 ghost use Rattle.ktm_links.specs.declared.list.Key.{Key};
@@ -141,7 +141,7 @@ impl<T> List<T> {
         Ok(())
     }
 
-    /// Puts a value at the end, or hands it back for want of memory.
+    /// Puts a value at the end, or hands it back where it is out of memory.
     pub fn push_back(&mut self, value: T) -> Result<Key, T>
         ensures fresh { IfOk result (λ key. key.generation ≡ self.old.next) }
         ensures items { IfOk result (λ key. self.new.items ≡ self.old.items ++ item key value ∷ []) }

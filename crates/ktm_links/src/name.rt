@@ -75,7 +75,7 @@ pub fn number_bytes(number: u32) -> [u8; 4]
     ]
 }
 
-/// The same of a number of 64 bits.
+/// A number of 64 bits as a part of a name, its greatest byte first: names are then in the order of the numbers.
 pub fn long_bytes(number: u64) -> [u8; 8]
     ensures { result ≡ long_bytes number [] }
 {

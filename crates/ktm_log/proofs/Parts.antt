@@ -44,7 +44,7 @@ module _ (area : Area) where
     ];
   }
 
-  -- and elsewhere all is the same
+  -- where only a range of the area changed, all is the same outside of the area
   pub elsewhere_same : (a b : List ℕ) (from n : ℕ) → from + n ≤ area.len → SameOutside ((area.at + from, n) ∷ []) a b → SameElsewhere area a b
   elsewhere_same a b from n fits same = record {
     same_length = same.same_length;

@@ -69,7 +69,7 @@ pub record IsBadLog (payloads : List (List ℕ)) (bytes : List ℕ) : Type 0 whe
 abbrev pub area_bytes : Area → List ℕ → List ℕ
 area_bytes area image = take area.len (drop area.at image)
 
--- the same length, and the same bytes outside of the area
+-- the length is as it was, and so are the bytes outside of the area
 abbrev pub SameElsewhere : Area → List ℕ → List ℕ → Type 0
 SameElsewhere area old new = SameOutside ((area.at, area.len) ∷ []) old new
 

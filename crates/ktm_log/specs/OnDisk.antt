@@ -23,7 +23,7 @@ pub record ReadsInto {Z : Type 0} (most : ℕ) (old new : OnDisk (Vec ℕ Z)) (r
   pub kept : vec_capacity old.it ≤ vec_capacity new.it
   pub reads : OnlyReads most old.told new.told old.status new.status refused
 
--- so many at most were done, and the disk is up
+-- so many device calls at most read into a buffer, which lost no memory, none was refused, and the disk is up
 pub record WasRead {Z : Type 0} (most : ℕ) (old new : OnDisk (Vec ℕ Z)) : Type 0 where
   pub reads : ReadsInto most old new false
   pub up : new.status.is_down ≡ false

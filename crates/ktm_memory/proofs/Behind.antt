@@ -61,7 +61,7 @@ shows-held m kept = record {
 abbrev pub LooksAside : (Present → Outcome) → Type 0
 LooksAside f = (x : Present) → f (aside x) ≡ f x
 
--- so it is the same on all that memory shows
+-- such an outcome is the same on all that memory shows
 pub same-outcome : (f : Present → Outcome) (m : MemoryState) (y z : Present) → LooksAside f → Shows m y → Shows m z → f y ≡ f z
 same-outcome f m y z looks one two = sym (looks y) ∙ ap f (shown-alike m y z one two) ∙ looks z
 
@@ -95,7 +95,7 @@ settles-behind a b c f g h behind first second = record { shows = shows; slots =
 pub told-first : (a : MemoryState) (f g h : Present → Outcome) → ComesBehind a f g h → TellsWithin a h → TellsWithin a f
 told-first a f g h behind told x now = omega (arith, told x now, sent-both a f g h behind x now)
 
--- and once the first is settled, for what the second tells
+-- where there is room for what both tell, there is for what the second tells, once the first is settled
 pub told-rest : (a b : MemoryState) (f g h : Present → Outcome) → KeptLaw → LooksAside g → ComesBehind a f g h → Settles a f b → TellsWithin a h → TellsWithin b g
 told-rest a b f g h kept looks behind settles told y now =
     let x = present_of a in
@@ -118,10 +118,10 @@ settles-same a b f g same settles = record {
   slots = λ x now. omega (arith, settles.slots x now, ap (λ (o : Outcome). length o.sent) (same x now));
 }
 
--- and tells as much
+-- there is room for what an outcome tells, where there is for one that is the same on all that memory shows
 pub told-same : (a : MemoryState) (f g : Present → Outcome) → ((x : Present) → Shows a x → g x ≡ f x) → TellsWithin a g → TellsWithin a f
 told-same a f g same told x now = omega (arith, told x now, ap (λ (o : Outcome). length o.sent) (same x now))
 
--- also where what was recorded is good
+-- what settles an outcome settles it where what was recorded is good
 pub settles-good : (a b : MemoryState) (f : Present → Outcome) → Settles a f b → SettlesGood a f b
 settles-good a b f settles = record { shows = λ x now good. settles.shows x now tt; slots = settles.slots }

@@ -78,7 +78,7 @@ settles-unbinding m handles process label are = record { shows = shows; slots = 
       handles = are ∙ ap (λ (hs : List Handle). without_handle hs process label) now.handles;
     })
 
--- and then what depended on the handle ends
+-- once the label is unbound, what depended on the handle ends
 gone-behind : (m : MemoryState) (process : Pid) (label : Label) (named : Option Object) → object_at m.handles.handles process label ≡ named
     → ComesBehind m (λ x. unbinding x process label) (λ x. handle_gone named x) (λ x. close_handle x process label)
 unfolding close_handle

@@ -70,7 +70,7 @@ comes_to x t caller input steps s sees is =
     let c = course_of x t (caller_of x.transactions.enlistments caller) in
     ap (λ (ss : List Step). run ss c) (is ∙ ap (λ (u : Seen). row u input) sees)
 
--- and leads it on, whatever memory shows
+-- the row of what is seen leads the transaction on, whatever memory shows
 pub leads_on : (m : MemoryState) (t : Transaction) (caller : Option Id) (input : PhaseInput) (steps : List Step) (s : Seen) → IsSeenIn m t s → steps ≡ row s input
     → (x : Present) → Shows m x → LeadsOn x t (caller_of x.transactions.enlistments caller) steps
 leads_on m t caller input steps s sees is x shows =
@@ -147,7 +147,7 @@ module _ (kept : KeptLaw) (m : MemoryState) (t : Transaction) (caller : Option I
       let c = course_to x t caller input in
       ap (is_full x.machine.left) ((arrival x c (reply_to input c)).events ∙ ap (λ (g : Going). g.events) (sym same)) ∙ full
 
-  -- and what it records has bytes
+  -- what the course records has bytes
   pub course_is_spelled : IsReadyCourse (present_of m) t caller input → is_full (present_of m).machine.left (course_then (present_of m) t caller steps.items).events ≡ false
       → All IsSpellableEvent (course_then (present_of m) t caller steps.items).events
   course_is_spelled ready room =

@@ -31,7 +31,7 @@ module _ {F : Type 0} (files_of : F → List FinalFile) where
     pub is : IsBasis files_of from c.transaction.id c.transaction.is_recorded parts
     pub events : events_ahead steps from ≡ (run steps c).events
 
-  -- so it is with the changes of the files
+  -- steps record what the course does, where its changes are those of the files
   pub known : EventsAheadLaw → (c : Course) (parts : Parts F) (steps : List Step) → c.events ≡ [] → AreParts c parts → c.changes ≡ recorded_changes parts.names.now (files_of parts.files.now) → AreKnown c parts steps
   known ahead c parts steps none are changes = record {
     from = basis c;

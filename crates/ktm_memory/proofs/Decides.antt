@@ -26,25 +26,25 @@ use Rattle.ktm_memory.proofs.offered.Decided.{decided, quiet_decided}
 use Rattle.ktm_memory.specs.Decided.{Decides, IsDone}
 use Rattle.ktm_records.proofs.offered.NoMore.{fits-within}
 use Rattle.ktm_memory.proofs.offered.Standing.{kept}
-use Rattle.ktm_memory.specs.Memory.{Held, MayHandle, MaySettle, MemoryState, held, now_of, present_of}
+use Rattle.ktm_memory.specs.Memory.{LayersNow, MayHandle, MaySettle, MemoryState, held, now_of, present_of}
 use Rattle.ktm_memory.specs.Settled.{labels_outcome}
 
 -- ---- calls on keys
 
 -- the room that the keys have
-pub room_is : (h : Held) (keys changes waiting : ℕ) → keys ≡ h.journal.units → waiting ≡ file_changes_waiting h.files → changes ≡ h.journal.units - waiting → record { keys = keys; changes = changes } ≡ key_room (now_of h)
+pub room_is : (h : LayersNow) (keys changes waiting : ℕ) → keys ≡ h.journal.units → waiting ≡ file_changes_waiting h.files → changes ≡ h.journal.units - waiting → record { keys = keys; changes = changes } ≡ key_room (now_of h)
 unfolding key_room
 room_is h keys changes waiting keys_are waits changes_are = rw (keys_are, changes_are, waits) refl
 
 -- a call on keys that leaves what was recorded as it is
-pub keys_decided : (h : Held) (n : MemoryState) (o : KeyOutcome) (reply : Reply) (events : EventsState) → reply ≡ o.reply
+pub keys_decided : (h : LayersNow) (n : MemoryState) (o : KeyOutcome) (reply : Reply) (events : EventsState) → reply ≡ o.reply
     → held n ≡ record h { keys = record h.keys { own = o.own } } → now_of (record h { keys = record h.keys { own = o.own } }) ≡ record (now_of h) { keys = record h.keys { own = o.own } } → Holds events []
     → Decides h (of_keys (now_of h) o) reply Nothing events n
 keys_decided h n o reply events says same recorded holds = record {
   says = says;
   records = holds;
   room = refl;
-  journal = ap (λ (k : Held). k.journal) same;
+  journal = ap (λ (k : LayersNow). k.journal) same;
   group = refl;
   tells = refl;
   comes_to = apply-reply (present_of n) Done ∙ ap now_of same ∙ recorded ∙ sym (ap (λ (x : Present). record x { keys = record x.keys { own = o.own } }) (apply-reply (now_of h) o.reply));
@@ -75,7 +75,7 @@ create_quiet : (x : Present) (process : Pid) (label : Label) (timeout : ℕ) →
 unfolding create_transaction
 create_quiet x process label timeout = refl
 
-pub create_decided : (h : Held) (n : MemoryState) (process : Pid) (label : Label) (timeout : ℕ) (reply : Reply) (events : EventsState)
+pub create_decided : (h : LayersNow) (n : MemoryState) (process : Pid) (label : Label) (timeout : ℕ) (reply : Reply) (events : EventsState)
     → reply ≡ (create_transaction (now_of h) process label timeout).reply → held n ≡ h → MaySettle n (Begin process label timeout) → Holds events []
     → (o : Outcome) → o ≡ create_transaction (now_of h) process label timeout → Decides h o reply (Begin process label timeout) events n
 create_decided h n process label timeout reply events says same may holds o is =
@@ -84,14 +84,14 @@ create_decided h n process label timeout reply events says same may holds o is =
     (quiet_decided h n made reply (Begin process label timeout) events says (create_quiet (now_of h) process label timeout) same refl refl refl may holds)
 
 -- the reply tells the GUID of that Id
-pub create_says : (h : Held) (process : Pid) (label : Label) (timeout : ℕ) (guid : List ℕ) (image : ℕ) (id : Id)
+pub create_says : (h : LayersNow) (process : Pid) (label : Label) (timeout : ℕ) (guid : List ℕ) (image : ℕ) (id : Id)
     → guid ≡ guid_of ObjectKind.Transaction image id → image ≡ h.journal.image → id ≡ next_id h.boot h.transactions → Guid guid ≡ (create_transaction (now_of h) process label timeout).reply
 unfolding create_transaction
 create_says h process label timeout guid image id is image_is id_is = rw (is, image_is, id_is) refl
 
 -- ---- labels
 
-pub handles_decided : (h : Held) (n : MemoryState) (process : Pid) (labels : Labels) (events : EventsState) → IsDone (labels_outcome (now_of h) process labels) → held n ≡ h → MayHandle n process labels → Holds events []
+pub handles_decided : (h : LayersNow) (n : MemoryState) (process : Pid) (labels : Labels) (events : EventsState) → IsDone (labels_outcome (now_of h) process labels) → held n ≡ h → MayHandle n process labels → Holds events []
     → (o : Outcome) → o ≡ labels_outcome (now_of h) process labels → Decides h o Done (Handles process labels) events n
 handles_decided h n process labels events done same may holds o is =
     subst (λ o. Decides h o Done (Handles process labels) events n) (sym is)

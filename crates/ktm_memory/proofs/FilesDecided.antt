@@ -27,7 +27,7 @@ use Rattle.ktm_standing.specs.Files.{MayMake, MayMakePlain}
 use Rattle.ktm_standing.proofs.offered.Applied.{apply-reply}
 use Rattle.ktm_memory.specs.declared.settlement.Settlement.TheVariants.{Change as PlainChange}
 use Rattle.ktm_memory.specs.Decided.{CanAnswer, Decides, bind_opened}
-use Rattle.ktm_memory.specs.Memory.{CanMakePlain, Held, MayBind, MaySettle, MemoryState, held, now_of, present_of}
+use Rattle.ktm_memory.specs.Memory.{CanMakePlain, LayersNow, MayBind, MaySettle, MemoryState, held, now_of, present_of}
 use Rattle.ktm_memory.specs.Routed.{IsActiveCaller, IsFreeLabel, IsReadyCall}
 use Rattle.ktm_memory.proofs.Unlogged.{unlogged}
 use Rattle.ktm_world.specs.Durable.{Recorded}
@@ -50,7 +50,7 @@ use Rattle.txf_volume.specs.Plain.{IsReady}
 
 -- ---- the room that the files have
 
-pub file_room_is : (h : Held) (handles changes units unset : ℕ) → handles ≡ MOST_HANDLES - length h.handles → unset ≡ keys_unset h.keys → units ≡ h.journal.units → changes ≡ h.journal.units - unset
+pub file_room_is : (h : LayersNow) (handles changes units unset : ℕ) → handles ≡ MOST_HANDLES - length h.handles → unset ≡ keys_unset h.keys → units ≡ h.journal.units → changes ≡ h.journal.units - unset
     → record { handles = handles; changes = changes; units = units } ≡ file_room (now_of h)
 unfolding file_room
 file_room_is h handles changes units unset handles_are unset_are units_are changes_are = rw (handles_are, changes_are, unset_are, units_are) refl
@@ -82,15 +82,15 @@ sends_none x process who (Some l) o = go o.opened
 -- ---- a plain call
 
 -- the call can be made, whatever it answers
-pub may_settle : (h : Held) (n : MemoryState) (process : Pid) (label : Option Label) (o : FileOutcome) (opened : Option Kept) (copy : Option (List ℕ)) → held n ≡ h → MayMakePlain (now_of h) o
+pub may_settle : (h : LayersNow) (n : MemoryState) (process : Pid) (label : Option Label) (o : FileOutcome) (opened : Option Kept) (copy : Option (List ℕ)) → held n ≡ h → MayMakePlain (now_of h) o
     → IsReady n.files o copy → option_map open_of opened ≡ o.opened → (is_some opened ≡ true → 1 ≤ n.handles.spare) → IsFreeLabel (now_of h) process label → MaySettle n (PlainChange process label (record o { reply = Done }) copy)
 may_settle h n process label o opened copy same may ready is room unbound = (
   subst (λ (files : FilesNow). CanMakePlain files (record o { reply = Done })) (ap (λ g. g.files) (sym same)) (record { plain = record { change = may.plain.change; opened = may.plain.opened }; left = may.left; counted = may.counted }),
   record { change = ready.change; room = ready.room; opened = ready.opened; copy_is = ready.copy_is },
-  subst (λ (file : Option OpenFile). MayBind n process label file) is (may_bind_plain n process label opened room (subst (λ (g : Held). IsFreeLabel (now_of g) process label) (sym same) unbound)),
+  subst (λ (file : Option OpenFile). MayBind n process label file) is (may_bind_plain n process label opened room (subst (λ (g : LayersNow). IsFreeLabel (now_of g) process label) (sym same) unbound)),
 )
 
-pub plain_decided : (h : Held) (n : MemoryState) (process : Pid) (label : Option Label) (o : FileOutcome) (reply : Reply) (plan : FileOutcome) (copy : Option (List ℕ)) (events : EventsState)
+pub plain_decided : (h : LayersNow) (n : MemoryState) (process : Pid) (label : Option Label) (o : FileOutcome) (reply : Reply) (plan : FileOutcome) (copy : Option (List ℕ)) (events : EventsState)
     → reply ≡ o.reply → plan ≡ record o { reply = Done } → held n ≡ h → MaySettle n (PlainChange process label (record o { reply = Done }) copy) → Holds events (events_of None o.change)
     → is_full (now_of h).machine.left (events_of None o.change) ≡ false → CanAnswer None o → Decides h (files_outcome (now_of h) process None label o) reply (PlainChange process label plan copy) events n
 plain_decided h n process label o reply plan copy events says is same may holds room answers =
@@ -133,14 +133,14 @@ own_other files id o other differ = go o.change o.opened
     go (Some change) (Some file) = with-other files.table.own id (changes_with files id change) other differ
 
 -- what was recorded stays
-own_unlogged : (h : Held) (id : Id) (o : FileOutcome) → IsStandingNow (now_of h) → IsActiveCaller (now_of h) (Some id)
+own_unlogged : (h : LayersNow) (id : Id) (o : FileOutcome) → IsStandingNow (now_of h) → IsActiveCaller (now_of h) (Some id)
     → now_of (record h { files = files_after h.files (Some id) o }) ≡ record (now_of h) { files = files_after h.files (Some id) o }
 own_unlogged h id o standing active =
     let y = record (now_of h) { files = files_after h.files (Some id) o } in
     ap (λ (ts : List Recorded). record y { recorded = record y.recorded { transactions = ts } })
     (unlogged h id (files_after h.files (Some id) o).table.own h.keys.own standing active (own_other h.files id o) (λ other differ. refl))
 
-pub own_decided : (h : Held) (n : MemoryState) (process : Pid) (id : Id) (label : Option Label) (o : FileOutcome) (opened : Option Kept) (events : EventsState) → IsStandingNow (now_of h) → IsActiveCaller (now_of h) (Some id)
+pub own_decided : (h : LayersNow) (n : MemoryState) (process : Pid) (id : Id) (label : Option Label) (o : FileOutcome) (opened : Option Kept) (events : EventsState) → IsStandingNow (now_of h) → IsActiveCaller (now_of h) (Some id)
     → held n ≡ record h { files = files_after h.files (Some id) o } → option_map open_of opened ≡ o.opened → MaySettle n (bind_opened process label opened) → Holds events []
     → Decides h (files_outcome (now_of h) process (Some id) label o) o.reply (bind_opened process label opened) events n
 own_decided h n process id label o opened events standing active same opens may holds =
@@ -151,12 +151,12 @@ own_decided h n process id label o opened events standing active same opens may 
       says = sym (reply_of x process (Some id) label o);
       records = subst (λ (es : List Event). Holds events es) (sym are) holds;
       room = ap (is_full (now_of h).machine.left) are;
-      journal = ap (λ (g : Held). g.journal) same;
+      journal = ap (λ (g : LayersNow). g.journal) same;
       group = bound_quiet (present_of n) process label opened ∙ sym are;
       tells = bound_sends (present_of n) process label opened ∙ sym (sends_none x process (Some id) label o);
       comes_to =
           bound (present_of n) process label opened
-          ∙ ap (λ (k : Held). record (now_of k) { handles = handles_then (now_of k).handles process label (option_map open_of opened) }) same
+          ∙ ap (λ (k : LayersNow). record (now_of k) { handles = handles_then (now_of k).handles process label (option_map open_of opened) }) same
           ∙ ap (λ (z : Present). record z { handles = handles_then x.handles process label (option_map open_of opened) }) (own_unlogged h id o standing active)
           ∙ ap (λ (file : Option OpenFile). record y { handles = handles_then x.handles process label file }) opens
           ∙ sym (ap (λ (z : Present). record z { handles = handles_then x.handles process label o.opened }) (no_group y))
@@ -238,7 +238,7 @@ effect_answers files who (Move source target) refusal e = moved (find_path (tree
 effect_answers files who (Find searched) refusal e = absurd (cc)
 
 -- a call comes to this, by what is so now
-pub planned : (h : Held) (files : FilesNow) (room : FileRoom) (who : Option Id) (call : FileCall) (plan : FileOutcome) → plan ≡ file_outcome files room who call → room ≡ file_room (now_of h) → files ≡ h.files
+pub planned : (h : LayersNow) (files : FilesNow) (room : FileRoom) (who : Option Id) (call : FileCall) (plan : FileOutcome) → plan ≡ file_outcome files room who call → room ≡ file_room (now_of h) → files ≡ h.files
     → plan ≡ file_outcome h.files (file_room (now_of h)) who call
 planned h files room who call plan is room_is files_are = is ∙ ap (λ r. file_outcome files r who call) room_is ∙ ap (λ f. file_outcome f (file_room (now_of h)) who call) files_are
 
@@ -251,7 +251,7 @@ goes_through files room who call o is changes = go (first_refusal (file_tests fi
     go None passed = (passed, is ∙ ap (λ r. unless_refused r (file_effect files who call)) passed)
     go (Some refusal) refused = let quiet = ap is_quiet (is ∙ ap (λ r. unless_refused r (file_effect files who call)) refused) in absurd (cc)
 
--- so it can be made, and is no refusal
+-- a call that changes something can be made, and is no refusal
 pub may_make : (x : Present) (process : Pid) (who : Option Id) (label : Option Label) (call : FileCall) (o : FileOutcome) → IsReadyCall x process who label call → o ≡ file_outcome x.files (file_room x) who call → is_quiet o ≡ false
     → MayMake x who o × CanAnswer who o
 may_make x process who label call o ready is changes =

@@ -30,21 +30,21 @@ active_to t active = go t.phase active
     go Active active = refl
     go _ active = absurd (cc)
 
--- which is found rolls back
+-- an active transaction that is found rolls back
 pub active-aborts : (m : MemoryState) (id : Id) (t : Transaction) → transaction_at m.tm.now.items id ≡ Some t → t.phase ≡ Active
     → (x : Present) → Shows m x → abort_active x (transaction_at x.transactions.items id) ≡ aborted_by x t None Done
 active-aborts m id t found active x shows =
     ap (λ o. abort_active x o) (ap (λ ts. transaction_at ts.items id) (sym shows.transactions) ∙ found)
     ∙ ap (λ b. cond b (aborted_by x t None Done) (only_reply x Done)) (active_from t active)
 
--- another one stays
+-- a transaction that is not active stays
 pub others-stay : (m : MemoryState) (id : Id) (t : Transaction) → transaction_at m.tm.now.items id ≡ Some t → (t.phase ≡ Active → ⊥)
     → (x : Present) → Shows m x → abort_active x (transaction_at x.transactions.items id) ≡ only_reply x Done
 others-stay m id t found other x shows =
     ap (λ o. abort_active x o) (ap (λ ts. transaction_at ts.items id) (sym shows.transactions) ∙ found)
     ∙ ap (λ b. cond b (aborted_by x t None Done) (only_reply x Done)) (false_from_ne_true (is_active t) (λ active. other (active_to t active)))
 
--- and there may be none
+-- where no transaction is found nothing rolls back
 pub none-stays : (m : MemoryState) (id : Id) → transaction_at m.tm.now.items id ≡ None → (x : Present) → Shows m x → abort_active x (transaction_at x.transactions.items id) ≡ only_reply x Done
 none-stays m id found x shows = ap (λ o. abort_active x o) (ap (λ ts. transaction_at ts.items id) (sym shows.transactions) ∙ found)
 

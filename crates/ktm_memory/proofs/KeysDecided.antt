@@ -12,7 +12,7 @@ use Rattle.ktm_standing.specs.Standing.{IsStandingNow}
 use Rattle.kv_rm.specs.Calls.{key_outcome, unless_refused}
 use Rattle.kv_rm.specs.declared.call.KvCall.{KvCall}
 use Rattle.kv_rm.specs.declared.call.KvCall.TheVariants.{Set, Unset, Get}
-use Rattle.ktm_memory.specs.Memory.{Held, now_of}
+use Rattle.ktm_memory.specs.Memory.{LayersNow, now_of}
 use Rattle.ktm_memory.specs.Routed.{IsActiveCaller}
 use Rattle.ktm_memory.proofs.Unlogged.{settings-other, unlogged}
 
@@ -38,12 +38,12 @@ own_other keys room id (Get key) other differ = refused_own (λ own. own_setting
 own_other keys room id KvCall.List other differ = refl
 
 -- these settings are the transactions' own, where that leaves what was recorded of them
-with_own_settings : (h : Held) (own : List Own) → map (expanded h.transactions.enlistments h.files.table.own own) h.traces ≡ map (expanded h.transactions.enlistments h.files.table.own h.keys.own) h.traces
+with_own_settings : (h : LayersNow) (own : List Own) → map (expanded h.transactions.enlistments h.files.table.own own) h.traces ≡ map (expanded h.transactions.enlistments h.files.table.own h.keys.own) h.traces
     → now_of (record h { keys = record h.keys { own = own } }) ≡ record (now_of h) { keys = record h.keys { own = own } }
 with_own_settings h own same = let y = record (now_of h) { keys = record h.keys { own = own } } in ap (λ (ts : List Recorded). record y { recorded = record y.recorded { transactions = ts } }) same
 
 -- what was recorded stays
-pub keys_unlogged : (h : Held) (room : KeyRoom) (who : Option Id) (call : KvCall) → IsStandingNow (now_of h) → IsActiveCaller (now_of h) who
+pub keys_unlogged : (h : LayersNow) (room : KeyRoom) (who : Option Id) (call : KvCall) → IsStandingNow (now_of h) → IsActiveCaller (now_of h) who
     → (let own : List Own = (key_outcome h.keys room who call).own in now_of (record h { keys = record h.keys { own = own } }) ≡ record (now_of h) { keys = record h.keys { own = own } })
 keys_unlogged h room None call standing active = with_own_settings h (key_outcome h.keys room None call).own (ap (λ (own : List Own). map (expanded h.transactions.enlistments h.files.table.own own) h.traces) (plain_own h.keys room call))
 keys_unlogged h room (Some id) call standing active =

@@ -34,7 +34,7 @@ use Rattle.ktm_memory.specs.Settled.{handles_then}
 
 -- ---- what records nothing, and makes something of transactions and handles alone
 
--- so it is with this outcome, for these transactions and handles
+-- the outcome records nothing, and makes these transactions and handles
 record IsMadeOf (m : MemoryState) (x : Present) (o : Outcome) (tm : TmState) (table : HandleTable) : Type 0 where
   silent : IsSilent o
   forgets : o.forgotten ≡ []

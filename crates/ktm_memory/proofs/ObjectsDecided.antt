@@ -24,24 +24,24 @@ use Rattle.ktm_world.specs.Transactions.{transaction_at}
 use Rattle.ktm_slots.specs.Slots.{granted_in}
 use Rattle.ktm_memory.specs.declared.settlement.Settlement.TheVariants.{Enlist, Inform, MakeManager, Recover, Take}
 use Rattle.ktm_memory.specs.Decided.{Decides, IsDone, manager_events}
-use Rattle.ktm_memory.specs.Memory.{Held, MaySettle, MemoryState, held, now_of, present_of}
+use Rattle.ktm_memory.specs.Memory.{LayersNow, MaySettle, MemoryState, held, now_of, present_of}
 use Rattle.ktm_memory.proofs.offered.Decided.{decided, quiet_decided}
 
 -- ---- CreateResourceManager
 
 -- what it records
-pub manager_records : (h : Held) (process : Pid) (label : Label) (durability : Durability) (id : Id) → id ≡ id_after h.boot h.transactions.last_manager
+pub manager_records : (h : LayersNow) (process : Pid) (label : Label) (durability : Durability) (id : Id) → id ≡ id_after h.boot h.transactions.last_manager
     → manager_events id durability ≡ (create_resource_manager (now_of h) process label durability).events
 unfolding create_resource_manager
 manager_records h process label durability id is = ap (λ id. manager_events id durability) is
 
 -- the reply tells the GUID of that Id
-manager_says : (h : Held) (process : Pid) (label : Label) (durability : Durability) (guid : List ℕ) (image : ℕ) (id : Id)
+manager_says : (h : LayersNow) (process : Pid) (label : Label) (durability : Durability) (guid : List ℕ) (image : ℕ) (id : Id)
     → guid ≡ guid_of ObjectKind.Manager image id → image ≡ h.journal.image → id ≡ id_after h.boot h.transactions.last_manager → Guid guid ≡ (create_resource_manager (now_of h) process label durability).reply
 unfolding create_resource_manager
 manager_says h process label durability guid image id is image_is id_is = rw (is, image_is, id_is) refl
 
-pub manager_decided : (h : Held) (n : MemoryState) (process : Pid) (label : Label) (durability : Durability) (guid : List ℕ) (image : ℕ) (id : Id) (events : EventsState)
+pub manager_decided : (h : LayersNow) (n : MemoryState) (process : Pid) (label : Label) (durability : Durability) (guid : List ℕ) (image : ℕ) (id : Id) (events : EventsState)
     → guid ≡ guid_of ObjectKind.Manager image id → image ≡ h.journal.image → id ≡ id_after h.boot h.transactions.last_manager
     → held n ≡ h → MaySettle n (MakeManager process label durability) → Holds events (manager_events id durability) → is_full (now_of h).machine.left (manager_events id durability) ≡ false
     → (o : Outcome) → o ≡ create_resource_manager (now_of h) process label durability → Decides h o (Guid guid) (MakeManager process label durability) events n
@@ -59,12 +59,12 @@ unfolding recover_resource_manager
 recovery_done x None = record { replies = refl; records = refl }
 recovery_done x (Some m) = record { replies = refl; records = refl }
 
-pub recovery_decided : (h : Held) (n : MemoryState) (manager : Id) (events : EventsState) → held n ≡ h → is_some (manager_at h.managers manager) ≡ true → Holds events []
+pub recovery_decided : (h : LayersNow) (n : MemoryState) (manager : Id) (events : EventsState) → held n ≡ h → is_some (manager_at h.managers manager) ≡ true → Holds events []
     → Decides h (recover_resource_manager (now_of h) (manager_at h.managers manager)) Done (Recover manager) events n
 recovery_decided h n manager events same there holds =
     let o = recover_resource_manager (now_of h) (manager_at h.managers manager) in
     let done = recovery_done (now_of h) (manager_at h.managers manager) in
-    quiet_decided h n o Done (Recover manager) events (sym done.replies) done.records same refl refl refl (ap (λ (g : Held). is_some (manager_at g.managers manager)) same ∙ there) holds
+    quiet_decided h n o Done (Recover manager) events (sym done.replies) done.records same refl refl refl (ap (λ (g : LayersNow). is_some (manager_at g.managers manager)) same ∙ there) holds
 
 -- ---- GetNotificationResourceManager
 
@@ -88,15 +88,6 @@ note_says x (Some m) note is = go m.queue is
         → (holds_of has_empty_queue (Some (record m { queue = queue })) ≡ false) × (Notification note.kind (option_map (guid_of ObjectKind.Enlistment x.recorded.image) note.enlistment) ≡ note_reply x queue)
     go [] is = absurd (cc)
     go (first ∷ rest) is = let same : first ≡ note = cc in (some_wait (length rest), ap (λ (n : Note). Notification n.kind (option_map (guid_of ObjectKind.Enlistment x.recorded.image) n.enlistment)) (sym same))
-
--- none waits for a resource manager without a first one
-none_waits : (m : Option Manager) → is_some m ≡ true → first_of m ≡ None → holds_of has_empty_queue m ≡ true
-none_waits None there none = absurd (cc)
-none_waits (Some m) there none = go m.queue none
-  where
-    go : (queue : List Note) → first_of (Some (record m { queue = queue })) ≡ None → holds_of has_empty_queue (Some (record m { queue = queue })) ≡ true
-    go [] none = refl
-    go (first ∷ rest) none = absurd (cc)
 
 -- what the call comes to
 abbrev taking : Present → Id → Outcome
@@ -138,7 +129,7 @@ enlisting_grants x process label None t kind = omega arith
 enlisting_grants x process label (Some m) None kind = omega arith
 enlisting_grants x process label (Some m) (Some t) kind = omega (arith, length-append x.transactions.enlistments)
 
-pub enlistment_decided : (h : Held) (n : MemoryState) (process : Pid) (label : Label) (manager transaction : Id) (kind : EnlistmentKind) (guid : List ℕ) (image : ℕ) (id : Id) (events : EventsState)
+pub enlistment_decided : (h : LayersNow) (n : MemoryState) (process : Pid) (label : Label) (manager transaction : Id) (kind : EnlistmentKind) (guid : List ℕ) (image : ℕ) (id : Id) (events : EventsState)
     → guid ≡ guid_of ObjectKind.Enlistment image id → image ≡ h.journal.image → id ≡ id_after h.boot h.transactions.last_enlistment → is_some (manager_at h.managers manager) ≡ true → is_some (transaction_at h.transactions.items transaction) ≡ true
     → held n ≡ h → MaySettle n (Enlist process label manager transaction kind) → Holds events []
     → (o : Outcome) → o ≡ enlisting (now_of h) process label manager transaction kind → Decides h o (Guid guid) (Enlist process label manager transaction kind) events n

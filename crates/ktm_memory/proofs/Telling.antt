@@ -51,7 +51,7 @@ settles-bound m handles process label object are = record { shows = shows; slots
           handles = are ∙ ap (λ (hs : List Handle). with_handle hs process label object) now.handles;
         })
 
--- and to what another one names
+-- the label is bound to what another label names
 pub settles-duplicate : (m : MemoryState) (handles : HandleTable) (process : Pid) (label : Label) (from : Pid) (source : Label)
     → Some handles.handles ≡ option_map (with_handle m.handles.handles process label) (object_at m.handles.handles from source)
     → Settles m (λ x. duplicate_handle x process label from source) (record m { handles = handles })

@@ -267,7 +267,7 @@ from-over m i t at early x now =
     ∙ ap (λ (ts : List Transaction). aborted_in_turn x ts) (sym (due_over m.tm.now i t at early))
     ∙ ap (λ (all : Transactions). aborted_in_turn x (due_from all (suc i))) now.transactions
 
--- so have the transactions that memory holds
+-- what a rollback makes of the transactions that memory holds
 pub held_rolled : (m n : MemoryState) (t : Transaction) (x : Present) → Shows m x → Settles m (λ x. aborted_by x t None Done) n → HasRolled m.tm.now t n.tm.now
 held_rolled m n t x now settles =
     subst (λ (all : Transactions). HasRolled all t n.tm.now) (sym now.transactions)
@@ -286,7 +286,7 @@ fewer_over all i t at early =
     let less = ap (λ (ts : List Transaction). length ts) at.here in
     omega (arith, same, less)
 
--- and once one has rolled back
+-- at least one less is left once one has rolled back
 pub fewer_rolled : (all now : Transactions) (i : ℕ) (t : Transaction) → IsLiveAt all.items i t → is_due all.clock t ≡ true → HasRolled all t now → left_from now i + 1 ≤ left_from all i
 fewer_rolled all now i t at due rolled =
     let one = ap (λ (ts : List Transaction). length ts) (due_first all i t at due) in
@@ -343,7 +343,7 @@ settles-tick m new tm ms rise boot is keeps settles = record { shows = shows; sl
     slots : (x : Present) → Shows m x → m.tm.slots ≤ new.tm.slots + length (tick x ms).sent
     slots x now = omega (arith, settles.slots (with_clock x ms) (passed x now), keeps.slots, ap (λ (o : Outcome). length o.sent) (same x now))
 
--- and there is room for what they tell
+-- there is room for what the rollbacks tell, where there is room for what the passing of time tells
 pub told-tick : (m : MemoryState) (tm : TmState) (ms : ℕ) → Rise m.tm.now.items → tm.boot ≡ m.tm.boot → tm.now ≡ record m.tm.now { clock = later m.tm.now.clock ms } → KeepsManaging m.tm tm
     → TellsWithin m (λ x. tick x ms) → TellsWithin (record m { tm = tm }) (from_here 0)
 told-tick m tm ms rise boot is keeps told y now =

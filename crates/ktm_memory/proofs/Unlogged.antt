@@ -22,7 +22,7 @@ use Rattle.ktm_standing.specs.Standing.{IsStandingNow}
 use Rattle.ktm_standing.proofs.offered.Distinct.{AreFound, rise-found}
 use Rattle.ktm_standing.proofs.offered.Handles.{bare_course, is_bare}
 use Rattle.ktm_memory.proofs.offered.Standing.{kept}
-use Rattle.ktm_memory.specs.Memory.{Held, now_of}
+use Rattle.ktm_memory.specs.Memory.{LayersNow, now_of}
 use Rattle.txf_laws.proofs.offered.Tables.{same_id-equal}
 
 -- is it another Id than this one
@@ -65,8 +65,8 @@ summaries_other x id active (t ∷ ts) found bare =
       | inr none ↦ rw none rest
     ]
 
--- so what memory keeps of the log has other transactions alone
-traces_other : (h : Held) (id : Id) → IsStandingNow (now_of h) → holds_of (λ t. not (is_active t)) (transaction_at h.transactions.items id) ≡ false → list_all (λ (t : Traced). is_other id t.id) h.traces ≡ true
+-- what memory keeps of the log has other transactions alone
+traces_other : (h : LayersNow) (id : Id) → IsStandingNow (now_of h) → holds_of (λ t. not (is_active t)) (transaction_at h.transactions.items id) ≡ false → list_all (λ (t : Traced). is_other id t.id) h.traces ≡ true
 traces_other h id standing active =
     let x = now_of h in
     let k : IsKept x = kept x standing in
@@ -104,7 +104,7 @@ same_expanded es changes changes' settings settings' id same_changes same_settin
     }
 
 -- what was recorded of transactions stays where an active one changes and sets something
-pub unlogged : (h : Held) (id : Id) (changes' : List OwnChanges) (settings' : List Own) → IsStandingNow (now_of h) → holds_of (λ t. not (is_active t)) (transaction_at h.transactions.items id) ≡ false
+pub unlogged : (h : LayersNow) (id : Id) (changes' : List OwnChanges) (settings' : List Own) → IsStandingNow (now_of h) → holds_of (λ t. not (is_active t)) (transaction_at h.transactions.items id) ≡ false
     → ((other : Id) → same_id id other ≡ false → own_changes changes' other ≡ own_changes h.files.table.own other) → ((other : Id) → same_id id other ≡ false → own_settings settings' other ≡ own_settings h.keys.own other)
     → map (expanded h.transactions.enlistments changes' settings') h.traces ≡ map (expanded h.transactions.enlistments h.files.table.own h.keys.own) h.traces
 unlogged h id changes' settings' standing active same_changes same_settings =

@@ -19,12 +19,12 @@ use Rattle.ktm_memory.specs.declared.settlement.Settlement.{Settlement}
 use Rattle.ktm_memory.specs.declared.settlement.Settlement.TheVariants.{Nothing, Handles}
 use Rattle.ktm_memory.specs.declared.settlement.Labels.TheVariants.{Bind}
 use Rattle.txf_opens.specs.declared.file.OpenFile.{OpenFile}
-use Rattle.ktm_memory.specs.Memory.{Held, MemoryState, MaySettle, held, now_of, present_of}
+use Rattle.ktm_memory.specs.Memory.{LayersNow, MemoryState, MaySettle, held, now_of, present_of}
 use Rattle.ktm_memory.specs.Settled.{left_to_do}
 
 -- the reply and the events are those of the outcome; what is left to do once they are recorded comes to what the outcome makes of what was so;
 -- until then nothing that is recorded has changed in memory
-pub record Decides (old : Held) (o : Outcome) (reply : Reply) (then : Settlement) (events : EventsState) (new : MemoryState) : Type 0 where
+pub record Decides (old : LayersNow) (o : Outcome) (reply : Reply) (then : Settlement) (events : EventsState) (new : MemoryState) : Type 0 where
   pub says : reply ≡ o.reply
   pub records : Holds events o.events
   pub room : is_full (now_of old).machine.left o.events ≡ false
@@ -38,8 +38,8 @@ pub record Decides (old : Held) (o : Outcome) (reply : Reply) (then : Settlement
   -- what records something is not refused
   pub answers : o.events ≢ [] → (refusal : Refusal) → reply ≢ Refused refusal
 
--- the same, or the log has no room for the events, and nothing has changed
-abbrev pub DecidesIf : Held → Outcome → Option Decision → EventsState → MemoryState → Type 0
+-- the outcome is decided, or the log has no room for its events, and nothing has changed
+abbrev pub DecidesIf : LayersNow → Outcome → Option Decision → EventsState → MemoryState → Type 0
 DecidesIf old o None events new = (is_full (now_of old).machine.left o.events ≡ true) × (held new ≡ old)
 DecidesIf old o (Some d) events new = Decides old o d.reply d.settlement events new
 

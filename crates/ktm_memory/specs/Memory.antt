@@ -60,8 +60,8 @@ pub record MemoryState : Type 0 where
   pub next_node : ℕ
   pub keys : KeysNow
 
--- the same, but for the room that each layer has
-pub record Held : Type 0 where
+-- what memory holds, but for the room that each layer has
+pub record LayersNow : Type 0 where
   pub is_up : Bool
   pub journal : JournalState
   pub handles : List Handle
@@ -74,7 +74,7 @@ pub record Held : Type 0 where
   pub keys : KeysNow
 
 -- what the layers hold
-abbrev pub held : MemoryState → Held
+abbrev pub held : MemoryState → LayersNow
 held m = record {
   is_up = m.is_up;
   journal = m.journal;
@@ -94,7 +94,7 @@ durable_ids managers = map (λ m. m.id) (filter (λ m. m.is_durable) managers)
 
 -- what was recorded, by what the layers hold: files, keys and resource managers are as they stand now, and so is what transactions that the
 -- log has change and set
-abbrev pub recorded_of : Held → Durable
+abbrev pub recorded_of : LayersNow → Durable
 recorded_of h = record {
   units = h.journal.units;
   image = h.journal.image;
@@ -108,7 +108,7 @@ recorded_of h = record {
 }
 
 -- what is so now, by what the layers hold of it
-abbrev pub now_of : Held → Present
+abbrev pub now_of : LayersNow → Present
 now_of h = record {
   machine = record { is_up = h.is_up; left = h.journal.log.area.len - h.journal.log.end };
   recorded = recorded_of h;
@@ -145,11 +145,11 @@ pub record SettlesWhere (old : MemoryState) (may : Present → Type 0) (outcome 
   pub shows : (x : Present) → Shows old x → may x → Shows new (apply x (outcome x))
   pub slots : (x : Present) → Shows old x → old.tm.slots ≤ new.tm.slots + length (outcome x).sent
 
--- the same, whatever it showed
+-- memory shows what the outcome makes of whatever it showed, with no less room for notifications but for those that are sent
 abbrev pub Settles : MemoryState → (Present → Outcome) → MemoryState → Type 0
 Settles old outcome new = SettlesWhere old (λ x. Unit {0}) outcome new
 
--- the same, where what was recorded is good
+-- memory shows what the outcome makes of what it showed where what was recorded is good, with no less room but for what is sent
 abbrev pub SettlesGood : MemoryState → (Present → Outcome) → MemoryState → Type 0
 SettlesGood old outcome new = SettlesWhere old (λ x. IsGoodState x.recorded) outcome new
 
@@ -157,8 +157,8 @@ SettlesGood old outcome new = SettlesWhere old (λ x. IsGoodState x.recorded) ou
 abbrev pub appended : JournalState → List Event → JournalState
 appended j events = record j { events = j.events + length events; log = record j.log { end = j.log.end + log_size (as_groups events) } }
 
--- the same, its journal with a group more, where there are events
-abbrev pub logged : Held → List Event → Held
+-- what memory holds, its journal with a group more, where there are events
+abbrev pub logged : LayersNow → List Event → LayersNow
 logged h events = record h { journal = appended h.journal events }
 
 -- the files can be changed and opened as a plain call comes to

@@ -1,4 +1,4 @@
--- Which calls may take memory, once their labels are known: where it is wanting, they alone may give up.
+-- Which calls may take memory, once their labels are known: out of memory they alone may give up.
 use Rattle.std.specs.Prelude.{◌&&◌, ◌||◌, not, Bool, true, false, [], ◌∷◌, Option, is_none}
 use Rattle.ktm_base.specs.declared.id.Id.{Id}
 use Rattle.ktm_world.specs.Decide.{events_of}

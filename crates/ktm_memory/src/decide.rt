@@ -120,7 +120,7 @@ impl Memory {
     }
 
     /// A call whose labels are known is decided by its layer. Of what it sends later there is room then for as many notifications
-    /// more as the call grants. Where memory is wanting nothing has changed, and no room is given up.
+    /// more as the call grants. Where it is out of memory nothing has changed, and no room is given up.
     pub fn decide_routed(
         &mut self,
         alloc: Global,

@@ -49,12 +49,6 @@ root = backslash ∷ []
 pub no_root : (text : List ℕ) → false ≡ bytes_eq text root → text ≡ root → ⊥
 no_root text e same = cc (e, (bytes_eq-Decides text root).1 same)
 
-pub yes_root : (text : List ℕ) → true ≡ bytes_eq text root → text ≡ root
-yes_root text e = (bytes_eq-Decides text root).0 (sym e)
-
-pub root_is : (text : List ℕ) → text ≡ root → IsPath [] text
-root_is text e = record { few = omega arith; each = λ k d l. absurd (omega arith); spelled = e }
-
 pub path_is : (text : List ℕ) (names : List (List ℕ)) → parts_of text ≡ Some names → All IsName names → IsPath names text
 path_is text names e h =
     let read = parts_is text names e in

@@ -13,7 +13,7 @@ behind_backslash (c ∷ cs) = if c == backslash then Some cs else None
 abbrev pub cut : List ℕ → List (List ℕ)
 cut text = slice_split (λ c. c == backslash) text
 
--- the same, where there are 32 at most
+-- the parts of a text between its backslashes, where there are 32 at most
 abbrev pub few_parts : List ℕ → Option (List (List ℕ))
 few_parts text = if nat_le (length (cut text)) MOST_PARTS then Some (cut text) else None
 

@@ -7,7 +7,7 @@ use std::marker::Model;
 
 /// Where a text begins and ends in the bytes of its list.
 #[derive(Clone, Copy)]
-struct Place {
+struct Span {
     start: usize,
     end: usize,
 }
@@ -16,7 +16,7 @@ struct Place {
 #[derive(Drop)]
 pub struct PlacedTexts {
     bytes: Vec<u8>,
-    places: Vec<Place>,
+    places: Vec<Span>,
 }
 
 impl Model for PlacedTexts {
@@ -49,7 +49,7 @@ impl PlacedTexts {
         let start = self.bytes.len();
         self.bytes.extend_from_slice(text)?;
         let end = self.bytes.len();
-        self.places.push(Place { start, end })?;
+        self.places.push(Span { start, end })?;
         Ok(())
     }
 

@@ -9,7 +9,7 @@ use Rattle.ktm_links.specs.Items.{Item, item, same_key, value_at, without}
 use Rattle.ktm_links.proofs.offered.Keys.{none_of}
 use Rattle.ktm_links.proofs.offered.Indexes.{AreDistinct-push, AreDistinct-without}
 use Rattle.ktm_notify.specs.declared.note.Note.{Note}
-use Rattle.ktm_notify.specs.declared.queues.Ends.{Ends}
+use Rattle.ktm_notify.specs.declared.queues.QueueEnds.{QueueEnds}
 use Rattle.ktm_notify.specs.declared.queues.Slot.{Slot}
 use Rattle.ktm_notify.specs.Linked.{first_of, last_of, linked, linked_behind, notes_of, or_key, queues_in, AreEndsOf, AreLinked, AreQueues, IsSentTo}
 use Rattle.ktm_notify.specs.Queues.{behind, first_note, queue_at, with_note, without_first}
@@ -19,7 +19,7 @@ use Rattle.ktm_notify.proofs.Marking.{marks-at, place, queue-at, queue-kept, que
 -- ---- sent
 
 -- what the slots are once a notification is sent
-pub record IsSent (xs ys : List (Item Slot)) (count : ℕ) (n : Item Slot) (ends : Ends) : Type 0 where
+pub record IsSent (xs ys : List (Item Slot)) (count : ℕ) (n : Item Slot) (ends : QueueEnds) : Type 0 where
   pub altered : IsAltered xs ys n.value.manager (record { first = Some (unwrap_or ends.first n.key); last = Some n.key })
   pub notes : notes_of ys n.value.manager ≡ notes_of xs n.value.manager ++ n.value.note ∷ []
   pub distinct : AreDistinct ys
@@ -84,7 +84,7 @@ first-or : (o : Option Key) (key : Key) → Some (unwrap_or o key) ≡ or_key o 
 first-or None key = refl
 first-or (Some first) key = refl
 
-pub is-sent : (xs : List (Item Slot)) (count : ℕ) (n : Item Slot) (ends : Ends) → n.value.next ≡ None → n.value.manager < count → value_at xs n.key ≡ None
+pub is-sent : (xs : List (Item Slot)) (count : ℕ) (n : Item Slot) (ends : QueueEnds) → n.value.next ≡ None → n.value.manager < count → value_at xs n.key ≡ None
     → AreEndsOf xs n.value.manager ends → AreDistinct xs → AreLinked xs → AllByRecursion (IsSentTo count) xs → IsSent xs (linked_behind (xs ++ n ∷ []) ends.last n.key) count n ends
 is-sent xs count n ends alone there absent marked distinct are sent =
     let m = n.value.manager in
@@ -120,7 +120,7 @@ abbrev pub new_slot : ℕ → Note → Slot
 new_slot manager note = record { manager = manager; note = note; next = None }
 
 -- as it is sent: behind the last of its queue, whose ends are those that were read
-pub sent-now : (xs : List (Item Slot)) (es : List Ends) (k : ℕ) (key : Key) (note : Note) (ends : Ends) → AreQueues xs es → k < length es → value_at xs key ≡ None
+pub sent-now : (xs : List (Item Slot)) (es : List QueueEnds) (k : ℕ) (key : Key) (note : Note) (ends : QueueEnds) → AreQueues xs es → k < length es → value_at xs key ≡ None
     → ends ≡ slice_index_or es k ends
     → IsSent xs (linked_behind (xs ++ item key (new_slot k note) ∷ []) ends.last key) (length es) (item key (new_slot k note)) ends
 sent-now xs es k key note ends are inside absent is =
@@ -129,14 +129,14 @@ sent-now xs es k key note ends are inside absent is =
 -- ---- taken
 
 -- what the slots are once the first notification of a queue is taken
-pub record IsTaken (xs : List (Item Slot)) (count m : ℕ) (key : Key) (ends : Ends) : Type 0 where
+pub record IsTaken (xs : List (Item Slot)) (count m : ℕ) (key : Key) (ends : QueueEnds) : Type 0 where
   pub altered : IsAltered xs (without xs key) m ends
   pub distinct : AreDistinct (without xs key)
   pub joined : AreLinked (without xs key)
   pub sent : AllByRecursion (IsSentTo count) (without xs key)
 
 -- the ends once the first is taken, with this one behind it, if there is one
-pub record AreBehind (ends rest : Ends) (next : Option Key) : Type 0 where
+pub record AreBehind (ends rest : QueueEnds) (next : Option Key) : Type 0 where
   pub first : rest.first ≡ next
   pub more : is_some next ≡ true → rest.last ≡ ends.last
   pub none : is_some next ≡ false → rest.last ≡ None
@@ -157,7 +157,7 @@ shorter (x ∷ xs) key some =
       | inr differs ↦ rw differs (let rest = shorter xs key (rw differs at some) in omega (arith, rest))
     ]
 
-last-left : (xs : List (Item Slot)) (m : ℕ) (key : Key) (slot : Slot) (ends rest : Ends) → AreDistinct xs → AreEndsOf xs m ends → IsFirst xs m key slot
+last-left : (xs : List (Item Slot)) (m : ℕ) (key : Key) (slot : Slot) (ends rest : QueueEnds) → AreDistinct xs → AreEndsOf xs m ends → IsFirst xs m key slot
     → slot.next ≡ first_of (without xs key) m → AreBehind ends rest slot.next → rest.last ≡ last_of (without xs key) m
 last-left xs m key slot ends rest distinct marked is next behind =
     elim (cases_Bool (is_some slot.next)) [
@@ -165,7 +165,7 @@ last-left xs m key slot ends rest distinct marked is next behind =
       | inr none ↦ behind.none none ∙ sym (last-none (without xs key) m (none_of (first_of (without xs key) m) (rw next at none)))
     ]
 
-pub is-taken : (xs : List (Item Slot)) (count m : ℕ) (key : Key) (slot : Slot) (ends rest : Ends) → AreEndsOf xs m ends → IsFirst xs m key slot → AreDistinct xs → AreLinked xs
+pub is-taken : (xs : List (Item Slot)) (count m : ℕ) (key : Key) (slot : Slot) (ends rest : QueueEnds) → AreEndsOf xs m ends → IsFirst xs m key slot → AreDistinct xs → AreLinked xs
     → AllByRecursion (IsSentTo count) xs → AreBehind ends rest slot.next → IsTaken xs count m key rest
 is-taken xs count m key slot ends rest marked is distinct are sent behind =
     let next = first-without xs m key slot distinct are is in
@@ -196,50 +196,50 @@ notes-none (x ∷ xs) m none =
 -- ---- as it is read
 
 -- the first of a queue whose ends were read
-pub first-read : (xs : List (Item Slot)) (es : List Ends) (k : ℕ) (ends : Ends) (key : Key) (slot : Slot) → AreQueues xs es → k < length es → ends ≡ slice_index_or es k ends
+pub first-read : (xs : List (Item Slot)) (es : List QueueEnds) (k : ℕ) (ends : QueueEnds) (key : Key) (slot : Slot) → AreQueues xs es → k < length es → ends ≡ slice_index_or es k ends
     → ends.first ≡ Some key → value_at xs key ≡ Some slot → IsFirst xs k key slot
 first-read xs es k ends key slot are inside is first there =
     record { there = there; first = sym (marks-at xs es k ends is inside are.marked).first ∙ first }
 
 -- its notification
-pub note-read : (xs : List (Item Slot)) (es : List Ends) (k : ℕ) (ends : Ends) (key : Key) (slot : Slot) → AreQueues xs es → k < length es → ends ≡ slice_index_or es k ends
+pub note-read : (xs : List (Item Slot)) (es : List QueueEnds) (k : ℕ) (ends : QueueEnds) (key : Key) (slot : Slot) → AreQueues xs es → k < length es → ends ≡ slice_index_or es k ends
     → ends.first ≡ Some key → value_at xs key ≡ Some slot → Some slot.note ≡ first_note (queue_at (queues_in xs 0 es) k)
 note-read xs es k ends key slot are inside is first there =
     let at = note-first xs k key slot are.distinct (first-read xs es k ends key slot are inside is first there) in
     rw (queue-at xs es k inside, at) refl
 
--- and none where it has no first
-pub none-read : (xs : List (Item Slot)) (es : List Ends) (k : ℕ) (ends : Ends) → AreQueues xs es → k < length es → ends ≡ slice_index_or es k ends → ends.first ≡ None
+-- a queue whose ends were read has no notification where they have no first
+pub none-read : (xs : List (Item Slot)) (es : List QueueEnds) (k : ℕ) (ends : QueueEnds) → AreQueues xs es → k < length es → ends ≡ slice_index_or es k ends → ends.first ≡ None
     → queue_at (queues_in xs 0 es) k ≡ []
 none-read xs es k ends are inside is none =
     queue-at xs es k inside ∙ notes-none xs k (sym (marks-at xs es k ends is inside are.marked).first ∙ none)
 
 -- the first is among the slots
-pub there-read : (xs : List (Item Slot)) (es : List Ends) (k : ℕ) (ends : Ends) (key : Key) → AreQueues xs es → k < length es → ends ≡ slice_index_or es k ends → ends.first ≡ Some key
+pub there-read : (xs : List (Item Slot)) (es : List QueueEnds) (k : ℕ) (ends : QueueEnds) (key : Key) → AreQueues xs es → k < length es → ends ≡ slice_index_or es k ends → ends.first ≡ Some key
     → is_some (value_at xs key) ≡ true
 there-read xs es k ends key are inside is first = first-there xs k key (sym (marks-at xs es k ends is inside are.marked).first ∙ first)
 
 -- nothing is taken then
-pub nothing-taken : (xs : List (Item Slot)) (es : List Ends) (k : ℕ) (ends : Ends) → AreQueues xs es → k < length es → ends ≡ slice_index_or es k ends → ends.first ≡ None
+pub nothing-taken : (xs : List (Item Slot)) (es : List QueueEnds) (k : ℕ) (ends : QueueEnds) → AreQueues xs es → k < length es → ends ≡ slice_index_or es k ends → ends.first ≡ None
     → queues_in xs 0 es ≡ without_first (queues_in xs 0 es) k
 nothing-taken xs es k ends are inside is none =
     let empty = none-read xs es k ends are inside is none in
     sym (ap (λ q. slice_set (queues_in xs 0 es) k (behind q)) empty ∙ ap (slice_set (queues_in xs 0 es) k) (sym empty) ∙ queue-kept (queues_in xs 0 es) k)
 
 -- as it is taken: the queue's ends are those that were read
-pub taken-now : (xs : List (Item Slot)) (es : List Ends) (k : ℕ) (ends rest : Ends) (key : Key) (slot : Slot) → AreQueues xs es → k < length es → ends ≡ slice_index_or es k ends
+pub taken-now : (xs : List (Item Slot)) (es : List QueueEnds) (k : ℕ) (ends rest : QueueEnds) (key : Key) (slot : Slot) → AreQueues xs es → k < length es → ends ≡ slice_index_or es k ends
     → ends.first ≡ Some key → value_at xs key ≡ Some slot → AreBehind ends rest slot.next → IsTaken xs (length es) k key rest
 taken-now xs es k ends rest key slot are inside is first there behind =
     is-taken xs (length es) k key slot ends rest (marks-at xs es k ends is inside are.marked) (first-read xs es k ends key slot are inside is first there) are.distinct are.joined are.sent
     behind
 
-pub queues-taken : (xs : List (Item Slot)) (es : List Ends) (k : ℕ) (rest : Ends) (key : Key) (slot : Slot) → AreQueues xs es → k < length es → IsFirst xs k key slot
+pub queues-taken : (xs : List (Item Slot)) (es : List QueueEnds) (k : ℕ) (rest : QueueEnds) (key : Key) (slot : Slot) → AreQueues xs es → k < length es → IsFirst xs k key slot
     → IsTaken xs (length es) k key rest → queues_in (without xs key) 0 (slice_set es k rest) ≡ without_first (queues_in xs 0 es) k
 queues-taken xs es k rest key slot are inside first taken =
     let at : queue_at (queues_in xs 0 es) k ≡ slot.note ∷ notes_of (without xs key) k = queue-at xs es k inside ∙ note-first xs k key slot are.distinct first in
     queues-altered xs (without xs key) k 0 k rest es (sym (place k)) taken.altered ∙ sym (ap (λ q. slice_set (queues_in xs 0 es) k (behind q)) at)
 
-pub queues-sent : (xs ys : List (Item Slot)) (es : List Ends) (n : Item Slot) (ends : Ends) → n.value.manager < length es → IsSent xs ys (length es) n ends
+pub queues-sent : (xs ys : List (Item Slot)) (es : List QueueEnds) (n : Item Slot) (ends : QueueEnds) → n.value.manager < length es → IsSent xs ys (length es) n ends
     → queues_in ys 0 (slice_set es n.value.manager (record { first = Some (unwrap_or ends.first n.key); last = Some n.key })) ≡ with_note (queues_in xs 0 es) n.value.manager n.value.note
 queues-sent xs ys es n ends inside sent =
     let m = n.value.manager in

@@ -5,7 +5,7 @@ use Rattle.ktm_links.specs.declared.list.Key.{Key}
 use Rattle.ktm_links.specs.Items.{Item, item, same_key}
 use Rattle.ktm_links.specs.Indexed.{AreDistinct}
 use Rattle.ktm_notify.specs.declared.note.Note.{Note}
-use Rattle.ktm_notify.specs.declared.queues.Ends.{Ends}
+use Rattle.ktm_notify.specs.declared.queues.QueueEnds.{QueueEnds}
 use Rattle.ktm_notify.specs.declared.queues.Slot.{Slot}
 
 -- what waits for a manager
@@ -48,17 +48,17 @@ linked_behind items None next = items
 linked_behind items (Some last) next = linked items last next
 
 -- the ends are those of what waits for a manager
-pub record AreEndsOf (items : List (Item Slot)) (manager : ℕ) (ends : Ends) : Type 0 where
+pub record AreEndsOf (items : List (Item Slot)) (manager : ℕ) (ends : QueueEnds) : Type 0 where
   pub first : ends.first ≡ first_of items manager
   pub last : ends.last ≡ last_of items manager
 
 -- the ends of each queue, from the manager at this place on, are those of what waits for it
-abbrev pub AreEnds : List (Item Slot) → ℕ → List Ends → Type 0
+abbrev pub AreEnds : List (Item Slot) → ℕ → List QueueEnds → Type 0
 AreEnds items i [] = Unit {0}
 AreEnds items i (e ∷ es) = AreEndsOf items i e × AreEnds items (suc i) es
 
 -- the queues, from the manager at this place on
-abbrev pub queues_in : List (Item Slot) → ℕ → List Ends → List (List Note)
+abbrev pub queues_in : List (Item Slot) → ℕ → List QueueEnds → List (List Note)
 queues_in items i [] = []
 queues_in items i (e ∷ es) = notes_of items i ∷ queues_in items (suc i) es
 
@@ -67,7 +67,7 @@ abbrev pub IsSentTo : ℕ → Item Slot → Type 0
 IsSentTo count x = x.value.manager < count
 
 -- the slots stand for the queues
-pub record AreQueues (items : List (Item Slot)) (ends : List Ends) : Type 0 where
+pub record AreQueues (items : List (Item Slot)) (ends : List QueueEnds) : Type 0 where
   pub distinct : AreDistinct items
   pub joined : AreLinked items
   pub marked : AreEnds items 0 ends

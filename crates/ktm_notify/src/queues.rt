@@ -19,7 +19,7 @@ pub(crate) struct Slot {
 
 /// The first and the last notification of a queue.
 #[derive(Clone, Copy)]
-pub(crate) struct Ends {
+pub(crate) struct QueueEnds {
     first: Option<Key>,
     last: Option<Key>,
 }
@@ -28,24 +28,24 @@ pub(crate) struct Ends {
 #[derive(Drop)]
 pub struct Queues {
     slots: List<Slot>,
-    ends: Vec<Ends>,
+    ends: Vec<QueueEnds>,
     // How many notifications are promised room, of what the slots have.
     promised: usize,
 }
 
-impl Ends {
+impl QueueEnds {
     // The ends once the first notification is taken, with this one behind it, if there is one.
-    fn without_first(self, next: Option<Key>) -> Ends
+    fn without_first(self, next: Option<Key>) -> QueueEnds
         ensures first { result.first ≡ next }
         ensures more { is_some next ≡ true → result.last ≡ self.last }
         ensures none { is_some next ≡ false → result.last ≡ None }
     {
         match next {
-            Some(_) => Ends {
+            Some(_) => QueueEnds {
                 first: next,
                 last: self.last,
             },
-            None => Ends {
+            None => QueueEnds {
                 first: None,
                 last: None,
             },
@@ -122,7 +122,7 @@ impl Queues {
         ensures room { self.new.room + 1 ≡ self.old.room }
         ensures slots { KeepsSlots self.old self.new }
     {
-        self.ends.push_reserved(Ends {
+        self.ends.push_reserved(QueueEnds {
             first: None,
             last: None,
         });
@@ -169,7 +169,7 @@ impl Queues {
         });
         let ends = self.ends[manager];
         link(&mut self.slots, ends.last, key);
-        self.ends[manager] = Ends {
+        self.ends[manager] = QueueEnds {
             first: Some(ends.first.unwrap_or(key)),
             last: Some(key),
         };

@@ -1,11 +1,12 @@
-//! The outside of the program: a source over a file, a block device over a file, and a sink over standard output. Each
-//! failure is counted, and nothing else is. No contract can say what a file of the system holds; but what a block asks of
-//! its file, and what it makes of the answers, is proved over any file.
+//! The outside of the program: a source over a file, a block device over a file, a disk over that, and a sink over
+//! standard output. Each failure is counted, and nothing else is. No contract can say what a file of the system holds;
+//! but what a block asks of its file, and what it makes of the answers, is proved over any file.
 #![tactic(auto)]
 
 mod access;
 mod block;
 mod count;
+mod disk;
 mod image;
 mod image_file;
 mod interrupted;
@@ -14,6 +15,7 @@ mod sink;
 mod source;
 
 pub use block::FileBlock;
+pub use disk::{FileDisk, open_disk};
 pub use image_file::ImageFile;
 pub use late_file::LateFile;
 pub use sink::StdSink;

@@ -46,6 +46,6 @@ pub trait PageIo {
     /// After no call it is what it was.
     ghost keeps_none: { (row : Self) → keeps row row };
 
-    /// And one call may follow the other.
+    /// One call may follow another.
     ghost keeps_then: { (first next last : Self) → keeps first next → keeps next last → keeps first last };
 }

@@ -29,7 +29,7 @@ pub record HasFree (each stack : List ℕ) : Type 0 where
   pub once : (j k : ℕ) → j < k → k < length stack → slice_index stack j ≢ slice_index stack k
   pub all : length stack ≡ free_below (slice_index each) (length each)
 
--- so too, with room for all pages, which a u32 numbers
+-- the pages on the stack are those without a holder, each once, with room for all pages, which a u32 numbers
 pub record AreSound (each stack : List ℕ) (room : ℕ) : Type 0 where
   pub free : HasFree each stack
   pub fits : length each ≤ room

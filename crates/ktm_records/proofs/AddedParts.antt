@@ -142,7 +142,7 @@ module _ (s : Durable) (id : Id) (part : Part) where
   pub pushed-awaits : (done : DonePart) → is_part_of done part ≡ true → awaits done (pushed r part).parts ≡ true
   pushed-awaits done is = list_any-from (λ (p : RecordedPart). is_part_of done p.part && not p.is_done) (pushed r part).parts _ (IsIn-right _ r.parts _ (inl refl)) (and_from _ _ is refl)
 
-  -- and the parts that it had
+  -- it has the parts that it had
   pub pushed-still : (done : DonePart) → awaits done r.parts ≡ true → awaits done (pushed r part).parts ≡ true
   pushed-still done is =
       let p = list_any-at (λ (p : RecordedPart). is_part_of done p.part && not p.is_done) r.parts is in

@@ -105,7 +105,7 @@ agreed-only_reply x reply agreed = agreed-reply x (only_reply x reply) agreed re
 abbrev pub IsAgreed : Present → Type 0
 IsAgreed x = IsSoundCourse x × Agreed x
 
--- and stays so
+-- a machine stays sound and agrees after an outcome
 abbrev pub StaysAgreed : Present → Outcome → Type 0
 StaysAgreed x o = StaysSound x o × Agreed (apply x o)
 

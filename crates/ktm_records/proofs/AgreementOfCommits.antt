@@ -48,7 +48,7 @@ use Rattle.ktm_types.specs.declared.step.Step.{Step}
 abbrev settled_part : Bool → Bool → RecordedPart → RecordedPart
 settled_part a b p = mark_if b DonePart.Keys (mark_if a DonePart.Files (emptied_part p))
 
--- so a part is not done exactly where it is an enlistment's
+-- a settled part is not done exactly where it is an enlistment's
 open-each : (a b d : Bool) (q : Part) → d ≡ false → AreDone a b q → not (settled_part a b (record { is_done = d; part = q })).is_done ≡ is_enlistment_part (settled_part a b (record { is_done = d; part = q }))
 open-each a b true q undone are = absurd (true≢false undone)
 open-each true true false (EnlistmentPart e m i) undone are = refl
@@ -150,7 +150,7 @@ works-keys c committed = go c.changes c.settings
 
 -- ---- after the decision
 
--- so it does where it has committed something before
+-- the work of a course commits its changes and settings where the course has committed something before
 pub works-done : (x : Present) (c : Course) → ((committed_with (committed_now x) (c.works ++ work_of c)).tree ≡ changed_all (committed_with (committed_now x) c.works).tree c.changes)
     × ((committed_with (committed_now x) (c.works ++ work_of c)).store ≡ stored_all (committed_with (committed_now x) c.works).store c.settings)
 works-done x c = let at-end = fold-append with_work (committed_now x) c.works (work_of c) in (

@@ -56,7 +56,7 @@ back-same id p e = go p.part
     go (Changes cs) none = absurd none
     go (Settings ss) none = absurd none
 
--- and takes part, prepared and not finished
+-- an enlistment that is brought back from a part takes part, prepared and not finished
 back-parts : (id : Id) (p : RecordedPart) (e : Enlistment) → IsIn e (enlistment_back id p) → (takes_part id e ≡ true) × (e.is_prepared ≡ true) × (e.is_finished ≡ false)
 back-parts id p e = go p.part
   where

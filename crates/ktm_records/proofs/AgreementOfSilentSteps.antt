@@ -96,7 +96,7 @@ superior-alike id step alike (e ∷ es) =
 pub enlistments-alike : (c : Course) (test : Enlistment → Bool) (f : Enlistment → Enlistment) → ((e : Enlistment) → IsBackAlike e (f e)) → course_enlistments (record c { enlistments = with_enlistments test f c.enlistments }) ≡ course_enlistments c
 enlistments-alike c test f alike = ap by_rising_id (kept-alike c (λ e. if test e then f e else e) (alike-stepped test f alike) c.enlistments)
 
--- and the same of it
+-- the log has to have the same of a transaction, where a step leaves its enlistments as they would be brought back
 pub in-alike : (c : Course) (step : Enlistment → Enlistment) (sent : List Sent) → ((e : Enlistment) → IsBackAlike e (step e)) → (stage : Option Stage) → course_in (record c { enlistments = map step c.enlistments; sent = sent }) stage ≡ course_in c stage
 in-alike c step sent alike None = refl
 in-alike c step sent alike (Some stage) = ap (λ s. filter stays (s ∷ [])) (λ i. record {

@@ -49,12 +49,12 @@ written_by-more (o ∷ os) p id other = elim (cases_Bool (is_of id o.transaction
   | inr not' ↦ rw not' (written_by-more os p id other)
 ]
 
--- nor does a plain one, nor none
+-- a plain open file, or none, adds nothing to what a transaction may write
 pub written_by-opened : (table : FileTable) (opened : Option OpenFile) (id : Id) → ((p : OpenFile) → opened ≡ Some p → p.transaction ≡ None) → written_by (with_open table opened).opens id ≡ written_by table.opens id
 written_by-opened table None id plain = refl
 written_by-opened table (Some p) id plain = written_by-more table.opens p id (ap (is_of id) (plain p refl))
 
--- nor does it change what transactions changed
+-- an open file changes nothing of what transactions changed
 pub own-opened : (table : FileTable) (opened : Option OpenFile) → (with_open table opened).own ≡ table.own
 own-opened table None = refl
 own-opened table (Some p) = refl

@@ -53,7 +53,7 @@ apply-commits s b can = go b.is_recorded refl
 abbrev HasFiles : Durable → Basis → Bool → Type 0
 HasFiles s b ready = has_changes b.changes ≡ true → (if ready then awaits DonePart.Files (recorded_or_new s.transactions b.id).parts else part_applies s b.id (Changes b.changes)) ≡ true
 
--- and so its keys
+-- its keys are ready in the log, or apply
 abbrev HasKeys : Durable → Basis → Bool → Type 0
 HasKeys s b ready = has_settings b.settings ≡ true → (if ready then awaits DonePart.Keys (recorded_or_new s.transactions b.id).parts else part_applies s b.id (Settings b.settings)) ≡ true
 

@@ -63,7 +63,7 @@ pub record Settles (c : Course) (r : Recorded) : Type 0 where
   pub settings : settings_of r ≡ []
   pub undone : (p : RecordedPart) → IsIn p r.parts → not p.is_done ≡ is_enlistment_part p
 
--- and it has it while an enlistment of it has not finished
+-- the log has a decided transaction while an enlistment of it has not finished
 pub settled-summaries : (c : Course) (r : Recorded) → Settles c r → map summary_of (if_there (while_open r)) ≡ course_in c (Some Stage.Decided)
 settled-summaries c r settles = ap (λ b. map summary_of (if_there (if b then Some r else None))) still-open ∙ go (not (length (course_enlistments c) == 0))
   where

@@ -146,7 +146,7 @@ among-with {ts} {id} {before} {o} {behind} among r same = record {
         let before' : is_before u.id r.id ≡ true = subst (λ id. is_before u.id id ≡ true) (sym same) (earlier u (inl refl)) in
         rw (earlier-other u.id r.id before', before-not u.id r.id before') (ap (λ vs. u ∷ vs) (go us (λ v there. earlier v (inr there))))
 
--- and none
+-- none in its place, once the one with this Id is taken out
 pub among-without : {ts : List Recorded} {id : Id} {before : List Recorded} {o : Option Recorded} {behind : List Recorded} → Among ts id before o behind → Among (without_recorded ts id) id before None behind
 among-without {ts} {id} {before} {o} {behind} among = record {
   all = ap (λ us. without_recorded us id) among.all ∙ go before among.earlier;

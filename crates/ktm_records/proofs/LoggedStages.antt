@@ -173,7 +173,7 @@ module _ (x : Present) (kept : IsKept x) (t : Transaction) (there : IsIn t x.tra
         | inr now ↦ eqb-true _ _ now
       ]
 
-      -- and new to the log, where it is not prepared
+      -- an enlistment of it is new to the log, where it is a superior's or not prepared
       pub new-part : (e : Enlistment) → IsIn e x.transactions.enlistments → same_id e.transaction t.id ≡ true → is_durable_at x.managers e.manager ≡ true → (is_superior e ≡ true) ⊎ (e.is_prepared ≡ false)
           → is_new_enlistment x.recorded e.id e.manager e.information ≡ true
       new-part e in_es own durable how = new-in-record x kept.sound.course kept.agrees e in_es (boot-of e in_es own) durable (λ r in_record its known. elim known [

@@ -51,7 +51,7 @@ module _ (Files : List Change → Type 0) (Keys : OwnSettings → Type 0) where
   pub own-led : (input : PhaseInput) (c : Course) → c.events ≡ [] → Files c.changes → Keys c.settings → AllByRecursion IsOwnEvent (led input c).events
   own-led input c none files keys = all-led IsOwnEvent input c none (bare-facts IsOwnEvent (basis c) bare-own (files, files) (keys, keys))
 
--- and they are few
+-- a row records six events at most
 pub few-led : (input : PhaseInput) (c : Course) → c.events ≡ [] → length (led input c).events ≤ 6
 few-led input c none = subst (λ es. length es ≤ 6) (sym (led-events input c none)) (few (row (seen c) input) (each-row-passes (λ steps. nat_le (records steps) 6) refl (seen c) input))
   where

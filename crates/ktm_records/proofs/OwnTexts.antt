@@ -60,7 +60,7 @@ texts-without_own (o ∷ os) id all = elim (cases_Bool (same_id o.transaction id
   | inr other ↦ rw other (all.0, texts-without_own os id all.1)
 ]
 
--- and so has each transaction
+-- what each transaction has set has texts as keys
 pub texts-own_settings : (own : List Own) (id : Id) → Texts own → HaveTextKeys (own_settings own id)
 texts-own_settings [] id all = texts-none
 texts-own_settings (o ∷ os) id all = elim (cases_Bool (same_id o.transaction id)) [

@@ -61,7 +61,7 @@ module _ (x : Present) (sound : IsSoundCourse x) (agrees : Agrees x) (t : Transa
         sym now.is ∙ (λ i. summary_now x (one i) now.stage) ∙ ap (summary_now x t) (same_Some now.stage stage (sym now.stands ∙ ap (λ (u : Transaction). stage_in u.phase) one ∙ stands)),
       )
 
-  -- and what the log has to have of it was recorded
+  -- what the log has to have of the transaction was recorded
   pub recalled-of : (s : Summary) → IsIn s (summaries x t) → (r : Recorded) × (summary_of r ≡ s) × IsIn r x.recorded.transactions
   recalled-of s has = IsIn-unmap summary_of s x.recorded.transactions (subst (IsIn s) (sym agrees.transactions) (IsIn-flat_map (summaries x) x.transactions.items t s there has))
 

@@ -25,11 +25,11 @@ pub record AgreeingLaw : Type 0 where
       → Agrees (apply x (decide_tick x ms)) × (are_carried_out (apply x (decide_tick x ms)).recorded ≡ true)
   -- by a restart of a good state
   pub restarts : (base : Durable) (room : ℕ) (log : List Group) → IsGoodState (stand base log) → Agrees (present (opened base room log)) × (are_carried_out (opened base room log).recorded ≡ true)
-  -- so it does in worlds, by a command
+  -- in worlds, by a command
   pub worlds : (w : World) (process : Pid) (command : Command) → FirstOpensLieWithin w → IsSound (present w) → IsGoodState w.recorded → are_carried_out w.recorded ≡ true → Agrees (present w)
       → Agrees (present (after w process command)) × (are_carried_out (after w process command).recorded ≡ true)
-  -- by the passing of time
+  -- in worlds, by the passing of time
   pub later_worlds : (w : World) (ms : ℕ) → FirstOpensLieWithin w → IsSoundCourse (present w) → are_carried_out w.recorded ≡ true → Agrees (present w)
       → Agrees (present (extend w (decide_tick (present w) ms))) × (are_carried_out (extend w (decide_tick (present w) ms)).recorded ≡ true)
-  -- and by the loss of power
+  -- in worlds, by the loss of power
   pub falls : (w : World) (power : Power) → Agrees (present w) → Agrees (present (record w { power = power }))

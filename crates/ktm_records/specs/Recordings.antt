@@ -21,5 +21,5 @@ pub record RecordingsLaw : Type 0 where
   -- its settings, if it has any
   pub settings : (x : Present) (t : Transaction) → IsSoundKeys x → Agrees x → has_own_settings (record { transaction = t.id; settings = own_settings x.keys.own t.id }) ≡ true
       → (are_good_settings (own_settings x.keys.own t.id) ≡ true) × (settings_apply x.recorded (Some t.id) (own_settings x.keys.own t.id) ≡ true)
-  -- and what a plain call commits
+  -- what a plain call commits
   pub plain : (x : Present) (change : Change) → IsSoundFiles x → Agrees x → Lands x change → recorded_changes_apply x.recorded None (change ∷ []) ≡ true

@@ -50,15 +50,15 @@ pub record SpellingLaw : Type 0 where
   pub ticks : (x : Present) (ms : ℕ) → IsKept x → AreTexts x → x.recorded.units ≤ MOST_UNITS → AreSpelled (decide_tick x ms).events
   -- the keys stay texts by a command
   pub stay : (x : Present) (process : Pid) (command : Command) → IsCommand command → AreTexts x → AreTexts (apply x (decide x process command))
-  -- and by the passing of time
+  -- the keys stay texts by the passing of time
   pub stay_later : (x : Present) (ms : ℕ) → AreTexts x → AreTexts (apply x (decide_tick x ms))
-  -- and are texts after a restart
+  -- the keys are texts after a restart
   pub restarts : (base : Durable) (room : ℕ) (log : List Group) → AreRecordedTexts (stand base log) → AreTexts (present (opened base room log))
-  -- those that are recorded stay texts by each event that records texts
+  -- the keys that are recorded stay texts by each event that records texts
   pub events : (s : Durable) (event : Event) → AreRecordedTexts s → HaveTextKeys (settings_of_event event) → AreRecordedTexts (after_event s event)
-  -- as each event does that stands in bytes
+  -- each event that stands in bytes records texts
   pub grammar : (event : Event) (bytes : List ℕ) → IsEventOf event bytes → HaveTextKeys (settings_of_event event)
-  -- and so they stay texts by each group that does
+  -- the keys that are recorded stay texts by each group that stands in bytes
   pub groups : (s : Durable) (group : Group) (bytes : List ℕ) → AreRecordedTexts s → IsGroupOf group bytes → AreRecordedTexts (after_events s group)
   -- what a restart of a good state records by itself has bytes
   pub own_groups : (s : Durable) → IsGoodState s → AreSpelled (own_group s)

@@ -189,7 +189,7 @@ kind_no_value SinglePhaseCommit rest = (refl, refl, refl)
 kind_no_value CommitRequest rest = (refl, refl, refl)
 kind_no_value LastRecover rest = (refl, refl, refl)
 
--- so what is read otherwise does not begin with one
+-- a text that is read otherwise does not begin with the name of a kind
 pub no_kind : {X : Type 0} (read : List ℕ → Option X) (text : List ℕ) (x : X) → read text ≡ Some x → ((kind : Notify) (rest : List ℕ) → read (kind_name kind ++ rest) ≡ None)
     → kind_named (word_at text).0 ≡ None
 no_kind read text x e never = nothing (kind_named (word_at text).0) (λ kind f.

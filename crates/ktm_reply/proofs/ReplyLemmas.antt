@@ -218,7 +218,7 @@ size_place : (digits : Option (List ℕ)) (size : ℕ) → place (size_or_conten
 size_place None size = omega arith
 size_place (Some bytes) size = omega arith
 
--- it is the same form or an earlier one
+-- the first form is the same one or an earlier one
 first_place : (x : Reply) → place (first x) ≤ place x
 first_place (Refused refusal) = omega arith
 first_place Done = omega arith
@@ -240,7 +240,7 @@ size_kept : (digits : Option (List ℕ)) (size : ℕ) → place (Size size) ≤ 
 size_kept None size h = refl
 size_kept (Some bytes) size h = absurd (omega arith)
 
--- and where it is no earlier one it is the reply itself
+-- where the first form is no earlier one it is the reply itself
 first_kept : (x : Reply) → place x ≤ place (first x) → first x ≡ x
 first_kept (Refused refusal) h = refl
 first_kept Done h = refl

@@ -42,10 +42,6 @@ spaced_is text t rest e = bind_some _ (after_word (codes " ") text) (t, rest) e 
     let read = quoted_is mark t rest g in
     (bytes_are t read.0, space ∙ ap (λ (xs : List ℕ). codes " " ++ xs) read.1))
 
-spaced_again : (t rest : List ℕ) → IsText t → spaced_at (spaced t ++ rest) ≡ Some (t, rest)
-unfolding spaced_at
-spaced_again t rest h = rw (after_word_again (codes " ") (quoted t ++ rest)) (quoted_again t rest (bytes_again t h))
-
 -- what follows a text is shorter
 pub shorter : (text t rest : List ℕ) → spaced_at text ≡ Some (t, rest) → length rest < length text
 shorter text t rest e =

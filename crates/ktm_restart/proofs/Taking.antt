@@ -86,7 +86,7 @@ pub event-tested : (s : Durable) (event : Event) → fact_applies s event ≡ tr
 event-tested s event fact left =
     sym (ap (λ b. b && is_within_limits (fact_of s event) && nat_lt (s.events + 1) (2 ^ 63)) fact ∙ ap (λ b. is_within_limits (fact_of s event) && b) left ∙ and-true (is_within_limits (fact_of s event)))
 
--- and do not depend on how many events there were
+-- the limits do not depend on how many events there were
 pub limits-counted : (s : Durable) (events : ℕ) → is_within_limits (record s { events = events }) ≡ is_within_limits s
 unfolding is_within_limits
 limits-counted s events = refl

@@ -146,7 +146,7 @@ impl Durable {
     }
 
     /// Applies a group of events. It answers false where the group does not apply; the state is then of no use, as it is where
-    /// memory is wanted. A boot wants none.
+    /// memory runs out. A boot takes none.
     pub fn apply_group(&mut self, events: Vec<Event>) -> Result<bool, NoMemory>
         ensures applies { IfOk result (λ applied. applied ≡ events_apply self.old events.items) }
         ensures after { result ≡ Ok true → self.new ≡ after_events self.old events.items }

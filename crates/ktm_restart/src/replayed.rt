@@ -1,15 +1,14 @@
 // The durable state in memory while a log is read, and what each event makes of it.
-ghost use Rattle.std.specs.Prelude.{◌≡◌, ◌&&◌, ◌+◌, ◌^◌, ◌<◌, ◌≤◌, [], ◌∷◌, Ok, None, Some, not, false, true, IfOk, IsOk, OnErr, OnOk, is_none, if◌then◌else◌, length, nat_eq, nat_le, nat_lt, sum_by};
-ghost use Rattle.std.specs.List.{flat_map, list_all, list_any};
+ghost use Rattle.std.specs.Prelude.{◌≡◌, ◌&&◌, ◌+◌, ◌^◌, ◌<◌, ◌≤◌, [], ◌∷◌, Ok, None, Some, not, false, true, IfOk, IsOk, OnOk, is_none, length, nat_eq, nat_le, nat_lt, sum_by};
+ghost use Rattle.std.specs.List.{flat_map, list_all};
 ghost use Rattle.ktm_types.specs.declared.event.Event.{Event as Recording};
 ghost use Rattle.ktm_types.specs.declared.event.Event.TheVariants.{Boot, MadeRm, Plain, Ready, Single, Held, Decide, Undo, Done};
 ghost use Rattle.ktm_base.specs.declared.id.Id.{Id as Number};
 ghost use Rattle.ktm_base.specs.declared.limits.TheConstants.{MOST_LIVE};
-ghost use Rattle.ktm_world.specs.Changes.{changes_apply, changed_all, has_changes};
-ghost use Rattle.ktm_world.specs.Durable.{after_event, after_events, are_recorded_changes, empty_state, event_applies, events_apply, fact_of, has_changes_part, has_settings_part, has_undone, hold_recorded, is_new_enlistment, is_new_in, is_ready, is_within_limits, may_get_ready, next_after_all, part_applies, recorded_at, recorded_changes_apply, recorded_or_new, settings_apply, stage_passes, with_committed, with_part};
+ghost use Rattle.ktm_world.specs.Changes.{changes_apply};
+ghost use Rattle.ktm_world.specs.Durable.{after_event, after_events, are_recorded_changes, empty_state, event_applies, events_apply, fact_of, has_changes_part, has_settings_part, has_undone, hold_recorded, is_new_enlistment, is_new_in, is_ready, is_within_limits, may_get_ready, part_applies, recorded_at, recorded_changes_apply, recorded_or_new, settings_apply, stage_passes, with_committed, with_part};
 ghost use Rattle.ktm_world.specs.Holds.{holds_by};
-ghost use Rattle.ktm_world.specs.Keys.{are_good_settings, stored_all};
-ghost use Rattle.ktm_world.specs.Transactions.{same_id};
+ghost use Rattle.ktm_world.specs.Keys.{are_good_settings};
 ghost use Rattle.ktm_world.specs.Tree.{IsWellFormed, bytes_or_none, units_of};
 ghost use Rattle.ktm_world.specs.World.{own_events, own_group};
 ghost use Rattle.ktm_restart.specs.Replayed.{CanChange, CanCommit, CanTake, CanTakePart, Takes, passes_units};
@@ -335,7 +334,7 @@ impl Replayed {
         }
     }
 
-    // Makes changes that meet nothing in the same way.
+    // Makes changes that meet nothing, if they apply. Where they are not made, the files are of no use, and what waits is forgotten.
     fn make_all(&mut self, changes: Vec<Change>) -> Result<bool, NoMemory>
         requires { changes_apply self.old.state.tree changes.items ≡ true → list_all (is_new_in self.old.state.tree) changes.items ≡ true
             → AreSpared self.old.state.tree self.old.state.transactions changes.items }

@@ -81,7 +81,7 @@ module _ (x : Present) (process : Pid) (up : x.machine.is_up ≡ true) (label : 
   unfolding commit_transaction
   commit_comes passed = commit_routed x process up label t named passed
 
-  -- and one that is rolled back
+  -- a transaction that is rolled back
   pub rollback_comes : first_refusal (rollback_transaction_tests (Some t)) ≡ None → with_room x process (RollbackTransaction label) ≡ outcome_of x process (Course t None PhaseInput.Rollback)
   unfolding rollback_transaction
   rollback_comes passed = rollback_routed x process up label t named passed

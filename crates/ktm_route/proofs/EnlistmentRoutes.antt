@@ -13,7 +13,7 @@ use Rattle.ktm_base.specs.declared.refusal.Refusal.{Refusal}
 use Rattle.ktm_base.specs.declared.refusal.Refusal.TheVariants.{EnlistmentNotFound, EnlistmentNotSuperior, InvalidHandle, InvalidParameter, TransactionRequestNotValid, TransactionSuperiorExists}
 use Rattle.ktm_types.specs.Values.{IsCommand}
 use Rattle.ktm_types.specs.declared.command.Command.{Command}
-use Rattle.ktm_types.specs.declared.command.Command.TheVariants.{CommitComplete, CreateEnlistment, GetEnlistmentRecoveryInformation, OpenEnlistment, PrePrepareComplete, PrepareComplete, ReadOnlyEnlistment, RecoverEnlistment, RollbackComplete, RollbackEnlistment, SetEnlistmentRecoveryInformation, SinglePhaseReject}
+use Rattle.ktm_types.specs.declared.command.Command.TheVariants.{CommitComplete, CreateEnlistment, GetEnlistmentRecoveryInformation, OpenEnlistment, PrePrepareComplete, PrepareComplete, RecoverEnlistment, RollbackComplete, SetEnlistmentRecoveryInformation, SinglePhaseReject}
 use Rattle.ktm_types.specs.declared.input.PhaseInput.{PhaseInput}
 use Rattle.ktm_types.specs.declared.input.Seen.{Seen}
 use Rattle.ktm_types.specs.declared.object.Object.TheVariants.{Enlistment as EnlistmentObject}
@@ -28,15 +28,15 @@ use Rattle.ktm_types.specs.declared.step.Owed.{Owed}
 use Rattle.ktm_event.specs.Spelling.{IsSpellableEvent}
 use Rattle.ktm_world.specs.Decide.{command_effect, command_tests, decide, with_room}
 use Rattle.ktm_world.specs.Durable.{is_before}
-use Rattle.ktm_world.specs.Enlistments.{Enlistment, Manager, enlistment_at, is_durable_at, is_live_enlistment, is_live_in, is_superior, manager_at, owes_commit, owes_pre_prepare, owes_prepare, owes_rollback}
-use Rattle.ktm_world.specs.Labels.{enlistment_named, holds_of, is_bound, manager_named, transaction_named, transaction_tests}
+use Rattle.ktm_world.specs.Enlistments.{Enlistment, Manager, enlistment_at, is_durable_at, is_live_enlistment, is_live_in, is_superior, manager_at}
+use Rattle.ktm_world.specs.Labels.{holds_of, is_bound, manager_named, transaction_named, transaction_tests}
 use Rattle.ktm_world.specs.OneOutcome.{told_outcome}
 use Rattle.ktm_world.specs.Outcome.{Outcome, first_refusal, is_full, only_reply, refuse_or, within_log}
 use Rattle.ktm_world.specs.Phases.{Course as Going}
 use Rattle.ktm_world.specs.Present.{Present}
 use Rattle.ktm_world.specs.Rows.{commit_completes, recovers, row}
 use Rattle.ktm_world.specs.Steps.{led, seen}
-use Rattle.ktm_world.specs.TransactionCalls.{arrived, bound_test, course_of, create_enlistment, create_enlistment_tests, enlistment_tests, enlistment_with, get_information, handle_test, has_superior, is_superior_kind, may_reject_one_phase, may_roll_back_by, may_set_information as may_set_information_now, may_vote, no_enlistment_left, open_enlistment, open_enlistment_tests, open_to_enlistment, opened_object, quota_test, set_information, set_information_tests}
+use Rattle.ktm_world.specs.TransactionCalls.{arrived, bound_test, course_of, create_enlistment, create_enlistment_tests, enlistment_tests, enlistment_with, get_information, handle_test, has_superior, is_superior_kind, may_set_information as may_set_information_now, no_enlistment_left, open_enlistment, open_enlistment_tests, open_to_enlistment, opened_object, quota_test, set_information, set_information_tests}
 use Rattle.ktm_world.specs.Transactions.{is_undecided, same_id, transaction_at}
 use Rattle.txf_laws.specs.Elements.{IsIn, each_pair}
 use Rattle.txf_laws.proofs.offered.Elements.{list_any-at, list_any-from}
@@ -253,7 +253,7 @@ finished_commits : (phase : Phase) → list_any is_commit (commit_completes phas
 finished_commits SinglePhase = refl
 finished_commits _ = refl
 
--- and so does one that recovers
+-- an enlistment that recovers commits nothing
 recovered_commits : (phase : Phase) → list_any is_commit (recovers phase) ≡ false
 recovered_commits InDoubt = refl
 recovered_commits Committing = refl
@@ -280,12 +280,12 @@ unknown_undecided t = go t.outcome
 
 -- ---- what comes from an enlistment
 
--- what comes where it is allowed is that
+-- what comes where an input is allowed is that input
 allowed_input : (b : Bool) (a input : PhaseInput) → if_allowed b a ≡ Ok input → input ≡ a
 allowed_input true a input same = cc
 allowed_input false a input same = absurd (cc)
 
--- and so it is where only a superior may call
+-- what comes where an input is allowed to a superior alone is that input
 commanded_input : (above b : Bool) (a input : PhaseInput) → (if above then if_allowed b a else Err EnlistmentNotSuperior) ≡ Ok input → input ≡ a
 commanded_input true b a input same = allowed_input b a input same
 commanded_input false b a input same = absurd (cc)
@@ -320,11 +320,11 @@ module _ (x : Present) (process : Pid) (up : x.machine.is_up ≡ true) where
     abbrev sound : IsSoundCourse x
     sound = (kept x standing).sound.course
 
-    -- it is found by its Id
+    -- the enlistment is found by its Id
     found : enlistment_at es e.id ≡ Some e
     found = named_law.enlistments x process label e names.enlistment
 
-    -- and its transaction by its own
+    -- the transaction is found by its Id
     at : transaction_at x.transactions.items t.id ≡ Some t
     at = found_again x.transactions.items e.transaction t names.transaction
 
@@ -332,7 +332,7 @@ module _ (x : Present) (process : Pid) (up : x.machine.is_up ≡ true) where
     is_in : IsIn t x.transactions.items
     is_in = (transaction_at-found x.transactions.items e.transaction t names.transaction).0
 
-    -- and the one that the enlistment names
+    -- the transaction is the one that the enlistment names
     own : e.transaction ≡ t.id
     own = sym (transaction_at-found x.transactions.items e.transaction t names.transaction).1
 
@@ -354,7 +354,7 @@ module _ (x : Present) (process : Pid) (up : x.machine.is_up ≡ true) where
       passes : first_refusal (command_tests x process command) ≡ None
       passes = comes.refused ∙ ap refusal_in came
 
-      -- so it leads the transaction
+      -- the command leads the transaction
       leads : with_room x process command ≡ arrived x going (reply_to input going)
       leads =
           comes_by x process command up None passes ∙ comes.leads input came
@@ -383,7 +383,7 @@ module _ (x : Present) (process : Pid) (up : x.machine.is_up ≡ true) where
       goes = (leads, ready, takes_by x process command up None (ap first_refusal plainly.early ∙ passes) ∙ and-true (effect_takes_memory x process command) ∙ plainly.takes)
 
     module _ (calls : CallsLaw) (coming : ComingLaw) (files : FilesLaw) (spelled : SpelledLaw) where
-      -- a reply is plainly one
+      -- a reply goes by the tests of its command, and takes no memory
       reply_plainly : (vote : Vote) → IsPlainly x process (reply_call vote label) (input_of e vote)
       reply_plainly Vote.PrePrepareComplete = record { early = refl; takes = refl; unasked = λ same. absurd (cc) }
       reply_plainly Vote.PrepareComplete = record { early = refl; takes = refl; unasked = λ same. absurd (cc) }
@@ -400,28 +400,28 @@ module _ (x : Present) (process : Pid) (up : x.machine.is_up ≡ true) where
           (coming.replies t.phase (told_outcome t.outcome) e vote input (known-in t.phase t (stands-now x t (Some e) sound is_in).outcome) owed came)
           (subst (IsPlainly x process (reply_call vote label)) (sym (allowed_input (allows t.phase e vote) (input_of e vote) input came)) (reply_plainly vote))
 
-      -- and one that is not is refused
+      -- a reply that is not allowed is refused
       pub reply_refused : (vote : Vote) (refusal : Refusal) → replied t.phase e vote ≡ Err refusal → with_room x process (reply_call vote label) ≡ only_reply x (Refused refusal)
       reply_refused vote refusal is = refused_by (reply_call vote label) (replied t.phase e vote) refusal (calls.replies x process label e t vote names) is
 
-      -- so is a call of a superior
+      -- a call of a superior goes by the tests of its command, and takes no memory
       command_plainly : (call : SuperiorCall) → IsPlainly x process (superior_call call label) (input_by call)
       command_plainly SuperiorCall.PrePrepare = record { early = refl; takes = refl; unasked = λ same. absurd (cc) }
       command_plainly SuperiorCall.Prepare = record { early = refl; takes = refl; unasked = λ same. absurd (cc) }
       command_plainly SuperiorCall.Commit = record { early = refl; takes = refl; unasked = λ same. absurd (cc) }
 
-      -- one that is allowed is the course of its transaction
+      -- a call of a superior that is allowed is the course of its transaction
       pub commands : (call : SuperiorCall) (input : PhaseInput) → IsCommand (superior_call call label) → commanded t.phase e call ≡ Ok input → IsRouted x process (superior_call call label) (Course t (Some e.id) input)
       commands call input is came =
           goes files spelled (superior_call call label) is input (commanded t.phase e call) (calls.superiors x process label e t call names) came
           (coming.superiors t.phase (told_outcome t.outcome) e call input (known-in t.phase t (stands-now x t (Some e) sound is_in).outcome) came)
           (subst (IsPlainly x process (superior_call call label)) (sym (commanded_input (is_superior e) (lets t.phase call) (input_by call) input came)) (command_plainly call))
 
-      -- and one that is not is refused
+      -- a call of a superior that is not allowed is refused
       pub command_refused : (call : SuperiorCall) (refusal : Refusal) → commanded t.phase e call ≡ Err refusal → with_room x process (superior_call call label) ≡ only_reply x (Refused refusal)
       command_refused call refusal is = refused_by (superior_call call label) (commanded t.phase e call) refusal (calls.superiors x process label e t call names) is
 
-      -- so is a recovery
+      -- a recovery goes by the tests of its command, and takes no memory
       recovery_plainly : (above : Bool) → IsPlainly x process (RecoverEnlistment label) (if above then PhaseInput.RecoverSuperior else PhaseInput.Recover)
       recovery_plainly true = record { early = refl; takes = refl; unasked = λ same. absurd (cc) }
       recovery_plainly false = record { early = refl; takes = refl; unasked = λ same. absurd (cc) }
@@ -433,7 +433,7 @@ module _ (x : Present) (process : Pid) (up : x.machine.is_up ≡ true) where
           (coming.recoveries t.phase (told_outcome t.outcome) e input (known-in t.phase t (stands-now x t (Some e) sound is_in).outcome) came)
           (subst (IsPlainly x process (RecoverEnlistment label)) (sym (allowed_input (may_recover_in t.phase e) (if is_superior e then PhaseInput.RecoverSuperior else PhaseInput.Recover) input came)) (recovery_plainly (is_superior e)))
 
-      -- and one that is not is refused
+      -- a recovery that is not allowed is refused
       pub recovery_refused : (refusal : Refusal) → recovered t.phase e ≡ Err refusal → with_room x process (RecoverEnlistment label) ≡ only_reply x (Refused refusal)
       recovery_refused refusal is = refused_by (RecoverEnlistment label) (recovered t.phase e) refusal (calls.recoveries x process label e t names) is
 

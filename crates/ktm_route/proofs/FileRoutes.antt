@@ -121,7 +121,7 @@ module _ (x : Present) (process : Pid) (up : x.machine.is_up ≡ true) (law : Fi
   unbound : (label : Label) → object_at x.handles process label ≡ None → first_refusal (bound_test x process label ∷ []) ≡ None
   unbound label free = ap (λ (o : Option Object). cond (is_some o) (Some InvalidParameter) None) free
 
-  -- or on one that is bound
+  -- the test on the label of a file that is to be opened, which is bound
   bound_first : (label : Label) (refusal : Refusal) → (refusal ≡ InvalidParameter) × (is_bound x process label ≡ true) → first_refusal (bound_test x process label ∷ []) ≡ Some refusal
   bound_first label refusal (is, bound) = ap (λ b. cond b (Some InvalidParameter) None) bound ∙ ap Some (sym is)
 

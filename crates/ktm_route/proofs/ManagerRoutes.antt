@@ -42,7 +42,7 @@ module _ (x : Present) (process : Pid) (command : Command) (up : x.machine.is_up
   pub comes_by : first_refusal (command_tests x process command) ≡ r → with_room x process command ≡ refuse_or x r (command_effect x process command)
   comes_by is = up_or x (command_tests x process command) (command_effect x process command) up ∙ ap (λ refusal. refuse_or x refusal (command_effect x process command)) is
 
-  -- and takes memory by those that are made before
+  -- a machine that is up takes memory for a command by the tests that are made before that
   pub takes_by : first_refusal (early_tests x process command) ≡ r → takes_memory x process command ≡ (effect_takes_memory x process command && is_none r)
   takes_by is = by_tests x process up command ∙ ap (λ refusal. effect_takes_memory x process command && is_none refusal) is
 

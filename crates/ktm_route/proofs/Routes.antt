@@ -87,12 +87,12 @@ view_refused x process view label refusal is tested = ap (λ v. first_refusal (v
 pub passed_active : (t : Transaction) → first_refusal (transaction_tests (Some t)) ≡ None → is_active t ≡ true
 passed_active t passed = not-not (is_active t) (not_refused (transaction_tests (Some t)) passed (not (is_active t), TransactionNotActive) (inr (inr (inr (inl refl)))))
 
--- so the one that a label names is an active caller
+-- a transaction that a label names, and that passes the tests, is an active caller
 pub active_named : (x : Present) (process : Pid) (label : Label) (t : Transaction) → transaction_named x process label ≡ Some t → first_refusal (transaction_tests (Some t)) ≡ None → IsActiveCaller x (Some t.id)
 active_named x process label t named passed =
     ap (holds_of (λ u. not (is_active u))) (named_law.transactions x process label t named) ∙ ap not (passed_active t passed)
 
--- and so is that of a view, if it is through one
+-- the transaction of a view that passes the tests is an active caller, if it is through one
 pub active_viewer : (x : Present) (process : Pid) (view : View) (who : Option Id) → first_refusal (view_tests x process view) ≡ None → viewer x process view ≡ who → IsActiveCaller x who
 active_viewer x process Plain who passed is = subst (IsActiveCaller x) is tt
 active_viewer x process (Through label) who passed is = subst (IsActiveCaller x) is (go (transaction_named x process label) refl passed)

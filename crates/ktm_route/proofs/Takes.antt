@@ -56,7 +56,7 @@ module _ (x : Present) (process : Pid) (up : x.machine.is_up ≡ true) where
   pub by_tests : (command : Command) → takes_memory x process command ≡ (effect_takes_memory x process command && is_none (first_refusal (early_tests x process command)))
   by_tests command = ap (λ u. effect_takes_memory x process command && is_none (cond (not u) (Some MachineDown) (first_refusal (early_tests x process command)))) up
 
-  -- and where they refuse nothing, by what the command does
+  -- where the early tests refuse nothing, a machine that is up goes by what the command does
   pub passed_takes : (command : Command) (tests : List (Bool × Refusal)) → early_tests x process command ≡ tests → first_refusal tests ≡ None → takes_memory x process command ≡ effect_takes_memory x process command
   passed_takes command tests are passed =
       by_tests command ∙ ap (λ r. effect_takes_memory x process command && is_none r) (ap first_refusal are ∙ passed) ∙ and-true (effect_takes_memory x process command)

@@ -1,4 +1,4 @@
--- Which calls may take memory: where it is wanting, they alone may give up.
+-- Which calls may take memory: out of memory they alone may give up.
 use Rattle.std.specs.Prelude.{◌&&◌, not, Bool, true, false, List, [], ◌∷◌, ◌++◌, Option, is_none}
 use Rattle.ktm_base.specs.declared.id.Pid.{Pid}
 use Rattle.ktm_base.specs.declared.refusal.Refusal.{Refusal}

@@ -11,7 +11,7 @@ pub record LeavesRow (begin pages : ℕ) (s : DiskState) (image : List ℕ) : Ty
   pub clean : (page : ℕ) → page < pages → (Contains (row_of begin pages s).dirty page → ⊥) → page_of (slice_range image begin (end_of begin pages)) page ≡ page_of (row_of begin pages s).seen page
   pub behind : drop (end_of begin pages) image ≡ behind begin pages s
 
--- so has each image that may be left
+-- each image that may be left has what the disk has in front of the pages and behind them, and each page that is not dirty
 abbrev pub LeftLaw : Type 0
 LeftLaw = (begin pages : ℕ) (s : DiskState) (image : List ℕ) → Stands begin pages s → MayLeave s image → LeavesRow begin pages s image
 

@@ -21,7 +21,7 @@ ranges_of begin pages = map (λ page. (begin + page * UNIT_BYTES, UNIT_BYTES)) p
 abbrev pub row_of : ℕ → ℕ → DiskState → RowState
 row_of begin pages s = record { seen = slice_range s.seen begin (end_of begin pages); dirty = pages_of begin s.dirty; front = take begin s.seen }
 
--- the same, where the disk tells
+-- the pages on a disk, where the disk tells what it holds
 abbrev pub row_told : ℕ → ℕ → Option DiskState → Option RowState
 row_told begin pages None = None
 row_told begin pages (Some s) = Some (row_of begin pages s)

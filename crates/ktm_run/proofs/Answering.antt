@@ -41,7 +41,7 @@ now_of false k told w fallen = fallen.now
 pub up_of : (k : KernelState) (told : Option DiskState) (w : World) → KernelAt k told w → k.now.machine.is_up ≡ is_up w.power
 up_of k told w at = ap (λ (x : Present). x.machine.is_up) (now_of (is_up w.power) k told w at)
 
--- so its world is down where it is
+-- the world of a machine that is down is down
 pub off_of : (k : KernelState) (told : Option DiskState) (w : World) → k.now.machine.is_up ≡ false → KernelAt k told w → is_up w.power ≡ false
 off_of k told w off at = sym (up_of k told w at) ∙ off
 
@@ -177,7 +177,7 @@ started_plan w new pick interrupted reply (says, is) = ap (λ r. plan_of (Some (
 started_plan w new pick (found log) reply (finds, says, is) = ap (λ r. plan_of (Some (Restart pick)) r) says
 started_plan w new pick (full log) reply (finds, says, is) = ap (λ r. plan_of (Some (Restart pick)) r) says
 
--- and the power goes in it only where the count of downs rose
+-- in the start of a machine that was down the power goes only where the count of downs rose
 started_rose : (w new : World) (pick : ℕ) (step : Step) (reply : Reply) (a b : DiskStatus) → StartDoes w step reply new → (reply ≡ Refused MachineDown → Rose a.downs b.downs) → a.downs ≤ b.downs
     → RoseBy (falls_of (Some (Restart pick)) step reply) a.downs b.downs
 started_rose w new pick answered reply a b none cause later = absurd none

@@ -21,9 +21,6 @@ RoseBy-none a b h = omega arith
 pub RoseBy-then : (m n a b c : ℕ) → RoseBy m a b → RoseBy n b c → RoseBy (m + n) a c
 RoseBy-then m n a b c h k = omega arith
 
-pub RoseBy-later : (m a b c : ℕ) → RoseBy m a b → b ≤ c → RoseBy m a c
-RoseBy-later m a b c h k = omega arith
-
 pub Counts-then : (a b c : OnDisk KernelState) (m n : ℕ) (p q : List PowerCall) (f g : ℕ) → Counts a b m p f → Counts b c n q g → Counts a c (m + n) (p ++ q) (f + g)
 Counts-then a b c m n p q f g h k = record {
   rose = RoseBy-then f g a.status.downs b.status.downs c.status.downs h.rose k.rose;

@@ -47,10 +47,6 @@ Consumes-trans (Some a) (Some b) (Some c) xs ys h k = h ∙ ap (λ (l : List ℕ
 pub Rose-later : (a b c : ℕ) → a ≤ b → Rose b c → Rose a c
 Rose-later a b c h k = omega arith
 
--- and one that rose before
-pub Rose-before : (a b c : ℕ) → Rose a b → b ≤ c → Rose a c
-Rose-before a b c h k = omega arith
-
 -- a read of no byte
 pub Consumes-end : (a b c : Option (List ℕ)) (xs ys : List ℕ) (n : ℕ) → Consumes a b xs → Consumes b c (take n ys) → n ≡ 0 → Consumes a c xs
 Consumes-end a b c xs ys n h k none =

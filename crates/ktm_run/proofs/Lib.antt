@@ -4,7 +4,6 @@ pub mod Counting
 pub mod Runs
 pub mod Breaks
 pub mod Answering
-pub mod Openings
 pub mod Theorems
 pub mod Lawful
 pub mod Probed

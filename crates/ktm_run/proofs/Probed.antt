@@ -4,7 +4,7 @@ use Rattle.std.proofs.KnownBytes.{Keeps-trans}
 use Rattle.std.proofs.lemmas.List.{append-nil, take_all}
 use Rattle.std.specs.Io.KnownBytes.{Appends, Keeps}
 use Rattle.ktm_base.specs.Disk.{DiskState, DiskStatus}
-use Rattle.ktm_run.specs.Early.{Outside, NotRun, FoundBad, Ends}
+use Rattle.ktm_run.specs.Early.{Outside, NotRun, FoundBad, EndsAs}
 use Rattle.ktm_run.specs.Script.{AppendsPart}
 use Rattle.ktm_run.specs.Theorem.{Moment, moment_of, Replied, EndedBetween, EndedWithin, EndedEarly}
 use Rattle.ktm_run.specs.declared.status.Status.{Status}
@@ -51,7 +51,7 @@ module _ (left : Option (List ℕ)) (a b : Option (List ℕ)) (disk : Option Dis
   found_bad : (offset : ℕ) (new : Outside) → FoundBad offset behind new → FoundBad offset before new
   found_bad offset new h = record { not_run = not_run new h.not_run; same = h.same; bad = h.bad }
 
-  pub probed_ends : (result : Status) (Opened : Type 0) (new : Outside) → Ends result Opened behind new → Ends result Opened before new
+  pub probed_ends : (result : Status) (Opened : Type 0) (new : Outside) → EndsAs result Opened behind new → EndsAs result Opened before new
   probed_ends Done Opened new h = h
   probed_ends SourceFault Opened new h = h
   probed_ends ScriptTooLong Opened new h = h

@@ -77,7 +77,7 @@ one_line a b p f most h = record {
   few = let few = h.few in omega arith;
 }
 
--- and one that has
+-- a line that has a reply
 pub Progress-line : (a b : Now) (line : List ℕ) (meant : Option Line) (reply : Reply) → has_reply line ≡ true → Means line meant → Answers a.scene b.scene meant reply
     → Appends a.taken b.taken (reply_line reply) → Progress a b (line ∷ [])
 Progress-line a b line meant reply has means answers wrote = λ w stands.

@@ -14,20 +14,25 @@ use Rattle.ktm_kernel.specs.Stands.{KernelState, KernelAt, LeavesStates}
 use Rattle.ktm_kernel.proofs.Left.{left_law}
 use Rattle.ktm_run.specs.declared.status.Status.{Status}
 use Rattle.ktm_run.specs.declared.status.Status.TheVariants.{Done, Usage, SourceFault, SinkFault, NoMemory, BadImage, DiskFault, ScriptTooLong, LogFull}
+use Rattle.ktm_open.specs.Opening.{OpeningCounts}
 use Rattle.ktm_run.specs.Lawful.{RunIsLawful}
-use Rattle.ktm_run.specs.Executed.{IsStopped, Place, ScriptLeaves, place}
+use Rattle.ktm_run.specs.Executed.{IsStopped, Position, ScriptLeaves, position}
 use Rattle.ktm_log.specs.OnDisk.{OnDisk, on}
 use Rattle.ktm_run.specs.Progress.{Now, Counts, Ran, Progress, Broke}
 use Rattle.ktm_run.specs.Script.{Means, cut_lines, lines_from}
-use Rattle.ktm_run.specs.declared.fault.OpenFault.{OpenFault}
-use Rattle.ktm_run.specs.declared.fault.OpenFault.TheVariants as opening
-use Rattle.ktm_run.specs.Early.{Outside, SaysWhy, Ends, FoundBad, FoundDown, FoundFull, FoundNoMemory}
+use Rattle.ktm_open.specs.declared.fault.OpenFault.{OpenFault}
+use Rattle.ktm_open.specs.declared.fault.OpenFault.TheVariants as opening
+use Rattle.ktm_run.specs.Early.{Outside, SaysWhy, EndsAs, FoundBad, FoundDown, FoundFull, FoundNoMemory}
 use Rattle.ktm_run.specs.Theorem.{HoldsStates, Moment, moment_of, RunCounts, LineCounts, Replied, EndedBetween, Unanswered, HalfWritten, EndedWithin, NotOpened, CutOpening, EndedEarly}
 use Rattle.ktm_types.specs.declared.command.Line.TheVariants.{Restart}
 use Rattle.ktm_world.specs.Durable.{Durable}
 use Rattle.ktm_world.specs.Logs.{is_up}
 use Rattle.ktm_world.specs.Outcome.{is_full}
 use Rattle.ktm_world.specs.World.{World, opened, own_group}
+
+-- the counts of an opening are those of a run of no line
+pub run_begun : (base : Durable) (old first : DiskStatus) → OpeningCounts base.units old first → RunCounts base.units old first 0 [] 0
+run_begun base old first counts = record { rose = omega (arith, counts.later); plan_is = counts.plan ∙ sym (append-nil old.plan); few = omega (arith, counts.few) }
 
 pub all_counts : (base : Durable) (room : ℕ) (old : DiskStatus) (first last : OnDisk KernelState) (n : ℕ) (plan : List PowerCall) (fell : ℕ) → RunCounts base.units old first.status 0 [] 0
     → Counts first last n plan fell → RunCounts base.units old last.status n plan fell
@@ -106,11 +111,11 @@ module _ (base : Durable) (room : ℕ) (old new : Outside) (first : OnDisk Kerne
     all_replied lines progress = replied ended lines lengths (progress (opened base room []) stands)
 
     -- the source, and all of the rest
-    abbrev start : Place
-    start = place old.left begun
+    abbrev start : Position
+    start = position old.left begun
 
-    abbrev end : Place
-    end = place new.left ended
+    abbrev end : Position
+    end = position new.left ended
 
     between : (script lines : List ℕ) → Consumes old.left new.left script → Progress begun ended (lines_from [] lines) → EndedBetween base room old new script lines
     between script lines read progress = record { was_read = read; room_left = fits; replied = all_replied (lines_from [] lines) progress }
@@ -151,7 +156,7 @@ no_longer (Some bytes) most tells long = omega (arith, tells, long)
 
 -- where neither the source nor the sink fails and the script is not too long
 pub run_complete : (base : Durable) (room : ℕ) (mid old new : Outside) (Opened : Type 0) (source_before source_now sink_before sink_now : ℕ) (result : Status)
-    → EndedEarly result base room mid new → Ends result Opened old new
+    → EndedEarly result base room mid new → EndsAs result Opened old new
     → (result ≡ SourceFault → Rose source_before source_now) → (result ≡ SinkFault → Rose sink_before sink_now) → (result ≡ ScriptTooLong → IfSome old.left (λ bytes. MOST_SCRIPT_BYTES < length bytes))
     → ¬ Rose source_before source_now → ¬ Rose sink_before sink_now → IsSomeAnd old.left (λ bytes. length bytes ≤ MOST_SCRIPT_BYTES)
     → (result ≡ Done) ⊎ (result ≡ NoMemory) ⊎ (result ≡ LogFull) ⊎ ((result ≡ DiskFault) × FoundDown old new)
@@ -167,8 +172,8 @@ run_complete base room mid old new Opened a b c d BadImage early ends source sin
 
 -- ---- how a script ends, once its machine was started
 
-module _ (old new : Place) where
-  pub script_ends : (result : Status) (Opened : Type 0) (before after : Outside) → Opened → ScriptLeaves result old new → Ends result Opened before after
+module _ (old new : Position) where
+  pub script_ends : (result : Status) (Opened : Type 0) (before after : Outside) → Opened → ScriptLeaves result old new → EndsAs result Opened before after
   script_ends Done Opened before after opened is = opened
   script_ends SourceFault Opened before after opened is = opened
   script_ends ScriptTooLong Opened before after opened is = opened
@@ -193,12 +198,12 @@ said_nothing old new same = subst (λ (o : Option (List ℕ)). Keeps old o) (sym
 module _ (result : Status) (Opened : Type 0) (old new : Outside) where
   pub not_started_ends : (why : OpenFault) → SaysWhy result why old.taken new.taken → ((offset : ℕ) → why ≡ opening.BadImage offset → FoundBad offset old new)
       → (why ≡ opening.Full → Keeps old.taken new.taken → FoundFull old new × Opened) → (why ≡ opening.Down → Keeps old.taken new.taken → FoundDown old new)
-      → (why ≡ opening.NoMemory → Keeps old.taken new.taken → FoundNoMemory old new) → Ends result Opened old new
-  not_started_ends (opening.BadImage offset) (inl (is, wrote)) bad full down none = subst (λ s. Ends s Opened old new) (sym is) (offset, bad offset refl, wrote)
-  not_started_ends (opening.BadImage offset) (inr (is, wrote)) bad full down none = subst (λ s. Ends s Opened old new) (sym is) (inr (inl (offset, bad offset refl, wrote)))
-  not_started_ends opening.Full (is, same) bad full down none = subst (λ s. Ends s Opened old new) (sym is) (full refl (said_nothing _ _ same))
-  not_started_ends opening.Down (is, same) bad full down none = subst (λ s. Ends s Opened old new) (sym is) (down refl (said_nothing _ _ same))
-  not_started_ends opening.NoMemory (is, same) bad full down none = subst (λ s. Ends s Opened old new) (sym is) (inl (none refl (said_nothing _ _ same)))
+      → (why ≡ opening.NoMemory → Keeps old.taken new.taken → FoundNoMemory old new) → EndsAs result Opened old new
+  not_started_ends (opening.BadImage offset) (inl (is, wrote)) bad full down none = subst (λ s. EndsAs s Opened old new) (sym is) (offset, bad offset refl, wrote)
+  not_started_ends (opening.BadImage offset) (inr (is, wrote)) bad full down none = subst (λ s. EndsAs s Opened old new) (sym is) (inr (inl (offset, bad offset refl, wrote)))
+  not_started_ends opening.Full (is, same) bad full down none = subst (λ s. EndsAs s Opened old new) (sym is) (full refl (said_nothing _ _ same))
+  not_started_ends opening.Down (is, same) bad full down none = subst (λ s. EndsAs s Opened old new) (sym is) (down refl (said_nothing _ _ same))
+  not_started_ends opening.NoMemory (is, same) bad full down none = subst (λ s. EndsAs s Opened old new) (sym is) (inl (none refl (said_nothing _ _ same)))
 
 module _ (result : Status) (base : Durable) (room : ℕ) (old new : Outside) where
   pub not_started_early : (why : OpenFault) → SaysWhy result why old.taken new.taken → ((offset : ℕ) → why ≡ opening.BadImage offset → ⊥)
@@ -209,7 +214,7 @@ module _ (result : Status) (base : Durable) (room : ℕ) (old new : Outside) whe
   not_started_early opening.Down (is, same) good full down none = subst (λ s. EndedEarly s base room old new) (sym is) (down refl)
   not_started_early opening.NoMemory (is, same) good full down none = subst (λ s. EndedEarly s base room old new) (sym is) (inl (none refl (said_nothing _ _ same)))
 
--- and it ends with none of these
+-- a run that was not started ends neither for its use nor for its source nor for the length of its script
 pub not_started_is : (result : Status) (why : OpenFault) (old new : Option (List ℕ)) → SaysWhy result why old new → (result ≢ Usage) × (result ≢ SourceFault) × (result ≢ ScriptTooLong)
 not_started_is result (opening.BadImage offset) old new (inl (is, wrote)) = (λ same. cc, λ same. cc, λ same. cc)
 not_started_is result (opening.BadImage offset) old new (inr (is, wrote)) = (λ same. cc, λ same. cc, λ same. cc)

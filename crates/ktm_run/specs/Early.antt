@@ -1,15 +1,14 @@
 -- What each early end of the program leaves, over every disk.
-use Rattle.std.specs.Prelude.{◌≡◌, ◌⊎◌, ℕ, ◌<◌, List, length, Option, IsTrue, IfSome}
+use Rattle.std.specs.Prelude.{◌≡◌, ◌⊎◌, ℕ, ◌<◌, List, length, Option, IfSome}
 use Rattle.std.specs.Io.KnownBytes.{Appends, Keeps}
-use Rattle.ktm_base.specs.Count.{Rose}
 use Rattle.ktm_base.specs.Disk.{DiskState, DiskStatus}
 use Rattle.ktm_base.specs.Told.{Goes}
 use Rattle.ktm_restart.specs.Bad.{IsBadAt}
 use Rattle.ktm_run.specs.Form.{usage_line, bad_image_line}
-use Rattle.ktm_run.specs.Opening.{Prepared}
+use Rattle.ktm_open.specs.Opening.{Prepared, WentDown}
 use Rattle.ktm_run.specs.Script.{AppendsPart}
-use Rattle.ktm_run.specs.declared.fault.OpenFault.{OpenFault}
-use Rattle.ktm_run.specs.declared.fault.OpenFault.TheVariants as opening
+use Rattle.ktm_open.specs.declared.fault.OpenFault.{OpenFault}
+use Rattle.ktm_open.specs.declared.fault.OpenFault.TheVariants as opening
 use Rattle.ktm_run.specs.declared.status.Status.{Status}
 use Rattle.ktm_run.specs.declared.status.Status.TheVariants.{Done, Usage, SourceFault, SinkFault, NoMemory, BadImage, DiskFault, ScriptTooLong, LogFull}
 
@@ -39,10 +38,6 @@ pub record Untouched (old new : Outside) : Type 0 where
 pub record NotRun (old new : Outside) : Type 0 where
   pub not_read : new.left ≡ old.left
   pub plan_is : new.status.plan ≡ old.status.plan
-
--- the disk was down before, or it went down
-abbrev pub WentDown : DiskStatus → DiskStatus → Type 0
-WentDown before now = IsTrue before.is_down ⊎ Rose before.downs now.downs
 
 -- the image is bad at this offset, and the disk tells what it told; a disk without a byte is never bad
 pub record FoundBad (offset : ℕ) (old new : Outside) : Type 0 where
@@ -90,13 +85,13 @@ SaysWhy result opening.Full old new = (result ≡ LogFull) × (new ≡ old)
 SaysWhy result opening.NoMemory old new = (result ≡ NoMemory) × (new ≡ old)
 
 -- how a run may end, where Opened says that the disk held what a run begins from
-abbrev pub Ends : Status → Type 0 → Outside → Outside → Type 0
-Ends Done Opened old new = Opened
-Ends SourceFault Opened old new = Opened
-Ends ScriptTooLong Opened old new = Opened
-Ends SinkFault Opened old new = Untouched old new ⊎ ((offset : ℕ) × FoundBad offset old new × AppendsPart old.taken new.taken (bad_image_line offset)) ⊎ Opened
-Ends NoMemory Opened old new = FoundNoMemory old new ⊎ Opened
-Ends BadImage Opened old new = (offset : ℕ) × FoundBad offset old new × Appends old.taken new.taken (bad_image_line offset)
-Ends LogFull Opened old new = FoundFull old new × Opened
-Ends DiskFault Opened old new = FoundDown old new
-Ends Usage Opened old new = ⊥
+abbrev pub EndsAs : Status → Type 0 → Outside → Outside → Type 0
+EndsAs Done Opened old new = Opened
+EndsAs SourceFault Opened old new = Opened
+EndsAs ScriptTooLong Opened old new = Opened
+EndsAs SinkFault Opened old new = Untouched old new ⊎ ((offset : ℕ) × FoundBad offset old new × AppendsPart old.taken new.taken (bad_image_line offset)) ⊎ Opened
+EndsAs NoMemory Opened old new = FoundNoMemory old new ⊎ Opened
+EndsAs BadImage Opened old new = (offset : ℕ) × FoundBad offset old new × Appends old.taken new.taken (bad_image_line offset)
+EndsAs LogFull Opened old new = FoundFull old new × Opened
+EndsAs DiskFault Opened old new = FoundDown old new
+EndsAs Usage Opened old new = ⊥

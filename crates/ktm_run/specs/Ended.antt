@@ -3,14 +3,15 @@ use Rattle.std.specs.Prelude.{◌≡◌, ℕ, ◌<◌, length, IfSome, IsSomeAnd
 use Rattle.ktm_base.specs.declared.limits.TheConstants.{MOST_SCRIPT_BYTES}
 use Rattle.ktm_run.specs.declared.status.Status.{Status}
 use Rattle.ktm_run.specs.declared.status.Status.TheVariants.{ScriptTooLong, Usage}
-use Rattle.ktm_run.specs.Early.{Ends, Outside}
-use Rattle.ktm_run.specs.Opened.{MayBegin}
-use Rattle.ktm_run.specs.Theorem.{Begins, EndedEarly}
+use Rattle.ktm_run.specs.Early.{EndsAs, Outside}
+use Rattle.ktm_open.specs.Opened.{MayBegin}
+use Rattle.ktm_open.specs.Begins.{Begins}
+use Rattle.ktm_run.specs.Theorem.{EndedEarly}
 use Rattle.ktm_world.specs.Durable.{Durable}
 
 -- for whatever the run begins from, and over every disk
 pub record RunLeaves (result : Status) (old new : Outside) : Type 0 where
   pub run : (base : Durable) (room : ℕ) → IsSomeAnd old.disk (Begins base room) → EndedEarly result base room old new
-  pub ends : Ends result (MayBegin old.disk) old new
+  pub ends : EndsAs result (MayBegin old.disk) old new
   pub not_usage : result ≡ Usage → ⊥
   pub too_long : result ≡ ScriptTooLong → IfSome old.left (λ bytes. MOST_SCRIPT_BYTES < length bytes)

@@ -43,16 +43,16 @@ FeedLeaves bytes kept now_kept old new (Err fault) = (part : List ℕ) → kept 
 -- ---- a script
 
 -- what the source has left, with the machine, its disk and the sink
-pub record Place : Type 0 where
+pub record Position : Type 0 where
   pub left : Option (List ℕ)
   pub now : Now
 
--- the place with these parts
-abbrev pub place : Option (List ℕ) → Now → Place
-place left now = record { left = left; now = now }
+-- the position with these parts
+abbrev pub position : Option (List ℕ) → Now → Position
+position left now = record { left = left; now = now }
 
 -- the source came to its end, and each line was answered
-pub record IsWhole (old new : Place) : Type 0 where
+pub record IsWhole (old new : Position) : Type 0 where
   pub script : List ℕ
   pub was_read : Consumes old.left new.left script
   pub at_end : IsAtEnd new.left
@@ -60,14 +60,14 @@ pub record IsWhole (old new : Place) : Type 0 where
   pub went : Progress old.now new.now (cut_lines script)
 
 -- the source failed, and each line that had ended was answered
-pub record IsBrokenOff (old new : Place) : Type 0 where
+pub record IsBrokenOff (old new : Position) : Type 0 where
   pub script : List ℕ
   pub was_read : Consumes old.left new.left script
   pub short : length script ≤ MOST_SCRIPT_BYTES
   pub went : Progress old.now new.now (lines_from [] script)
 
 -- the script goes on behind its greatest length, and each line that had ended before was answered
-pub record IsTooLong (old new : Place) : Type 0 where
+pub record IsTooLong (old new : Position) : Type 0 where
   pub script : List ℕ
   pub was_read : Consumes old.left new.left script
   pub long : length script ≡ MOST_SCRIPT_BYTES + 1
@@ -75,7 +75,7 @@ pub record IsTooLong (old new : Place) : Type 0 where
   pub more : IfSome old.left (λ bytes. MOST_SCRIPT_BYTES < length bytes)
 
 -- the run ended at a line
-pub record IsStopped (old new : Place) : Type 0 where
+pub record IsStopped (old new : Position) : Type 0 where
   pub script : List ℕ
   pub lines : List (List ℕ)
   pub was_read : Consumes old.left new.left script
@@ -84,7 +84,7 @@ pub record IsStopped (old new : Place) : Type 0 where
   pub stops : Stops old.now new.now lines
 
 -- what it leaves
-abbrev pub ScriptLeaves : Status → Place → Place → Type 0
+abbrev pub ScriptLeaves : Status → Position → Position → Type 0
 ScriptLeaves Done old new = IsWhole old new
 ScriptLeaves SourceFault old new = IsBrokenOff old new
 ScriptLeaves ScriptTooLong old new = IsTooLong old new

@@ -16,6 +16,6 @@ pub record RunIsLawful (base : Durable) (room : ℕ) : Type 0 where
   pub one_outcome : (lines : List (Option Line)) (steps : List Step) (replies : List Reply) (new : World) → Transcript (opened base room []) lines steps replies new
       → HasOneOutcome (tellings (opened base room []) lines steps replies)
 
--- so it is where a machine with its disk stands for the opened world
+-- each transcript comes to a lawful world and tells each transaction one outcome, where a machine with its disk stands for the opened world
 abbrev pub RunLaw : Type 0
 RunLaw = (k : KernelState) (told : Option DiskState) (base : Durable) (room : ℕ) → KernelAt k told (opened base room []) → RunIsLawful base room

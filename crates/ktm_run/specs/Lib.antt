@@ -4,9 +4,7 @@ pub mod Status
 pub mod Plan
 pub mod Progress
 pub mod Executed
-pub mod Opening
 pub mod Early
 pub mod Theorem
-pub mod Opened
 pub mod Ended
 pub mod Lawful

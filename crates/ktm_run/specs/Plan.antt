@@ -72,7 +72,3 @@ calls_of units (Some (Restart pick)) = 8 * units + 68
 abbrev pub calls : ℕ → List (Option Line) → ℕ
 calls units [] = 0
 calls units (line ∷ lines) = calls_of units line + calls units lines
-
--- the most device calls of the opening, which may make a new image
-abbrev pub opening_calls : ℕ → ℕ
-opening_calls units = 16 * units + 133

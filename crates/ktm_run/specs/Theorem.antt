@@ -14,8 +14,10 @@ use Rattle.ktm_world.specs.Lawful.{IsLawful}
 use Rattle.ktm_world.specs.OneOutcome.{HasOneOutcome, tellings}
 use Rattle.ktm_world.specs.Transcript.{Does, Transcript, Step}
 use Rattle.ktm_world.specs.World.{World, opened, own_group, possible_logs}
+use Rattle.ktm_open.specs.Begins.{BeginsAs, LeavesOpening}
+use Rattle.ktm_open.specs.Opening.{opening_calls}
 use Rattle.ktm_run.specs.Early.{Outside, Untouched}
-use Rattle.ktm_run.specs.Plan.{plan_of, plans, falls_of, falls, RoseBy, calls_of, calls, opening_calls}
+use Rattle.ktm_run.specs.Plan.{plan_of, plans, falls_of, falls, RoseBy, calls_of, calls}
 use Rattle.ktm_run.specs.Script.{has_reply, cut_lines, lines_from, MayExecute, Means, MeanAll, AppendsPart, reply_line, written_replies}
 use Rattle.ktm_run.specs.declared.status.Status.{Status}
 use Rattle.ktm_run.specs.declared.status.Status.TheVariants.{Done, Usage, SourceFault, SinkFault, NoMemory, BadImage, DiskFault, ScriptTooLong, LogFull}
@@ -25,24 +27,6 @@ use Rattle.ktm_types.specs.declared.reply.Reply.{Reply}
 use Rattle.ktm_world.specs.Outcome.{is_full}
 use Rattle.ktm_types.specs.Sizes.{log_size}
 use Rattle.ktm_world.specs.Logs.{Group, is_up}
-
--- ---- what a run begins from
-
--- an image that stands for this state, with so many bytes of its log left
-pub record BeginsWith (base : Durable) (room : ℕ) (image : List ℕ) : Type 0 where
-  pub log : List Group
-  pub holds : HoldsLog base.units base.image log image
-  pub comes_to : base ≡ stand (empty_state base.units base.image) log
-  pub room_is : room ≡ left_after base.units log
-
--- a run begins from what an image stands for; no byte at all becomes a new image of 1,024 units with the number 1
-abbrev pub BeginsAs : Durable → ℕ → List ℕ → Type 0
-BeginsAs base room [] = (base ≡ empty_state NEW_UNITS 1) × (room ≡ left_after NEW_UNITS [])
-BeginsAs base room (byte ∷ image) = BeginsWith base room (byte ∷ image)
-
--- a disk whose bytes are safe, from which a run begins
-abbrev pub Begins : Durable → ℕ → DiskState → Type 0
-Begins base room s = IsSafe s × BeginsAs base room s.seen
 
 -- ---- what a disk may leave
 
@@ -69,7 +53,7 @@ pub record RunCounts (units : ℕ) (old new : DiskStatus) (most : ℕ) (plan : L
   pub plan_is : new.plan ≡ old.plan ++ plan
   pub few : new.calls ≤ old.calls + (opening_calls units + most)
 
--- and over a line of a run that was opened before
+-- the disk's counts over a line that may make so many device calls, had this plan and took the disk down so often
 pub record LineCounts (old new : DiskStatus) (most : ℕ) (plan : List PowerCall) (fell : ℕ) : Type 0 where
   pub rose : RoseBy fell old.downs new.downs
   pub plan_is : new.plan ≡ old.plan ++ plan
@@ -87,7 +71,7 @@ pub record Replied (base : Durable) (room : ℕ) (old new : Moment) (lines : Lis
   pub transcript : Transcript (opened base room []) meant steps replies world
   -- the world that they come to is lawful
   pub lawful : IsLawful world
-  -- and so was each before it
+  -- each world that a beginning of the steps comes to is lawful
   pub lawful_before : (n : ℕ) (mid : World) → Transcript (opened base room []) (take n meant) (take n steps) (take n replies) mid → IsLawful mid
   -- over all its restarts no transaction is told to have committed and to have rolled back
   pub one_outcome : HasOneOutcome (tellings (opened base room []) meant steps replies)
@@ -163,12 +147,6 @@ pub record NotOpened (base : Durable) (room : ℕ) (old new : Outside) : Type 0 
   pub not_written : Keeps old.taken new.taken
   pub plan_is : new.status.plan ≡ old.status.plan
   pub image : IsSomeAnd new.disk (λ s. (image : List ℕ) → MayLeave s image → BeginsAs base room image)
-
--- each image that a loss of power may leave stands for the state that the run began with, with the same room, or for that with the
--- group of the opening recorded
-abbrev pub LeavesOpening : Durable → ℕ → DiskState → Type 0
-LeavesOpening base room s = (image : List ℕ) → MayLeave s image
-    → BeginsWith base room image ⊎ BeginsWith (stand base (own_group base ∷ [])) (room - log_size (own_group base ∷ [])) image
 
 -- the disk went down in the opening: where it had no byte, it may hold a new image that is not whole
 abbrev pub CutOpening : Durable → ℕ → Outside → Outside → Type 0

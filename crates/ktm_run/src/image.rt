@@ -8,14 +8,13 @@ ghost use Rattle.ktm_run.specs.Ended.{RunLeaves};
 ghost use Rattle.ktm_run.specs.Early.{SaysWhy, outside};
 ghost use Rattle.ktm_run.specs.Script.{AppendsPart};
 
-use crate::fault::OpenFault;
 use crate::laws::law_of_runs;
 use crate::line::MOST_KEPT;
-use crate::open::open_kernel;
 use crate::script::{PIECE, run_script};
 use crate::status::Status;
 use crate::write::{write_all, write_line};
 use ktm_base::{Failed, PowerDisk, Sink, Source};
+use ktm_open::{OpenFault, open_kernel};
 use std::alloc::Global;
 
 // Says at which offset the image is bad.
@@ -71,7 +70,7 @@ pub fn run_image<S: Source, K: Sink, D: PowerDisk>(
         return Status::NoMemory;
     };
     let mut kernel = match open_kernel(alloc, disk) {
-        Ok(kernel) => kernel,
+        Ok(restarted) => restarted.kernel,
         Err(why) => return not_started(sink, why),
     };
     law_of_runs();

@@ -7,7 +7,6 @@ mod form;
 mod image;
 mod laws;
 mod line;
-mod open;
 mod program;
 mod script;
 mod status;

@@ -3,9 +3,10 @@ ghost use Rattle.std.specs.Prelude.{◌≡◌, ◌⊎◌, ◌<◌, ◌≤◌, �
 ghost use Rattle.std.specs.String.{string_bytes};
 ghost use Rattle.ktm_base.specs.declared.limits.TheConstants.{MOST_SCRIPT_BYTES};
 ghost use Rattle.ktm_base.specs.Count.{Rose};
-ghost use Rattle.ktm_run.specs.Early.{Ends, FoundDown, NoRun, Untouched, outside};
+ghost use Rattle.ktm_run.specs.Early.{EndsAs, FoundDown, NoRun, Untouched, outside};
 ghost use Rattle.ktm_run.specs.Form.{is_run};
-ghost use Rattle.ktm_run.specs.Theorem.{Begins, BeginsAs, EndedEarly};
+ghost use Rattle.ktm_open.specs.Begins.{Begins, BeginsAs};
+ghost use Rattle.ktm_run.specs.Theorem.{EndedEarly};
 ghost use Rattle.ktm_world.specs.Durable.{Durable};
 
 use crate::form::is_run_form;
@@ -20,7 +21,7 @@ use std::alloc::Global;
 ///
 /// A sink that fails at a write of no bytes ends it before anything is touched.
 ///
-/// It may end early with want of memory at any time, and with each other status only for its cause.
+/// It may run out of memory at any time and end early, and with each other status it ends only for its cause.
 pub fn ktm<S: Source, K: Sink, D: PowerDisk>(
     alloc: Global,
     words: &[String],
@@ -41,12 +42,12 @@ pub fn ktm<S: Source, K: Sink, D: PowerDisk>(
     ensures no_run { is_run (map string_bytes words.now) ≡ false → NoRun result
         (outside (S.left source.old) (K.taken sink.old) (D.told disk.old) (D.status disk.old)) (outside (S.left source.new) (K.taken sink.new) (D.told disk.new) (D.status disk.new)) }
     // what each end of a run leaves, over every disk
-    ensures ends { is_run (map string_bytes words.now) ≡ true → Ends result (IfSome (D.told disk.old) (λ s. (base : Durable) × (room : ℕ) × BeginsAs base room s.seen))
+    ensures ends { is_run (map string_bytes words.now) ≡ true → EndsAs result (IfSome (D.told disk.old) (λ s. (base : Durable) × (room : ℕ) × BeginsAs base room s.seen))
         (outside (S.left source.old) (K.taken sink.old) (D.told disk.old) (D.status disk.old)) (outside (S.left source.new) (K.taken sink.new) (D.told disk.new) (D.status disk.new)) }
     ensures source { result ≡ Status.SourceFault → Rose (S.faults source.old) (S.faults source.new) }
     ensures sink { result ≡ Status.SinkFault → Rose (K.faults sink.old) (K.faults sink.new) }
     ensures too_long { result ≡ Status.ScriptTooLong → IfSome (S.left source.old) (λ bytes. MOST_SCRIPT_BYTES < length bytes) }
-    // where neither the source nor the sink fails and the script is not too long, a run ends early only for want of memory, for a
+    // where neither the source nor the sink fails and the script is not too long, a run ends early only out of memory, for a
     // full log, or where the disk was down in the opening or went down in it
     ensures complete { is_run (map string_bytes words.now) ≡ true → (base : Durable) (room : ℕ) → IsSomeAnd (D.told disk.old) (Begins base room)
         → ¬ Rose (S.faults source.old) (S.faults source.new) → ¬ Rose (K.faults sink.old) (K.faults sink.new) → IsSomeAnd (S.left source.old) (λ bytes. length bytes ≤ MOST_SCRIPT_BYTES)

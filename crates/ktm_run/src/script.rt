@@ -4,7 +4,7 @@ ghost use Rattle.std.specs.Io.KnownBytes.{Consumes, IsAtEnd, Keeps};
 ghost use Rattle.ktm_base.specs.Count.{Rose};
 ghost use Rattle.ktm_base.specs.Stream.{Faults};
 ghost use Rattle.ktm_kernel.specs.Stands.{IsReady};
-ghost use Rattle.ktm_run.specs.Executed.{ScriptLeaves, place};
+ghost use Rattle.ktm_run.specs.Executed.{ScriptLeaves, position};
 ghost use Rattle.ktm_run.specs.Progress.{Progress, Stops, point};
 ghost use Rattle.ktm_run.specs.Script.{kept_of, last_line};
 
@@ -81,8 +81,8 @@ pub fn run_script<S: Source, K: Sink, D: PowerDisk>(
     requires room { 0 < length buffer.old }
     requires kept { (kept.old.items ≡ []) × (140001 ≤ vec_capacity kept.old) }
     ensures leaves { ScriptLeaves result
-        (place (S.left source.old) (point kernel.old (D.told disk.old) (D.status disk.old) (K.taken sink.old)))
-        (place (S.left source.new) (point kernel.new (D.told disk.new) (D.status disk.new) (K.taken sink.new))) }
+        (position (S.left source.old) (point kernel.old (D.told disk.old) (D.status disk.old) (K.taken sink.old)))
+        (position (S.left source.new) (point kernel.new (D.told disk.new) (D.status disk.new) (K.taken sink.new))) }
     ensures source { result ≡ Status.SourceFault → Rose (S.faults source.old) (S.faults source.new) }
     ensures sink { result ≡ Status.SinkFault → Rose (K.faults sink.old) (K.faults sink.new) }
 {

@@ -13,7 +13,7 @@ pub enum Status {
     SourceFault,
     /// The sink failed: at the start, or at a line.
     SinkFault,
-    /// Memory was wanted and not to be had.
+    /// Out of memory.
     NoMemory,
     /// The image cannot be opened.
     BadImage,

@@ -18,7 +18,7 @@ pub record Reads {X : Type 0} (Is : X → Type 0) (spell : X → List ℕ) (at :
   pub found : (text : List ℕ) (x : X) (rest : List ℕ) → at text ≡ Some (x, rest) → Is x × (text ≡ spell x ++ rest)
   pub every : (x : X) (rest : List ℕ) → Is x → ends_part rest ≡ true → at (spell x ++ rest) ≡ Some (x, rest)
 
--- the same of a part with the space in front of it
+-- a part is read from its spelling with the space in front of it
 pub spaced : {X : Type 0} {Is : X → Type 0} {spell : X → List ℕ} {at : List ℕ → Option (X × List ℕ)} → Reads Is spell at → Reads Is (λ x. space ∷ spell x) (behind_space at)
 spaced {X} {Is} {spell} {at} reads = record {
   found = λ text x rest e. bind_some _ (after_word (codes " ") text) (x, rest) e (λ behind f g.

@@ -38,7 +38,7 @@ Gives (Ok x) read = read ≡ Some x
 Gives (Err BadLine) read = read ≡ None
 Gives (Err NoMemory) read = Unit {0}
 
--- the same of a part and of what follows it
+-- what a function returned is the part that is read and what follows it, unless memory ran out
 abbrev pub GivesPart : {X : Type 0} → Result (X × Bor (List ℕ)) LineFault → Option (X × List ℕ) → Type 0
 GivesPart (Ok (x, rest)) read = read ≡ Some (x, rest.now)
 GivesPart (Err BadLine) read = read ≡ None

@@ -77,7 +77,7 @@ pub fn put_modes(
     put_word(out, disposition)
 }
 
-// The same in a transaction.
+// How a file is opened, and the label of the transaction in which it is.
 pub fn put_modes_and_label(
     out: &mut Vec<u8>,
     access: Access,

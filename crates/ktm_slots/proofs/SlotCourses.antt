@@ -50,7 +50,7 @@ at-itself ts t rises there = go (transaction_at ts t.id) refl
     go None found = absurd (missing ts there found)
     go (Some u) found = let at = transaction_at-found ts t.id u found in found ∙ ap Some (same-by_id (λ (t : Transaction). t.id) ts rises u t at.0 there at.1)
 
--- once it is changed, the changed one is
+-- once a transaction is changed, the changed one is found by its Id
 changed-itself : (ts : List Transaction) (t u : Transaction) → u.id ≡ t.id → IsIn t ts → transaction_at (change_at ts t.id (λ v. u)) t.id ≡ Some u
 changed-itself [] t u same there = absurd there
 changed-itself (v ∷ vs) t u same there = elim (cases_Bool (same_id v.id t.id)) [
@@ -58,7 +58,7 @@ changed-itself (v ∷ vs) t u same there = elim (cases_Bool (same_id v.id t.id))
   | inr other ↦ rw (other, other) (elim there [ inl e ↦ absurd (other_id v.id t.id other (ap (λ (w : Transaction). w.id) e)) | inr later ↦ changed-itself vs t u same later ])
 ]
 
--- and others as before
+-- once a transaction is changed, the others are found as before
 changed-others : (ts : List Transaction) (t u : Transaction) (id : Id) → u.id ≡ t.id → same_id id t.id ≡ false → transaction_at (change_at ts t.id (λ v. u)) id ≡ transaction_at ts id
 changed-others [] t u id same differs = refl
 changed-others (v ∷ vs) t u id same differs = elim (cases_Bool (same_id v.id t.id)) [

@@ -139,7 +139,7 @@ bound_idle : (x : Present) (process : Pid) (label : Label) (object : Option Obje
 bound_idle x process label None = refl
 bound_idle x process label (Some object) = refl
 
--- so it is of what closing a handle and the passing of time come to
+-- for each event, what closing a handle and the passing of time come to puts and cuts the bytes of a file no more than twice
 closing : Closes (λ x. ⊤) (λ x o. IsLogged o)
 closing = record {
   rolls = record {
@@ -243,13 +243,13 @@ full_logs : (x : Present) (b : Bool) (o : Outcome) → IsLogged o → IsLogged (
 full_logs x true o is = idle (full_log x) refl
 full_logs x false o is = is
 
--- so is what a command comes to
+-- for each event, what a command comes to puts and cuts the bytes of a file no more than twice
 pub decided_logs : (x : Present) → IsSoundFiles x → (process : Pid) (command : Command) → IsLogged (decide x process command)
 decided_logs x sound process command =
     full_logs x (is_full x.machine.left (with_room x process command).events) (with_room x process command)
     (refused_logs x (refusal_of x process command) (command_effect x process command) (effect_logs x (own_few x sound) process command))
 
--- and what the passing of time comes to, whether the machine is up or down
+-- for each event, what the passing of time comes to puts and cuts a file no more than twice, whether the machine is up or down
 pub ticked_logs : (x : Present) (ms : ℕ) → IsLogged (decide_tick x ms)
 ticked_logs x ms = go x.machine.is_up
   where

@@ -111,7 +111,7 @@ final_few changes by file =
     let few = ends_few by (written_files changes) file (rising-written changes [] tt) in
     omega (arith, both, none, count, few)
 
--- and so do those of each transaction
+-- the changes of each transaction cut a file once, and put its bytes once
 pub own_few : (x : Present) → IsSoundFiles x → (id : Id) (file : ℕ) → puts_of file (own_changes x.files.table.own id) ≤ 2
 own_few x sound id file = own_changes-by (λ changes. puts_of file changes ≤ 2) x.files.table.own id (omega arith) (λ o there is.
     subst (λ changes. puts_of file changes ≤ 2) (All-in (λ (p : OwnChanges). changes_to_commit p.changes (bytes_seen x.files (Some p.transaction)) ≡ p.changes) x.files.table.own sound.own_final o there)

@@ -130,7 +130,7 @@ pub record FilesLaw : Type 0 where
   pub usable : (x : Present) (process : Pid) (label : Label) (o : OpenFile) → IsStandingNow x → file_named x process label ≡ Some o → IsOnCommitted x o
   -- what a call on files comes to can be made
   pub calls : (x : Present) (process : Pid) (command : Command) (who : Option Id) (o : FileOutcome) → IsStandingNow x → IsCommand command → refusal_of x process command ≡ None → file_call x process command ≡ Some (who, o) → MayMake x who o
-  -- and so can what an undecided transaction changed
+  -- what an undecided transaction changed can be committed
   pub commits : (x : Present) (t : Transaction) → IsStandingNow x → transaction_at x.transactions.items t.id ≡ Some t → is_undecided t ≡ true → MayCommitNow x t
 
 -- ---- what the machine keeps

@@ -116,7 +116,7 @@ new-enlistment s enlistment manager information new u there a has =
     let a' = and_parts (enlistment.boot == s.boots) (not (list_any (λ (t : Recorded). list_any (λ other. same_id other enlistment) (enlistments_of t)) s.transactions)) b.0 in
     no_test (λ other. same_id other enlistment) a (enlistments_of u) (no_test (λ (t : Recorded). list_any (λ other. same_id other enlistment) (enlistments_of t)) u s.transactions (not-true _ a'.1) there) has
 
--- and it may be enlisted
+-- an enlistment that is new may be enlisted
 pub new-enlisted : (s : Durable) (e : Superior) → is_of_object e.enlistment ≡ true → is_new_enlistment s e.enlistment e.manager e.information ≡ true → IsEnlisted s e
 new-enlisted s e counts new =
     let c = and_parts _ (nat_le (length e.information) MOST_INFORMATION_BYTES) new in

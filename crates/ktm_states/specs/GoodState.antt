@@ -90,15 +90,15 @@ pub record IsGoodState (s : Durable) : Type 0 where
   pub image_fits : s.image < 2 ^ 16
   -- transactions stand by rising Id
   pub transactions_rise : each_pair (λ (t u : Recorded). is_before t.id u.id) s.transactions ≡ true
-  -- and so do resource managers
+  -- resource managers stand by rising Id
   pub managers_rise : each_pair is_before s.managers ≡ true
   -- no enlistment stands twice
   pub enlistments_differ : each_pair (λ a b. not (same_id a b)) (flat_map enlistments_of s.transactions) ≡ true
   -- the Id of each transaction was drawn in a boot that there was
   pub transactions_drawn : list_all (λ t. is_drawn s t.id) s.transactions ≡ true
-  -- and so was that of each resource manager
+  -- the Id of each resource manager was drawn in a boot that there was
   pub managers_drawn : list_all (is_drawn s) s.managers ≡ true
-  -- and of each enlistment
+  -- the Id of each enlistment was drawn in a boot that there was
   pub enlistments_drawn : list_all (λ e. is_drawn s e.enlistment) (flat_map enlisted s.transactions) ≡ true
   -- the resource manager of each enlistment is there
   pub managers_there : list_all (λ e. is_manager s e.manager) (flat_map enlisted s.transactions) ≡ true
@@ -118,11 +118,11 @@ pub record IsGoodState (s : Durable) : Type 0 where
   pub changes : list_all are_kept_changes s.transactions ≡ true
   -- changes that wait apply to the committed files
   pub apply : list_all (λ t. changes_apply s.tree (changes_of t)) s.transactions ≡ true
-  -- the nodes that they make are below the next number
+  -- the nodes that waiting changes make are below the next number
   pub made : list_all (λ t. list_all (is_made_below s.next_node) (changes_of t)) s.transactions ≡ true
-  -- and the tree has none of them
+  -- the tree has none of the nodes that waiting changes make
   pub new : list_all (λ t. list_all (is_new_in s.tree) (changes_of t)) s.transactions ≡ true
-  -- the contents that they put are not empty
+  -- the contents that waiting changes put are not empty
   pub puts : list_all (λ t. list_all puts_some (changes_of t)) s.transactions ≡ true
   -- settings that wait are good ones, and a decided transaction has none
   pub settings : list_all are_kept_settings s.transactions ≡ true
@@ -134,17 +134,17 @@ pub record IsGoodState (s : Durable) : Type 0 where
   pub limits : is_within_limits s ≡ true
   -- the count of events has not come to its end
   pub events_left : s.events < 2 ^ 63
-  -- nor has that of boots
+  -- the count of boots has not come to its end
   pub boots_left : s.boots < 2 ^ 32 - 1
   -- the committed files are well formed
   pub files : IsWellFormed s.tree
-  -- their numbers are below the next one
+  -- the numbers of the committed files are below the next one
   pub nodes_below : list_all (λ node. nat_lt node.number s.next_node) s.tree ≡ true
   -- node numbers begin behind the root's
   pub next_from : 2 ≤ s.next_node
-  -- and have not come to their end
+  -- node numbers have not come to their end
   pub next_to : s.next_node ≤ 2 ^ 63
   -- the committed keys rise
   pub keys_rise : is_rising s.keys ≡ true
-  -- and are within the limits, with their values
+  -- the committed keys are within the limits, with their values
   pub keys_good : list_all is_good_entry s.keys ≡ true

@@ -19,6 +19,6 @@ pub record Fades (c d : Course) : Type 0 where
   pub is : d.enlistments ≡ map change c.enlistments
   pub each : (e : Enlistment) → GoesOn e (change e)
 
--- so it is by steps
+-- by steps each enlistment goes on, and none comes
 abbrev pub FadingLaw : Type 0
 FadingLaw = (steps : List Step) (c : Course) → Fades c (run steps c)

@@ -73,5 +73,5 @@ pub record OutcomeLaw : Type 0 where
   pub steps : (steps : List Step) (c : Course) → AreTrue (known c) steps → KeepsTrue c (run steps c)
   -- by the row of what may come
   pub rows : (input : PhaseInput) (c : Course) → MayCome (known c) c.transaction.phase input → KeepsTrue c (led input c)
-  -- and what a row tells, of a transaction that has told nothing yet, is so in the end
+  -- what a row tells, of a transaction that has told nothing yet, is so in the end
   pub tells : (input : PhaseInput) (c : Course) → c.sent ≡ [] → IsKnownIn c.transaction.phase (known c) → IsTrue (led input c)

@@ -1,5 +1,5 @@
 -- Steps that are carried out one after another.
-use Rattle.std.proofs.Common.{true≢false, ◌≡◌, inl, inr, ℕ, zero, suc, ◌≤◌, Bool, true, List, [], ◌∷◌, ◌++◌, length, map, Option, Some, None, refl, sym, ◌∙◌, ap, arith, length-append}
+use Rattle.std.proofs.Common.{true≢false, ◌≡◌, inl, inr, ℕ, zero, suc, Bool, true, List, [], ◌∷◌, ◌++◌, length, map, Option, Some, None, refl, sym, ◌∙◌, ap, arith, length-append}
 use Rattle.std.specs.Prelude.{is_some}
 use Rattle.std.specs.List.{list_all, list_any}
 use Rattle.std.proofs.lemmas.Bool.{and_from, and_parts, cases_Bool}
@@ -48,7 +48,7 @@ changed_test test meant f keeps (e ∷ es) = elim (cases_Bool (meant e)) [
   | inr other ↦ rw (other, changed_test test meant f keeps es) refl
 ]
 
--- and those that are recovered are so after it
+-- enlistments that are recovered are so after the change
 pub changed_recovered : (meant : Enlistment → Bool) (f : Enlistment → Enlistment) → Keeps f → (back : ℕ) (es : List Enlistment) → AreRecoveredBehind back es → AreRecoveredBehind back (with_enlistments meant f es)
 changed_recovered meant f keeps zero [] all = refl
 changed_recovered meant f keeps zero (e ∷ es) all =
@@ -81,15 +81,15 @@ module _ (Holds : List Enlistment → Type 0) (kept : (meant : Enlistment → Bo
   after_steps g [] t es holds = holds
   after_steps g (step ∷ steps) t es holds = after_steps g steps (after g step t es).transaction (after g step t es).enlistments (after_step g step t es holds)
 
--- so a test of both Ids comes out the same after a step
+-- a test of both Ids comes out the same after a step
 pub after_test : (test : Id → Id → Bool) (g : Going) (step : Step) (t : Transaction) (es : List Enlistment) → list_all (λ e. test e.id e.manager) (after g step t es).enlistments ≡ list_all (λ e. test e.id e.manager) es
 after_test test g step t es = after_step (λ l. list_all (λ e. test e.id e.manager) l ≡ list_all (λ e. test e.id e.manager) es) (λ meant f keeps l is. changed_test test meant f keeps l ∙ is) g step t es refl
 
--- and after all steps
+-- a test of both Ids comes out the same after all steps
 pub after_all_test : (test : Id → Id → Bool) (g : Going) (steps : List Step) (t : Transaction) (es : List Enlistment) → list_all (λ e. test e.id e.manager) (after_all g steps t es).enlistments ≡ list_all (λ e. test e.id e.manager) es
 after_all_test test g steps t es = after_steps (λ l. list_all (λ e. test e.id e.manager) l ≡ list_all (λ e. test e.id e.manager) es) (λ meant f keeps l is. changed_test test meant f keeps l ∙ is) g steps t es refl
 
--- after which those that are recovered are so
+-- enlistments that are recovered are so after all steps
 pub after_all_recovered : (g : Going) (steps : List Step) (t : Transaction) (back : ℕ) (es : List Enlistment) → AreRecoveredBehind back es → AreRecoveredBehind back (after_all g steps t es).enlistments
 after_all_recovered g steps t back es = after_steps (AreRecoveredBehind back) (λ meant f keeps. changed_recovered meant f keeps back) g steps t es
 
@@ -98,7 +98,7 @@ pub there_all : (took : Option Id) (sent : List Sent) (ms : List Manager) (es : 
 there_all took sent ms [] = refl
 there_all took sent ms (e ∷ es) = rw (there_served took sent ms e.manager, there_all took sent ms es) refl
 
--- and where there is one manager more
+-- the managers of all are there where there is one manager more
 pub there_more : (ms : List Manager) (m : Manager) (es : List Enlistment) → list_all (has_manager ms) es ≡ true → list_all (has_manager (ms ++ m ∷ [])) es ≡ true
 there_more ms m [] all = refl
 there_more ms m (e ∷ es) all =
@@ -109,7 +109,7 @@ there_more ms m (e ∷ es) all =
     at-more [] there = absurd (true≢false (sym there))
     at-more (n ∷ ms) there = elim (cases_Bool (same_id n.id e.manager)) [ inl is ↦ rw is refl | inr other ↦ rw other (at-more ms (rw other at there)) ]
 
--- and with one enlistment more, of a manager that is there
+-- the managers of all are there with one enlistment more, of a manager that is there
 pub there_push : (ms : List Manager) (es : List Enlistment) (e : Enlistment) → list_all (has_manager ms) es ≡ true → is_some (manager_at ms e.manager) ≡ true → list_all (has_manager ms) (es ++ e ∷ []) ≡ true
 there_push ms [] e all there = rw there refl
 there_push ms (f ∷ es) e all there =
@@ -123,12 +123,6 @@ only_carries t es ms = record { transaction = refl; enlistments = refl; managers
 
 pub leaves_all : (g : Going) (steps : List Step) (t : Transaction) (es : EnlistmentsState) (ms : ManagersState) → list_all (has_manager ms.managers) es.enlistments ≡ true → Leaves g steps t es ms (after_all g steps t es.enlistments) es ms
 leaves_all g steps t es ms there = record { there = there; transaction = refl; enlistments = refl; managers = refl; spare = refl; enlistment_room = refl; manager_room = refl }
-
--- there is room for what the next step sends
-pub next_fits : (g : Going) (step : Step) (rest : List Step) (t : Transaction) (es : EnlistmentsState) (ms : ManagersState) (all : After) (was : EnlistmentsState) (base : ManagersState)
-    → Leaves g (step ∷ rest) t es ms all was base → length all.sent ≤ base.spare → length (after g step t es.enlistments).sent ≤ ms.spare
-next_fits g step rest t es ms all was base left enough =
-    omega (arith, left.spare, enough, length-append (after g step t es.enlistments).sent (after_all g rest (after g step t es.enlistments).transaction (after g step t es.enlistments).enlistments).sent)
 
 -- the rest of the steps is left to do once one is carried out
 pub next_left : (g : Going) (step : Step) (rest : List Step) (t t' : Transaction) (es es' : EnlistmentsState) (ms ms' : ManagersState) (all : After) (was : EnlistmentsState) (base : ManagersState)

@@ -51,7 +51,7 @@ live-same t e going = rw going (ap (λ b. b && (is_superior e || (not e.is_read_
     and-true true = refl
     and-true false = refl
 
--- and in no other
+-- no enlistment is live in a transaction that has ended
 live-none : (t : Transaction) (e : Enlistment) → is_ended t.phase ≡ true → is_live_in t e ≡ false
 live-none t e over = rw over (ap (λ b. b && (is_superior e || (not e.is_read_only && not e.is_finished))) (and-false (same_id e.transaction t.id)))
   where

@@ -8,21 +8,21 @@ use Rattle.std.proofs.lemmas.List.Sums.{length-filter, count_by-le-length}
 use Rattle.std.proofs.lemmas.Option.{slice_get_past, slice_get_read}
 use Rattle.ktm_types.specs.declared.object.Transaction.{Transaction}
 use Rattle.ktm_world.specs.Transactions.{is_live}
-use Rattle.ktm_tm.specs.Listed.{IsRising, live_places, with_number}
+use Rattle.ktm_tm.specs.Listed.{AreRisingFrom, live_places, with_number}
 
 -- ---- numbers that rise
 
-below : (ns : List ℕ) (a b : ℕ) → a ≤ b → IsRising b ns → IsRising a ns
+below : (ns : List ℕ) (a b : ℕ) → a ≤ b → AreRisingFrom b ns → AreRisingFrom a ns
 below [] a b low rising = tt
 below (n ∷ ns) a b low rising = (omega (arith, low, rising.0), rising.1)
 
-above : (ns : List ℕ) (before i : ℕ) → IsRising before ns → i < length ns → before < get_or ns i 0
+above : (ns : List ℕ) (before i : ℕ) → AreRisingFrom before ns → i < length ns → before < get_or ns i 0
 above [] before i rising within = absurd (omega (arith, within))
 above (n ∷ ns) before zero rising within = rising.0
 above (n ∷ ns) before (suc i) rising within = omega (arith, rising.0, above ns n i rising.1 (omega (arith, within)))
 
 -- they can be searched by halves
-sorted : (ns : List ℕ) (before : ℕ) → IsRising before ns → (i j : ℕ) → i ≤ j → j < length ns → get_or ns i 0 ≤ get_or ns j 0
+sorted : (ns : List ℕ) (before : ℕ) → AreRisingFrom before ns → (i j : ℕ) → i ≤ j → j < length ns → get_or ns i 0 ≤ get_or ns j 0
 sorted [] before rising i j low within = absurd (omega (arith, within))
 sorted (n ∷ ns) before rising zero zero low within = omega arith
 sorted (n ∷ ns) before rising zero (suc j) low within = omega (arith, above ns n j rising.1 (omega (arith, within)))
@@ -33,7 +33,7 @@ past : (m n : ℕ) → n ≤ m → nat_lt m n ≡ false
 past m n low = search (arith, low)
 
 -- a number that is among them stands where it was found
-here : (ns : List ℕ) (before n i : ℕ) (is_in : Bool) → IsRising before ns → i < length ns → get_or ns i 0 ≡ n → with_number ns n is_in ≡ (if is_in then ns else remove ns i)
+here : (ns : List ℕ) (before n i : ℕ) (is_in : Bool) → AreRisingFrom before ns → i < length ns → get_or ns i 0 ≡ n → with_number ns n is_in ≡ (if is_in then ns else remove ns i)
 here [] before n i is_in rising within is = absurd (omega (arith, within))
 here (m ∷ ms) before n zero is_in rising within is = rw (past m n (omega (arith, is)), eq-eqb m n is) refl
 here (m ∷ ms) before n (suc i) is_in rising within is =
@@ -58,33 +58,33 @@ free (m ∷ ms) n (suc i) is_in within less more =
     later false = refl
 
 -- what a search by halves finds, of numbers that are read elsewhere
-pub found : (ns read : List ℕ) (n i : ℕ) (is_in : Bool) → read ≡ ns → IsRising 0 ns → IsBinarySearchResult (λ y. nat_cmp y n) read (Ok i) → with_number ns n is_in ≡ (if is_in then ns else remove ns i)
+pub found : (ns read : List ℕ) (n i : ℕ) (is_in : Bool) → read ≡ ns → AreRisingFrom 0 ns → IsBinarySearchResult (λ y. nat_cmp y n) read (Ok i) → with_number ns n is_in ≡ (if is_in then ns else remove ns i)
 found ns read n i is_in same rising result =
     let at = searched ns n (Ok i) (subst (λ (ns : List ℕ). IsBinarySearchResult (λ y. nat_cmp y n) ns (Ok i)) same result) (sorted ns 0 rising) in
     here ns 0 n i is_in rising at.0 at.1
 
-pub missing : (ns read : List ℕ) (n i : ℕ) (is_in : Bool) → read ≡ ns → IsRising 0 ns → IsBinarySearchResult (λ y. nat_cmp y n) read (Err i) → (i ≤ length ns) × (with_number ns n is_in ≡ (if is_in then insert ns i n else ns))
+pub missing : (ns read : List ℕ) (n i : ℕ) (is_in : Bool) → read ≡ ns → AreRisingFrom 0 ns → IsBinarySearchResult (λ y. nat_cmp y n) read (Err i) → (i ≤ length ns) × (with_number ns n is_in ≡ (if is_in then insert ns i n else ns))
 missing ns read n i is_in same rising result =
     let at = searched ns n (Err i) (subst (λ (ns : List ℕ). IsBinarySearchResult (λ y. nat_cmp y n) ns (Err i)) same result) (sorted ns 0 rising) in
     (at.0, free ns n i is_in at.0 at.1 at.2)
 
 -- ---- the places of live transactions
 
-rising_from : (b : Bool) (ns : List ℕ) (before : ℕ) → IsRising (before + 1) ns → IsRising before (if b then (before + 1) ∷ ns else ns)
+rising_from : (b : Bool) (ns : List ℕ) (before : ℕ) → AreRisingFrom (before + 1) ns → AreRisingFrom before (if b then (before + 1) ∷ ns else ns)
 rising_from true ns before rest = (omega arith, rest)
 rising_from false ns before rest = below ns before (before + 1) (omega arith) rest
 
 -- they rise
-pub rising : (ts : List Transaction) (before : ℕ) → IsRising before (live_places before ts)
+pub rising : (ts : List Transaction) (before : ℕ) → AreRisingFrom before (live_places before ts)
 rising [] before = tt
 rising (t ∷ ts) before = rising_from (is_live t) (live_places (before + 1) ts) before (rising ts (before + 1))
 
 -- a number before all others is put before them
-first : (ns : List ℕ) (n : ℕ) (is_in : Bool) → IsRising n ns → with_number ns n is_in ≡ (if is_in then n ∷ ns else ns)
+first : (ns : List ℕ) (n : ℕ) (is_in : Bool) → AreRisingFrom n ns → with_number ns n is_in ≡ (if is_in then n ∷ ns else ns)
 first [] n is_in rises = refl
 first (m ∷ ms) n is_in rises = rw (past m n (omega (arith, rises.0)), ne_eqb m n (λ e. omega (arith, e, rises.0))) refl
 
-set_first : (ns : List ℕ) (n : ℕ) (was is : Bool) → IsRising n ns → (if is then n ∷ ns else ns) ≡ with_number (if was then n ∷ ns else ns) n is
+set_first : (ns : List ℕ) (n : ℕ) (was is : Bool) → AreRisingFrom n ns → (if is then n ∷ ns else ns) ≡ with_number (if was then n ∷ ns else ns) n is
 set_first ns n true true rises = rw (past n n (omega arith), eq-eqb n n refl) refl
 set_first ns n true false rises = rw (past n n (omega arith), eq-eqb n n refl) refl
 set_first ns n false true rises = sym (first ns n true rises)

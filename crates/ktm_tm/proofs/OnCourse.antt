@@ -148,7 +148,7 @@ course_after tm t caller has_files has_keys g c steps goes is =
     subst (λ (t : Transaction). IsAfter c (run steps c) (after_all g steps t tm.now.enlistments)) is.transaction
     (subst (λ (es : List Enlistment). IsAfter c (run steps c) (after_all g steps c.transaction es)) is.enlistments (run_after g c steps on))
 
--- and all that is sent, since nothing was
+-- all that was sent after the steps on a course is what their carrying out sends, since nothing was sent before
 pub course_sent : (tm : TmState) (t : Transaction) (caller : Option Id) (has_files has_keys : Bool) (g : Going) (c : Course) (steps : List Step) → GoesBy tm caller has_files has_keys g → IsCourseIn tm t caller has_files has_keys c
     → (run steps c).sent ≡ (after_all g steps t tm.now.enlistments).sent
 course_sent tm t caller has_files has_keys g c steps goes is =

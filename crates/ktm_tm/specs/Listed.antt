@@ -40,9 +40,9 @@ live_places before [] = []
 live_places before (t ∷ ts) = if is_live t then (before + 1) ∷ live_places (before + 1) ts else live_places (before + 1) ts
 
 -- each number is above this one, and above those before it
-abbrev pub IsRising : ℕ → List ℕ → Type 0
-IsRising before [] = Unit {0}
-IsRising before (n ∷ ns) = (before < n) × IsRising n ns
+abbrev pub AreRisingFrom : ℕ → List ℕ → Type 0
+AreRisingFrom before [] = Unit {0}
+AreRisingFrom before (n ∷ ns) = (before < n) × AreRisingFrom n ns
 
 -- the numbers, which rise, with this one among them or without it
 abbrev pub with_number : List ℕ → ℕ → Bool → List ℕ

@@ -17,6 +17,6 @@ is_to_recover ts manager e = same_id e.manager manager && not e.is_recovered && 
 abbrev pub recovers : List Transaction → Id → List Enlistment → List Sent
 recovers ts manager es = map (λ e. record { manager = manager; note = record { kind = Notify.Recover; enlistment = Some e.id } }) (filter (is_to_recover ts manager) es)
 
--- and a LAST_RECOVER
+-- a RECOVER for each of the enlistments that the resource manager is to recover, and a LAST_RECOVER
 abbrev pub recover_notes : Transactions → Id → List Sent
 recover_notes now manager = recovers now.items manager now.enlistments ++ record { manager = manager; note = record { kind = Notify.LastRecover; enlistment = None } } ∷ []

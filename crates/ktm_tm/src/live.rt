@@ -2,7 +2,7 @@
 ghost use Rattle.std.specs.Prelude.{◌≡◌, ◌<◌, ◌≤◌, length, vec_capacity, vec_len};
 ghost use Rattle.std.specs.List.{insert};
 ghost use Rattle.ktm_world.specs.Transactions.{is_live};
-ghost use Rattle.ktm_tm.specs.Listed.{IsRising, with_number};
+ghost use Rattle.ktm_tm.specs.Listed.{AreRisingFrom, with_number};
 ghost use Rattle.ktm_tm.specs.TmState.{if_live};
 
 use ktm_types::{Phase, Transaction};
@@ -36,7 +36,7 @@ fn insert_reserved(numbers: &mut Vec<u32>, place: usize, number: u32)
 
 /// Puts the number among others that rise, or takes it from there. It takes no memory.
 pub fn put_number(numbers: &mut Vec<u32>, number: u32, is_in: bool)
-    requires rising { IsRising 0 numbers.old.items }
+    requires rising { AreRisingFrom 0 numbers.old.items }
     requires room { length (with_number numbers.old.items number is_in) ≤ vec_capacity numbers.old }
     ensures items { numbers.new.items ≡ with_number numbers.old.items number is_in }
     ensures capacity { vec_capacity numbers.new ≡ vec_capacity numbers.old }

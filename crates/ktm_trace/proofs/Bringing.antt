@@ -16,6 +16,6 @@ next-last ts brought i t rises within is all =
     last id_of brought (map traced (drop (i + 1) ts)) (traced t)
     (subst (Rises id_of) (sym all ∙ ap (λ l. brought ++ l) (left-from ts i t within is)) (map-rises recorded_id id_of traced (λ u. refl) ts rises))
 
--- and once it is brought back too, all are there with those that are left then
+-- once the next one is brought back too, all are there with those that are left then
 pub next-brought : (ts : List Recorded) (brought : List Traced) (i : ℕ) (t : Recorded) → i < length ts → t ≡ get_or ts i t → brought ++ map traced (drop i ts) ≡ map traced ts → (brought ++ traced t ∷ []) ++ map traced (drop (i + 1) ts) ≡ map traced ts
 next-brought ts brought i t within is all = append_assoc brought (traced t ∷ []) (map traced (drop (i + 1) ts)) ∙ ap (λ l. brought ++ l) (sym (left-from ts i t within is)) ∙ all

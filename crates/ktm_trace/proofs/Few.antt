@@ -230,6 +230,6 @@ head-fits hs ms id hs' places room all left =
     let are = ap length left in
     omega (arith, room.transactions)
 
--- and for one part more
+-- there is room for one part more
 pub mark-fits : (hs : List Head) (ms : List Mark) (places : ℕ) → AreJoined hs ms → HasRoom (joined_all hs ms) → MOST_MARKS ≤ places → length ms < places
 mark-fits hs ms places are room all = let counted = all-count hs ms are.known in omega (arith, room.parts)

@@ -224,7 +224,7 @@ new-joined : (hs : List Head) (ms : List Mark) (id : Id) (o : Option Head) → A
 new-joined hs ms id None are found = λ i. record { id = id; stage = Stage.Ready; superior = None; parts = are.known id found i }
 new-joined hs ms id (Some h) are found = refl
 
--- the same among all
+-- a head among all, or a new one, joined with the marks is the transaction among all that are joined, or a new one
 or-new-joined : (hs : List Head) (ms : List Mark) (id : Id) → AreJoined hs ms → joined ms (head_or_new id (at_id head_id hs id)) ≡ traced_or_new (joined_all hs ms) id
 or-new-joined hs ms id are = new-joined hs ms id (at_id head_id hs id) are refl ∙ ap (traced_or id) (sym (at-joined hs ms id))
 

@@ -135,5 +135,5 @@ traces_after ts (Done transaction done) = once_done ts done (at_id id_of ts tran
 pub record TracesLaw : Type 0 where
   -- with one event
   pub event : (s : Durable) (event : Event) → traces_of (after_event s event) ≡ traces_after (traces_of s) event
-  -- and with events one after another
+  -- with events one after another
   pub events : (s : Durable) (events : List Event) → traces_of (after_events s events) ≡ fold traces_after (traces_of s) events

@@ -136,7 +136,7 @@ pub enum Command {
         share: ShareMode,
         disposition: Disposition,
     },
-    /// The same, in a transaction.
+    /// Opens a file, or makes it, as its disposition says, in a transaction.
     CreateFileTransacted {
         label: Label,
         path: Text,
@@ -212,7 +212,7 @@ pub enum Command {
     FindFiles {
         pattern: Text,
     },
-    /// The same, through a transaction.
+    /// Lists the entries of a directory whose names match a pattern, as a transaction sees them.
     FindFilesTransacted {
         pattern: Text,
         transaction: Label,

@@ -36,7 +36,7 @@ pub enum Phase {
     SinglePhase,
     /// All are prepared, and its superior was told.
     Held,
-    /// The same, after a restart.
+    /// All were prepared, and its superior was told, before a restart.
     InDoubt,
     /// It commits, and enlistments owe CommitComplete.
     Committing,

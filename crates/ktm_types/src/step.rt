@@ -88,6 +88,6 @@ pub enum Step {
     Decide(TransactionOutcome),
     /// It has ended with this outcome, and its superior is told.
     End(TransactionOutcome),
-    /// The same, where nobody is unfinished.
+    /// Where nobody is unfinished it has ended with this outcome, and its superior is told.
     EndWhereFinished(TransactionOutcome),
 }

@@ -44,10 +44,6 @@ same-there (Move node parent name) None kept kept' = refl
 same-there (Move node parent name) (Some x) kept kept' = refl
 same-there (Drop node) o kept kept' = absurd (true≢false kept)
 
-some-none : (o : Option Node) → is_some o ≡ false → o ≡ None
-some-none None is = refl
-some-none (Some x) is = absurd (true≢false is)
-
 -- a node that is made is not there before
 make-absent : (t : Tree) (c : Change) → applies t c ≡ true → is_make c ≡ true → is_some (node_at t (node_of c)) ≡ false
 make-absent t (Make node parent kind name) is make =
@@ -144,7 +140,7 @@ new-times tree (c ∷ cs) n new there =
 
 -- ---- all of them
 
--- so many are made and left by these
+-- the nodes that changes make are those that they leave made and those that they drop again
 abbrev IsCounted : Tree → List Change → Type 0
 IsCounted tree cs = nodes_made cs + count_by (drops_made tree) cs ≡ count_by is_make cs
 

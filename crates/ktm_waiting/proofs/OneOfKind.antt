@@ -87,7 +87,7 @@ replaced-at test part ps i few found =
       found = λ d. find_at (λ (p : RecordedPart). test p.part) ps ∙ ap (slice_get ps) (sym is.0) ∙ slice_get-get_or ps i d within;
     }
 
--- or none is of it
+-- no part is of the kind
 pub record IsAbsent (test : Part → Bool) (ps : List RecordedPart) : Type 0 where
   pub left : (part : Part) → map (replaced test part) ps ≡ ps
   pub found : find (λ (p : RecordedPart). test p.part) ps ≡ None

@@ -148,7 +148,7 @@ module _ (s : Durable) (r : ReserveState) (changes : List Change)
         ∙ all-not met_by made_by (others_waiting s who)
         ∙ ap not (tells_one who _ _ (λ id. meet_held (held_in r id) s.tree changes) (tells_refused who) (tells_met who r s.tree changes))
 
--- the same, of transactions whose changes apply, and are none once they are decided
+-- changes apply beside transactions whose changes apply, and are none once they are decided, where they meet nothing that those hold
 pub free-is : (s : Durable) (r : ReserveState) (who : Option Id) (changes : List Change)
     → ((t : Recorded) → IsIn t s.transactions → (changes_apply s.tree (changes_of t) ≡ true) × (is_decided t.stage ≡ true → changes_of t ≡ []))
     → IsByRisingId s.transactions

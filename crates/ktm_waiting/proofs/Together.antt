@@ -134,7 +134,7 @@ taken-out a (x ∷ ts) id t rises (b, c, is, rest, sum) found = elim (cases_Bool
       record { this = out.this; others = plus b out.others; is = out.is; rest = rw other (b, out.others, is, out.rest, refl); sum = sum ∙ ap (plus b) out.sum ∙ plus-turned b out.this out.others }
 ]
 
--- the same of one of which nothing may be recorded
+-- a transaction, of which perhaps nothing is recorded, and the others
 known-out : (a : Amounts) (ts : List Recorded) (id : Id) → Rises ts → TakeTogether a ts → IsOut a ts id (recorded_or_new ts id)
 known-out a ts id rises all = go (recorded_at ts id) refl
   where

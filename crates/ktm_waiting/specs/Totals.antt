@@ -6,7 +6,7 @@ use Rattle.ktm_world.specs.Changes.{changes_apply, changes_bytes, is_drop, node_
 use Rattle.ktm_world.specs.Durable.{Recorded, changes_in, changes_of, enlistments_in, enlistments_of, settings_in}
 use Rattle.ktm_world.specs.Tree.{Tree, node_at}
 use Rattle.ktm_waiting.specs.declared.amounts.Amounts.{Amounts}
-use Rattle.ktm_waiting.specs.Waiting.{IsKept, amounts_of, fits_in, limits, plus, total, units_waiting_in}
+use Rattle.ktm_waiting.specs.Waiting.{IsWaitingKept, amounts_of, fits_in, limits, plus, total, units_waiting_in}
 use Rattle.txf_laws.specs.Elements.{IsIn}
 
 -- the transactions that are not over
@@ -35,7 +35,7 @@ amounts_in tree part = record {
 abbrev pub IsAmountOf : Amounts → Recorded → Type 0
 IsAmountOf a t = (tree : Tree) → changes_apply tree (changes_of t) ≡ true → a ≡ amounts_of tree t
 
--- so does one, if there is one
+-- if there is a transaction it takes so much, and else this is nothing
 abbrev pub IsAmountAt : Amounts → Option Recorded → Type 0
 IsAmountAt a None = a ≡ nothing
 IsAmountAt a (Some t) = IsAmountOf a t
@@ -56,7 +56,7 @@ AllApply tree ts = (t : Recorded) → IsIn t ts → changes_apply tree (changes_
 
 -- each is kept over these files
 abbrev pub AreKeptOver : Tree → List Recorded → Type 0
-AreKeptOver tree ts = (t : Recorded) → IsIn t ts → IsKept tree t
+AreKeptOver tree ts = (t : Recorded) → IsIn t ts → IsWaitingKept tree t
 
 -- does the change drop a node that is not in the tree, since an earlier one made it
 abbrev pub drops_made : Tree → Change → Bool

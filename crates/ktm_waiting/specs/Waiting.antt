@@ -35,7 +35,7 @@ others_set who settings ts = list_any (λ t. waits_beside who t && set_both sett
 
 -- a transaction has one part of each kind at most, and no changes and no settings once it is decided; before that they have the form in
 -- which they are recorded, the changes apply to the files, and they make no node that is there
-pub record IsKept (tree : Tree) (t : Recorded) : Type 0 where
+pub record IsWaitingKept (tree : Tree) (t : Recorded) : Type 0 where
   pub parts : has_one_part_each t ≡ true
   pub changes : are_kept_changes t ≡ true
   pub settings : are_kept_settings t ≡ true
@@ -49,7 +49,7 @@ AreBeside tree t u = AreFootprintsApart (footprint tree (changes_of t)) (footpri
 -- each transaction is kept, they are by rising Id, and what each two of them change is apart
 pub record AreKept (tree : Tree) (ts : List Recorded) : Type 0 where
   pub rise : IsByRisingId ts
-  pub each : (t : Recorded) → IsIn t ts → IsKept tree t
+  pub each : (t : Recorded) → IsIn t ts → IsWaitingKept tree t
   pub beside : (t u : Recorded) → IsIn t ts → IsIn u ts → (t.id ≡ u.id → ⊥) → AreBeside tree t u
 
 -- changes are apart from those of each transaction
@@ -91,7 +91,7 @@ committed tree keys = record { units = sum_by (λ node. units_of (bytes_or_none 
 abbrev pub units_waiting_in : Tree → List Change → ℕ
 units_waiting_in tree cs = sum_by (λ file. units_of (bytes_of (changed_all tree cs) file)) (written_files cs)
 
--- so many, unless the transaction is decided
+-- this number while the transaction is not decided, and else 0
 abbrev pub while_waiting : Recorded → ℕ → ℕ
 while_waiting t n = if is_decided t.stage then 0 else n
 

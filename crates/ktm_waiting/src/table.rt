@@ -362,7 +362,7 @@ impl Table {
         }
     }
 
-    /// The transaction has one part more that is ready. For want of memory it is lost.
+    /// The transaction has one part more that is ready. Out of memory it is lost.
     pub(crate) fn add_part(&mut self, alloc: Global, id: Id, part: Part) -> Result<(), NoMemory>
         ensures ok { OnOk result (self.new.transactions ≡ with_recorded self.old.transactions (with_one_part (recorded_or_new self.old.transactions id) part)) }
         ensures err { OnErr result (self.new.transactions ≡ without_recorded self.old.transactions id) }

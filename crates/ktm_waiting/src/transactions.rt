@@ -8,7 +8,7 @@ ghost use Rattle.ktm_world.specs.Transactions.{same_id};
 ghost use Rattle.ktm_world.specs.Tree.{Tree};
 ghost use Rattle.ktm_waiting.specs.Table.{IsByRisingId, changes_at, decided_in, finished_in, held_for, settings_at, with_one_part};
 ghost use Rattle.ktm_waiting.specs.Totals.{AllApply, AreKeptOver, IsAmountAt, IsAmountOf, PassImages, TakeTogether, enlisted_at, nothing};
-ghost use Rattle.ktm_waiting.specs.Waiting.{IsKept, total};
+ghost use Rattle.ktm_waiting.specs.Waiting.{IsWaitingKept, total};
 ghost use Rattle.txf_tree.specs.TreeState.{tree_of};
 
 use crate::amounts::{
@@ -78,7 +78,7 @@ fn added_at(table: &Table, id: Id) -> u128
 
 // What a transaction takes, if it is ready, and otherwise nothing.
 fn amounts_if_ready(files: &DurableFiles, transaction: &Recorded) -> Amounts
-    requires { IsKept (tree_of files.now.tree) transaction.now }
+    requires { IsWaitingKept (tree_of files.now.tree) transaction.now }
     ensures ready { is_ready transaction.now.stage ≡ true → IsAmountOf result transaction.now }
     ensures other { is_ready transaction.now.stage ≡ false → result ≡ nothing }
 {
@@ -190,8 +190,8 @@ impl Transactions {
         self.taken = taken;
     }
 
-    /// The transaction has one part more that is ready. It answers false where no image has room for what they would take. For
-    /// want of memory all are forgotten.
+    /// The transaction has one part more that is ready. It answers false where no image has room for what they would take. Out of
+    /// memory all are forgotten.
     pub fn add_part(
         &mut self,
         alloc: Global,
@@ -225,8 +225,8 @@ impl Transactions {
         }
     }
 
-    /// The transaction waits for this superior from now on. It answers false where no image has room for what they would take. For
-    /// want of memory all are forgotten.
+    /// The transaction waits for this superior from now on. It answers false where no image has room for what they would take. Out of
+    /// memory all are forgotten.
     pub fn hold(&mut self, alloc: Global, id: Id, superior: Superior) -> Result<bool, NoMemory>
         requires { is_decided (recorded_or_new self.old.transactions id).stage ≡ false }
         ensures held { result ≡ Ok true → self.new.transactions ≡ with_recorded self.old.transactions (held_for (recorded_or_new self.old.transactions id) superior) }

@@ -41,7 +41,7 @@ versions_same files store None None = refl
 versions_same files store None (Some change) = refl
 versions_same files store (Some id) change = refl
 
--- and no call on files changes the store
+-- no call on files changes the store
 store_same : (files : FilesNow) (store : Store) (who : Option Id) (change : Option Change) → (committed_with (committed_files files store) (works_of who change)).store ≡ store
 store_same files store None None = refl
 store_same files store None (Some change) = refl
@@ -103,7 +103,7 @@ none_of_ten a b c d e f g h i j none =
     let one = or_parts a b two.0 in
     (one.0, one.1, two.1, three.1, four.1, five.1, six.1, seven.1)
 
--- and where some still do not hold, the others are left
+-- where some of ten tests do not hold, the others are left
 some_of_ten : (a b c d e f g h i j : Bool) → b ≡ false → c ≡ false → d ≡ false → f ≡ false → g ≡ false → h ≡ false
     → (a || b || c || d || e || f || g || h || i || j) ≡ (a || e || i || j)
 some_of_ten true b c d e f g h i j no_b no_c no_d no_f no_g no_h = refl

@@ -50,7 +50,7 @@ of_files x who o = record (only_reply x o.reply) {
   table = table_after x.files who o;
 }
 
--- the same of a call that is made in a transaction
+-- what a call on files that is made in a transaction makes of the machine
 abbrev pub in_transaction : Present → Pid → Label → (Option Id → FileOutcome) → Outcome
 in_transaction x process transaction call = of_files x (caller x process transaction) (call (caller x process transaction))
 

@@ -142,7 +142,7 @@ emptied (Enlistment enlistment manager information) = Enlistment enlistment mana
 emptied (Changes changes) = Changes []
 emptied (Settings settings) = Settings []
 
--- the same of a recorded part
+-- a recorded part, of which a list that was committed is not kept
 abbrev pub emptied_part : RecordedPart → RecordedPart
 emptied_part p = record p { part = emptied p.part }
 

@@ -41,7 +41,7 @@ set_both a b = list_any (λ setting. is_some (value_at b setting.key)) a
 abbrev pub are_apart : Holds → Holds → Bool
 are_apart a b = not (meet_in a.nodes b.nodes) && not (list_any (is_place_in b.places) a.places) && not (meet_in a.dropped b.uses) && not (a.moves && b.moves)
 
--- and they set no key both
+-- two transactions hold nothing of the files both, and set no key both
 abbrev pub hold_apart : Present → Transaction → Transaction → Bool
 hold_apart x t u = are_apart (holds_now x.files t.id) (holds_now x.files u.id) && not (set_both (own_settings x.keys.own t.id) (own_settings x.keys.own u.id))
 
@@ -156,7 +156,7 @@ summary_now x t stage = record {
 abbrev pub stays : Summary → Bool
 stays s = elim s.stage as (λ _. Bool) [ Stage.Decided ↦ not (length s.enlistments == 0) | _ ↦ true ]
 
--- the same, where the transaction stands in the log at all
+-- what the log has to have of a transaction at its stage, if it stands in the log at all
 abbrev pub summary_in : Present → Transaction → Option Stage → List Summary
 summary_in x t None = []
 summary_in x t (Some stage) = filter stays (summary_now x t stage ∷ [])

@@ -69,7 +69,7 @@ abbrev pub MayFindAll : Bool → World → Type 0
 MayFindAll true w = Unit {0}
 MayFindAll false w = Contains (possible_logs w) w.log
 
--- so it is at each restart
+-- at each restart of a machine that is down all that was recorded may be found
 abbrev pub RestartsMayFindAll : World → List (Option Line) → Type 0
 RestartsMayFindAll w [] = Unit {0}
 RestartsMayFindAll w (Some (Restart pick) ∷ lines) = MayFindAll (is_up w.power) w × RestartsMayFindAll (answer w (Some (Restart pick))).world lines

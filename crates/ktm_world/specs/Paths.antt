@@ -48,7 +48,7 @@ search_in [] = None
 search_in (last ∷ []) = if is_last_part last then Some (record { directory = []; last = last }) else None
 search_in (part ∷ next ∷ parts) = with_part part (search_in (next ∷ parts))
 
--- the same of 32 parts at most
+-- parts as a pattern, where there are 32 at most
 abbrev pub few_parts : Option (List (List ℕ)) → Option Search
 few_parts None = None
 few_parts (Some parts) = if nat_le (length parts) MOST_PARTS then search_in parts else None

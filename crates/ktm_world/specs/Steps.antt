@@ -71,7 +71,7 @@ answered Recovered e = record e { is_recovered = true }
 abbrev pub lasting : Enlistment → Enlistment
 lasting e = record e { owes = None; is_read_only = false; is_prepared = false; is_finished = false; is_recovered = false }
 
--- the same, where there is one
+-- an enlistment, where there is one, by what never changes of it on the way
 abbrev pub lasting_of : Option Enlistment → Option Enlistment
 lasting_of None = None
 lasting_of (Some e) = Some (lasting e)

@@ -1,9 +1,6 @@
 -- Settings that a transaction has again, counted with the others.
-use Rattle.std.proofs.Common.{◌≡◌, ℕ, ◌+◌, ◌-◌, ◌<◌, ◌^◌, List, [], ◌∷◌, ◌++◌, length, Some, sym, ◌∙◌, ap, arith}
-use Rattle.std.specs.Prelude.{count_by, slice_get}
-use Rattle.std.proofs.Math.Seq.{get_or-append_seam}
-use Rattle.std.proofs.lemmas.List.{length-append}
-use Rattle.std.proofs.lemmas.Option.{get_or_from_slice_get}
+use Rattle.std.proofs.Common.{◌≡◌, ℕ, ◌+◌, ◌<◌, ◌^◌, List, [], ◌∷◌, ◌++◌, arith}
+use Rattle.std.specs.Prelude.{count_by}
 use Rattle.ktm_base.specs.declared.id.Id.{Id}
 use Rattle.ktm_world.specs.Keys.{Own, OwnSettings}
 use Rattle.kv_rm.specs.Count.{is_of_kind, AreCounts}
@@ -44,11 +41,3 @@ module _ (own : List Own) (id : Id) (settings : OwnSettings) where
       let all = counted-restored (has_hash hash) own id settings in
       let before = are.counted hash in
       omega (arith, most, all, before)
-
-  -- the settings of the last transaction are these
-  pub last_settings : (last : Own) → Some last ≡ slice_get back (length back - 1) → last.settings ≡ settings
-  last_settings last is =
-      let o : Own = record { transaction = id; settings = settings } in
-      let long = length-append own (o ∷ []) in
-      let at : length back - 1 ≡ length own = omega (arith, long) in
-      ap (λ (x : Own). x.settings) (sym (get_or_from_slice_get back (length own) last o (ap (slice_get back) (sym at) ∙ sym is)) ∙ get_or-append_seam own o [] o)

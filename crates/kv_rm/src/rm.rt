@@ -20,10 +20,8 @@ use crate::call::{KvCall, Room};
 use crate::count::{Counts, Kind};
 use crate::held::HeldKeys;
 use crate::list::keys_with;
-use crate::own::{
-    OwnKeys, Seat, has_own, is_held, own_value, seat_of, set_for, settings_before, settings_of,
-    take_own,
-};
+use crate::own::{OwnList, Seat};
+use crate::setting_list::SettingList;
 use ktm_base::{Bytes, Id, NoMemory, Refusal, Text, TextList};
 use ktm_keyed::KeyedList;
 use ktm_types::{Reply, Setting};
@@ -44,7 +42,7 @@ struct Plan {
 pub struct KvRm {
     alloc: Global,
     store: KeyedList<Bytes>,
-    own: Vec<OwnKeys>,
+    own: OwnList,
     // Of what the transactions have set. The store has room for as many more entries.
     counts: Counts,
     // The same, by the hashes of keys.
@@ -59,12 +57,12 @@ impl Model for KvRm {
 
     ghost Value = { KeysNow };
 
-    ghost view = { λ k. record { store = k.store.items; own = k.own.items } };
+    ghost view = { λ k. record { store = k.store.items; own = k.own } };
 
     ghost invariant = { λ k. record {
-      counted : AreCounts k.own.items k.counts;
+      counted : AreCounts k.own k.counts;
       few : AreFew k.counts;
-      held : AreHeld k.own.items k.held.counts.items;
+      held : AreHeld k.own k.held.counts.items;
       room : k.counts.values + k.counts.unsets ≤ k.store.spare;
     } };
 }
@@ -110,44 +108,42 @@ fn count_key(held: &mut HeldKeys, seat: Option<Seat>)
 
 // A transaction has these settings of its own from now on, behind those of the others. They are counted by the hashes of keys.
 fn push_own(
-    own: &mut Vec<OwnKeys>,
+    own: &mut OwnList,
     held: &mut HeldKeys,
     transaction: Id,
     settings: Vec<Setting>,
 ) -> Result<(), NoMemory>
     requires rising { is_rising settings.items ≡ true }
-    requires held { AreHeld own.old.items held.old.counts.items }
-    requires few { (hash : ℕ) → hash_count hash (own.old.items ++ record { transaction = transaction; settings = settings.items } ∷ []) < 2 ^ 33 }
-    ensures ok { OnOk result (own.new.items ≡ own.old.items ++ record { transaction = transaction; settings = settings.items } ∷ []) }
-    ensures err { OnErr result (own.new.items ≡ own.old.items) }
-    ensures held { AreHeld own.new.items held.new.counts.items }
+    requires held { AreHeld own.old held.old.counts.items }
+    requires few { (hash : ℕ) → hash_count hash (own.old ++ record { transaction = transaction; settings = settings.items } ∷ []) < 2 ^ 33 }
+    ensures ok { OnOk result (own.new ≡ own.old ++ record { transaction = transaction; settings = settings.items } ∷ []) }
+    ensures err { OnErr result (own.new ≡ own.old) }
+    ensures held { AreHeld own.new held.new.counts.items }
 {
     held.reserve()?;
-    own.push(OwnKeys::with_settings(transaction, settings))?;
-    if let Some(last) = own.last() {
-        held.add_all(last.settings());
-    }
+    own.push(transaction, SettingList::from_vec(settings))?;
+    held.add_all(own.last_settings());
     Ok(())
 }
 
 // Takes out what a transaction has set, which is counted no more.
 fn take(
     alloc: Global,
-    own: &mut Vec<OwnKeys>,
+    own: &mut OwnList,
     counts: &mut Counts,
     held: &mut HeldKeys,
     transaction: Id,
 ) -> Vec<Setting>
-    requires counted { AreCounts own.old.items counts.old }
-    requires held { AreHeld own.old.items held.old.counts.items }
-    ensures settings { result.items ≡ own_settings own.old.items transaction }
-    ensures own { own.new.items ≡ without_own own.old.items transaction }
-    ensures counted { AreCounts own.new.items counts.new }
-    ensures held { AreHeld own.new.items held.new.counts.items }
+    requires counted { AreCounts own.old counts.old }
+    requires held { AreHeld own.old held.old.counts.items }
+    ensures settings { result.items ≡ own_settings own.old transaction }
+    ensures own { own.new ≡ without_own own.old transaction }
+    ensures counted { AreCounts own.new counts.new }
+    ensures held { AreHeld own.new held.new.counts.items }
     ensures values { counts.new.values + count_by (is_of_kind Kind.Value) result.items ≡ counts.old.values }
     ensures unsets { counts.new.unsets + count_by (is_of_kind Kind.Unset) result.items ≡ counts.old.unsets }
 {
-    let settings = take_own(alloc, own, transaction);
+    let settings = own.take(alloc, transaction);
     *counts = counts.less(&settings);
     held.remove_all(&settings);
     settings
@@ -161,7 +157,7 @@ impl KvRm {
         KvRm {
             alloc,
             store,
-            own: Vec::new(alloc),
+            own: OwnList::new(alloc),
             counts: Counts {
                 values: 0,
                 unsets: 0,
@@ -207,7 +203,7 @@ impl KvRm {
         ensures { option_copied result ≡ value_seen self.now who key.now }
     {
         if let Some(transaction) = who {
-            if let Some(setting) = own_value(&self.own, transaction, key) {
+            if let Some(setting) = self.own.value(transaction, key) {
                 return setting.as_ref();
             }
         }
@@ -231,7 +227,7 @@ impl KvRm {
     fn keys_seen(&self, who: Option<Id>) -> Result<TextList, NoMemory>
         ensures { IfOk result (λ keys. keys ≡ keys_of (store_seen self.now who)) }
     {
-        let settings = settings_before(&self.own, who);
+        let settings = self.own.settings_before(who);
         keys_with(self.alloc, self.store.as_slice(), settings)
     }
 
@@ -244,7 +240,7 @@ impl KvRm {
     {
         match who {
             Some(transaction) => {
-                let seat = seat_of(&self.own, transaction, key.as_slice());
+                let seat = self.own.seat(transaction, key.as_slice());
                 Plan {
                     seat: Some(seat),
                     counts: self.counts.with(seat.was, kind),
@@ -266,7 +262,7 @@ impl KvRm {
         match (who, seat) {
             (Some(transaction), Some(seat)) => {
                 self.held.has_others(seat.hash, seat.was.is_some())
-                    && is_held(&self.own, transaction, key.as_slice())
+                    && self.own.is_held(transaction, key.as_slice())
             }
             _ => false,
         }
@@ -296,7 +292,7 @@ impl KvRm {
     {
         self.store.reserve(plan.counts.all())?;
         self.held.reserve()?;
-        set_for(self.alloc, &mut self.own, who, plan.seat, key, value)?;
+        self.own.set_for(self.alloc, who, plan.seat, key, value)?;
         self.counts = plan.counts;
         count_key(&mut self.held, plan.seat);
         Ok(Reply::Done)
@@ -353,14 +349,14 @@ impl KvRm {
     pub fn own_settings(&self, transaction: Id) -> &[Setting]
         ensures { result.now ≡ own_settings self.now.own transaction }
     {
-        settings_of(&self.own, transaction)
+        self.own.settings_of(transaction)
     }
 
     /// Has the transaction set or unset a key.
     pub fn has_settings(&self, transaction: Id) -> bool
         ensures { result ≡ has_settings (own_settings self.now.own transaction) }
     {
-        !settings_of(&self.own, transaction).is_empty()
+        !self.own.settings_of(transaction).is_empty()
     }
 
     /// How many keys all transactions together have unset.
@@ -374,7 +370,7 @@ impl KvRm {
     pub(crate) fn has_own(&self, transaction: Id) -> bool
         ensures { result ≡ has_own self.now.own transaction }
     {
-        has_own(&self.own, transaction)
+        self.own.has(transaction)
     }
 
     // Makes the transaction's settings in the store, in order. It takes no memory.

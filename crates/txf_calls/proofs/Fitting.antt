@@ -1,11 +1,10 @@
 -- What calls come to can be told by what is counted.
 use Rattle.std.proofs.Common.{◌≡◌, ◌∙◌, ℕ, true, false, List, [], ◌∷◌, is_some, Option, Some, None, refl, sym, ap, subst, inl, inr}
-use Rattle.std.proofs.lemmas.Bool.{cases_Bool, both_ways, false≢true}
+use Rattle.std.proofs.lemmas.Bool.{cases_Bool, both_ways}
 use Rattle.ktm_base.specs.declared.id.Id.{Id}
 use Rattle.ktm_types.specs.declared.change.Change.{Change}
-use Rattle.ktm_types.specs.declared.change.Change.TheVariants.{Make, Put, Cut}
+use Rattle.ktm_types.specs.declared.change.Change.TheVariants.{Put, Cut}
 use Rattle.ktm_types.specs.declared.change.Contents.TheVariants.{Whole}
-use Rattle.ktm_types.specs.declared.change.NodeKind.{NodeKind}
 use Rattle.ktm_types.specs.declared.options.Disposition.{Disposition}
 use Rattle.ktm_world.specs.Changes.{changes_bytes, has_made, is_drop, is_make, node_of}
 use Rattle.ktm_world.specs.Conflicts.{writes}
@@ -13,7 +12,6 @@ use Rattle.ktm_world.specs.FileCalls.{emptying, empties, first_opening, set_end,
 use Rattle.ktm_world.specs.FileOutcome.{FileOutcome}
 use Rattle.ktm_world.specs.Files.{FilesNow, OpenFile, first_open_of, own_changes, tree_seen}
 use Rattle.ktm_world.specs.Tree.{is_file, numbers_rise}
-use Rattle.txf_laws.specs.FileEffects.{IsOrderly}
 use Rattle.txf_calls.specs.Fits.{FitsChange, IsFit, IsOnFile, opens_file}
 use Rattle.txf_calls.specs.Found.{has_file}
 use Rattle.txf_calls.proofs.Numbered.{had-before, only-file}
@@ -23,14 +21,6 @@ module _ (files : FilesNow) where
   fit who o change first changes opens fits committed = record { change = subst (FitsChange files who) (sym changes) fits; first = ap (opens_file files.tree) opens ∙ committed }
 
   -- ---- a node is made
-
-  make-fits : (who : Option Id) (parent : ℕ) (kind : NodeKind) (name : List ℕ) → IsOrderly files → FitsChange files who (Some (Make files.table.next_node parent kind name))
-  make-fits None parent kind name orderly = record { fits = λ is. orderly.free; fresh = λ is. orderly.fresh; file = λ is. absurd (false≢true is) }
-  make-fits (Some id) parent kind name orderly = refl
-
-  pub fit-make : (who : Option Id) (o : FileOutcome) (node parent : ℕ) (kind : NodeKind) (name : List ℕ) → IsOrderly files → node ≡ files.table.next_node → o.change ≡ Some (Make node parent kind name) → o.first ≡ None → IsFit files who o
-  fit-make who o node parent kind name orderly next changes opens =
-      fit who o (Some (Make files.table.next_node parent kind name)) None (changes ∙ ap (λ n. Some (Make n parent kind name)) next) opens (make-fits who parent kind name orderly) refl
 
   -- ---- bytes are put or cut
 

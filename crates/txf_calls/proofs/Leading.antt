@@ -3,14 +3,14 @@ use Rattle.std.proofs.Common.{◌≡◌, ◌∙◌, ◌≤◌, ◌==◌, ◌&&�
 use Rattle.std.specs.List.{list_any}
 use Rattle.std.proofs.lemmas.Bool.{cases_Bool, and_from, and_parts, both_ways, eq-eqb, or_right}
 use Rattle.std.proofs.lemmas.List.{length-map}
-use Rattle.std.proofs.lemmas.List.Elements.{All-cons, All-head, All-nil, All-tail}
+use Rattle.std.proofs.lemmas.List.Elements.{All-head, All-tail}
 use Rattle.std.proofs.lemmas.Option.{none-some, same_Some}
 use Rattle.std.proofs.lemmas.Slice.Eq.{bytes_eq-Decides}
 use Rattle.ktm_base.specs.declared.limits.TheConstants.{MOST_NAME_BYTES}
 use Rattle.ktm_base.specs.Names.{IsName, folded, folded_byte}
 use Rattle.ktm_types.specs.declared.recorded.Node.{Node}
 use Rattle.ktm_world.specs.FileCalls.{no_way, at_root, entered, reached, walk}
-use Rattle.ktm_world.specs.Holds.{Place, place}
+use Rattle.ktm_world.specs.Holds.{place}
 use Rattle.ktm_world.specs.Laws.{PathLaw}
 use Rattle.ktm_world.specs.Paths.{path_of}
 use Rattle.ktm_world.specs.Tree.{Tree, child_of, has_number, is_there, node_at, root, same_name}
@@ -114,9 +114,3 @@ found-there law tree text names is t led = found-along tree root names refl ((la
 
 short-place : (directory : ℕ) (name : List ℕ) → length name ≤ MOST_NAME_BYTES → length (place directory name).name ≤ MOST_NAME_BYTES
 short-place directory name short = subst (λ k. k ≤ 255) (sym (length-folded name)) short
-
-pub one-short : (directory : ℕ) (name : List ℕ) → length name ≤ MOST_NAME_BYTES → All (λ (p : Place). length p.name ≤ MOST_NAME_BYTES) (place directory name ∷ [])
-one-short directory name short = All-cons (λ (p : Place). length p.name ≤ MOST_NAME_BYTES) (place directory name) [] (short-place directory name short) (All-nil (λ (p : Place). length p.name ≤ MOST_NAME_BYTES))
-
-pub two-short : (from to : ℕ) (left taken : List ℕ) → length left ≤ 255 → length taken ≤ 255 → All (λ (p : Place). length p.name ≤ MOST_NAME_BYTES) (place from left ∷ place to taken ∷ [])
-two-short from to left taken short-left short-taken = All-cons (λ (p : Place). length p.name ≤ MOST_NAME_BYTES) (place from left) (place to taken ∷ []) (short-place from left short-left) (one-short to taken short-taken)

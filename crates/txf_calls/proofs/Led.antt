@@ -5,16 +5,9 @@ use Rattle.ktm_types.specs.declared.recorded.Node.{Node}
 use Rattle.ktm_world.specs.FileCalls.{Whereabouts as There, no_path, no_way, free, at_root, at_node}
 use Rattle.txf_calls.specs.Leads.{Leads, seen_of}
 use Rattle.txf_calls.specs.declared.along.Whereabouts.{Whereabouts}
-use Rattle.txf_calls.specs.declared.along.Whereabouts.TheVariants.{NoWay, Free, Root, Node as At}
+use Rattle.txf_calls.specs.declared.along.Whereabouts.TheVariants.{Free, Root, Node as At}
 
 module _ (P : There → Type 0) where
-  at-no_way : (w : There) → Leads NoWay w → P no_way → P w
-  at-no_way no_path led is = absurd led
-  at-no_way no_way led is = is
-  at-no_way (free d n) led is = absurd led
-  at-no_way at_root led is = absurd led
-  at-no_way (at_node node) led is = absurd led
-
   at-free : (d : _) (name : _) (w : There) → Leads (Free d name) w → P (free d name.now) → P w
   at-free d name no_path led is = absurd led
   at-free d name no_way led is = absurd led
@@ -38,9 +31,6 @@ module _ (P : There → Type 0) where
 
   -- whichever it is
   module _ (there : Whereabouts) (w : There) (led : Leads there w) where
-    pub by-no_way : there ≡ NoWay → P no_way → P w
-    by-no_way same is = at-no_way w (subst (λ t. Leads t w) same led) is
-
     pub by-free : (d : _) (name : _) → there ≡ Free d name → P (free d name.now) → P w
     by-free d name same is = at-free d name w (subst (λ t. Leads t w) same led) is
 

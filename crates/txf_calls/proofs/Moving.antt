@@ -39,7 +39,7 @@ module _ (files : FilesNow) (room : FileRoom) (who : Option Id) where
   move-no-source source target none =
       move-is files room who source target ∙ ap (λ w. move_there files room who w (find_path (tree_seen files who) target)) (find-no-path (tree_seen files who) source none)
 
-  -- nor where anything could be moved to
+  -- a text that is no path names nothing that anything could be moved to
   pub move-no-target : (source target : List ℕ) → path_of target ≡ None → file_outcome files room who (Move source target) ≡ answering (Refused InvalidName)
   move-no-target source target none =
       move-is files room who source target

@@ -46,7 +46,7 @@ changed-had (Cut node size pages) tree n names other has = absurd (true≢false 
 changed-had (Move node parent name) tree n names other has = sym (moved-same tree node n parent name) ∙ has
 changed-had (Drop node) tree n names other has = left-had tree node n has
 
--- and so behind the changes of names of a transaction
+-- a file behind the changes of names of a transaction that does not make it was one before
 pub had-before : (changes : List Change) (tree : Tree) (n : ℕ) → has_made changes n ≡ false → has_file (changed_all tree (filter (λ change. not (changes_bytes change)) changes)) n ≡ true → has_file tree n ≡ true
 had-before [] tree n made has = has
 had-before (c ∷ cs) tree n made has =

@@ -48,7 +48,7 @@ unless_refused None o = o
 abbrev pub file_outcome : FilesNow → FileRoom → Option Id → FileCall → FileOutcome
 file_outcome files room who call = unless_refused (first_refusal (file_tests files room who call)) (file_effect files who call)
 
--- may the call want memory: one that has no path and reads no bytes does not
+-- may the call take memory: one that has no path and reads no bytes takes none
 abbrev pub takes_memory : FileCall → Bool
 takes_memory (Write file offset bytes) = false
 takes_memory (SetEnd file size) = false

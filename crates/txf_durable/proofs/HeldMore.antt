@@ -29,16 +29,7 @@ or_nothing true s = refl
 or_nothing false true = refl
 or_nothing false false = refl
 
-holds-none : (id : Id) (r : ReserveState) → HoldsToo [] [] [] false id r r
-holds-none id r = record {
-  nodes = λ who n. or_nothing (is_in (holds_in r who).nodes n) (same_id who id);
-  names = λ who p. or_nothing (is_place_in (holds_in r who).places p) (same_id who id);
-  uses = λ who n. or_nothing (is_in (holds_in r who).uses n) (same_id who id);
-  drops = λ who n. or_nothing (is_in (holds_in r who).dropped n) (same_id who id);
-  right = λ who. or_nothing (holds_in r who).moves (same_id who id);
-}
-
--- the same, in other words
+-- what is held too, by equal lists
 pub holds-same : (ns ns' : List ℕ) (ps ps' : List Place) (ds ds' : List ℕ) (m m' : Bool) (id : Id) (r r' : ReserveState) → ns ≡ ns' → ps ≡ ps' → ds ≡ ds' → m ≡ m' → HoldsToo ns ps ds m id r r' → HoldsToo ns' ps' ds' m' id r r'
 holds-same ns ns' ps ps' ds ds' m m' id r r' nodes names drops right h = record {
   nodes = λ who n. h.nodes who n ∙ ap (λ l. is_in (holds_in r who).nodes n || (same_id who id && is_in l n)) nodes;
@@ -48,7 +39,7 @@ holds-same ns ns' ps ps' ds ds' m m' id r r' nodes names drops right h = record 
   right = λ who. h.right who ∙ ap (λ b. (holds_in r who).moves || (same_id who id && b)) right;
 }
 
--- and then more
+-- what is held too by two steps, one after the other
 pub holds-then : (ns ns' : List ℕ) (ps ps' : List Place) (ds ds' : List ℕ) (m m' : Bool) (id : Id) (r r' r'' : ReserveState)
     → HoldsToo ns ps ds m id r r' → HoldsToo ns' ps' ds' m' id r' r'' → HoldsToo (ns ++ ns') (ps ++ ps') (ds ++ ds') (m || m') id r r''
 holds-then ns ns' ps ps' ds ds' m m' id r r' r'' a b = record {

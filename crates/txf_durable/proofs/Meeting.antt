@@ -59,7 +59,7 @@ module _ (r : ReserveState) (who : Option Id) where
       (λ i. (sym (or-false (meets (opens (node_of c) true))) ∙ sym none ∙ one) i || met-bytes (changed t c) cs these.1 bytes.1 i)
       ∙ sym (met-append t (c ∷ []) cs)
 
-  -- so changes of names, and of bytes behind them, meet it where either do
+  -- changes of names, and of bytes behind them, meet what is held where either do
   pub met-split : (t : Tree) (cs names bytes : List Change) → names ++ bytes ≡ cs → changes_apply (changed_all t names) bytes ≡ true → list_all changes_bytes bytes ≡ true
       → (is_met r who t names || list_any (λ c. meets (opens (node_of c) true)) bytes) ≡ is_met r who t cs
   met-split t cs names bytes whole apply all =

@@ -40,7 +40,7 @@ bytes-next (c ∷ cs) = elim (cases_Bool (changes_bytes c)) [
       rw (names, more) (bytes-next cs)
 ]
 
--- and bytes are what comes then
+-- from the first change of bytes on bytes come first
 pub bytes-first : (cs : List Change) → begins_with_bytes (drop (unwrap_or (position changes_bytes cs) (length cs)) cs) ≡ true
 bytes-first cs = elim (cases_Bool (nat_lt (prefix_len (λ c. not (changes_bytes c)) cs) (length cs))) [
   | inl within ↦ rw within (bytes-next cs)

@@ -6,7 +6,7 @@ use Rattle.std.specs.List.Sorted.{IsBinarySearchResult}
 use Rattle.std.proofs.lemmas.Bool.{cases_Bool, eqb-false}
 use Rattle.std.proofs.lemmas.List.Sorted.{searched}
 use Rattle.ktm_world.specs.Committed.{with_number, without_number}
-use Rattle.txf_durable.specs.Numbers.{AreAbove, IsRising}
+use Rattle.txf_durable.specs.Numbers.{AreAbove, AreNumbersRising}
 
 above-lower : (ns : List ℕ) (a b : ℕ) → a < b → AreAbove b ns → AreAbove a ns
 above-lower [] a b low above = tt
@@ -18,7 +18,7 @@ above-at (m ∷ ms) n zero above within = above.0
 above-at (m ∷ ms) n (suc i) above within = above-at ms n i above.1 (omega (arith, within))
 
 -- they can be searched by halves
-sorted : (ns : List ℕ) → IsRising ns → (i j : ℕ) → i ≤ j → j < length ns → get_or ns i 0 ≤ get_or ns j 0
+sorted : (ns : List ℕ) → AreNumbersRising ns → (i j : ℕ) → i ≤ j → j < length ns → get_or ns i 0 ≤ get_or ns j 0
 sorted [] rising i j low within = absurd (omega (arith, within))
 sorted (n ∷ ns) rising zero zero low within = omega arith
 sorted (n ∷ ns) rising zero (suc j) low within = omega (arith, above-at ns n j rising.0 (omega (arith, within)))
@@ -37,7 +37,7 @@ above-with (m ∷ ms) a n low above = elim (cases_Bool (m == n)) [
   ]
 ]
 
-rising-with : (ns : List ℕ) (n : ℕ) → IsRising ns → IsRising (with_number ns n)
+rising-with : (ns : List ℕ) (n : ℕ) → AreNumbersRising ns → AreNumbersRising (with_number ns n)
 rising-with [] n rising = (tt, tt)
 rising-with (m ∷ ms) n rising = elim (cases_Bool (m == n)) [
   | inl same ↦ rw same rising
@@ -58,7 +58,7 @@ above-without (m ∷ ms) a n above = elim (cases_Bool (m == n)) [
   | inr other ↦ rw other ((above.0, above-without ms a n above.1))
 ]
 
-rising-without : (ns : List ℕ) (n : ℕ) → IsRising ns → IsRising (without_number ns n)
+rising-without : (ns : List ℕ) (n : ℕ) → AreNumbersRising ns → AreNumbersRising (without_number ns n)
 rising-without [] n rising = tt
 rising-without (m ∷ ms) n rising = elim (cases_Bool (m == n)) [
   | inl same ↦ rw same (rising-without ms n rising.1)
@@ -67,7 +67,7 @@ rising-without (m ∷ ms) n rising = elim (cases_Bool (m == n)) [
 
 -- ---- a number that is among them
 
-here-with : (ns : List ℕ) (n i : ℕ) → IsRising ns → i < length ns → get_or ns i 0 ≡ n → with_number ns n ≡ ns
+here-with : (ns : List ℕ) (n i : ℕ) → AreNumbersRising ns → i < length ns → get_or ns i 0 ≡ n → with_number ns n ≡ ns
 here-with [] n i rising within is = absurd (omega (arith, within))
 here-with (m ∷ ms) n zero rising within is = rw (eq-eqb m n is) refl
 here-with (m ∷ ms) n (suc i) rising within is =
@@ -81,7 +81,7 @@ without-above : (ns : List ℕ) (n : ℕ) → AreAbove n ns → without_number n
 without-above [] n above = refl
 without-above (m ∷ ms) n above = rw (ne_eqb m n (λ e. omega (arith, e, above.0))) (ap (λ l. m ∷ l) (without-above ms n above.1))
 
-here-without : (ns : List ℕ) (n i : ℕ) → IsRising ns → i < length ns → get_or ns i 0 ≡ n → without_number ns n ≡ remove ns i
+here-without : (ns : List ℕ) (n i : ℕ) → AreNumbersRising ns → i < length ns → get_or ns i 0 ≡ n → without_number ns n ≡ remove ns i
 here-without [] n i rising within is = absurd (omega (arith, within))
 here-without (m ∷ ms) n zero rising within is = rw (eq-eqb m n is) (without-above ms n (subst (λ k. AreAbove k ms) is rising.0))
 here-without (m ∷ ms) n (suc i) rising within is =
@@ -119,26 +119,26 @@ free-without (m ∷ ms) n (suc i) within less more =
 pub record IsFound (ns : List ℕ) (n i : ℕ) : Type 0 where
   pub put : with_number ns n ≡ ns
   pub taken : without_number ns n ≡ remove ns i
-  pub rising : IsRising (remove ns i)
+  pub rising : AreNumbersRising (remove ns i)
 
-pub found : (ns read : List ℕ) (n i : ℕ) → read ≡ ns → IsRising ns → IsBinarySearchResult (λ y. nat_cmp y n) read (Ok i) → IsFound ns n i
+pub found : (ns read : List ℕ) (n i : ℕ) → read ≡ ns → AreNumbersRising ns → IsBinarySearchResult (λ y. nat_cmp y n) read (Ok i) → IsFound ns n i
 found ns read n i same rising result =
     let at = searched ns n (Ok i) (subst (λ (ns : List ℕ). IsBinarySearchResult (λ y. nat_cmp y n) ns (Ok i)) same result) (sorted ns rising) in
     let taken = here-without ns n i rising at.0 at.1 in
-    record { put = here-with ns n i rising at.0 at.1; taken = taken; rising = subst IsRising taken (rising-without ns n rising) }
+    record { put = here-with ns n i rising at.0 at.1; taken = taken; rising = subst AreNumbersRising taken (rising-without ns n rising) }
 
 -- the number is not there, and this is its place
 pub record IsMissing (ns : List ℕ) (n i : ℕ) : Type 0 where
   pub put : with_number ns n ≡ insert ns i n
   pub taken : without_number ns n ≡ ns
-  pub rising : (b : Bool) → IsRising (if b then insert ns i n else ns)
+  pub rising : (b : Bool) → AreNumbersRising (if b then insert ns i n else ns)
 
-pub missing : (ns read : List ℕ) (n i : ℕ) → read ≡ ns → IsRising ns → IsBinarySearchResult (λ y. nat_cmp y n) read (Err i) → IsMissing ns n i
+pub missing : (ns read : List ℕ) (n i : ℕ) → read ≡ ns → AreNumbersRising ns → IsBinarySearchResult (λ y. nat_cmp y n) read (Err i) → IsMissing ns n i
 missing ns read n i same rising result =
     let at = searched ns n (Err i) (subst (λ (ns : List ℕ). IsBinarySearchResult (λ y. nat_cmp y n) ns (Err i)) same result) (sorted ns rising) in
     let put = free-with ns n i at.0 at.1 at.2 in
     record { put = put; taken = free-without ns n i at.0 at.1 at.2; rising = rises put }
   where
-    rises : with_number ns n ≡ insert ns i n → (b : Bool) → IsRising (if b then insert ns i n else ns)
-    rises put true = subst IsRising put (rising-with ns n rising)
+    rises : with_number ns n ≡ insert ns i n → (b : Bool) → AreNumbersRising (if b then insert ns i n else ns)
+    rises put true = subst AreNumbersRising put (rising-with ns n rising)
     rises put false = rising

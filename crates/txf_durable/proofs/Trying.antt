@@ -37,7 +37,7 @@ file-kept tree (Make node parent kind name) n bytes is = absurd (true≢false (s
 file-kept tree (Move node parent name) n bytes is = absurd (true≢false (sym bytes))
 file-kept tree (Drop node) n bytes is = absurd (true≢false (sym bytes))
 
--- so a change of bytes applies behind one as it does before it
+-- a change of bytes applies behind another one as it does before it
 bytes-kept : (tree : Tree) (c d : Change) → changes_bytes c ≡ true → applies tree c ≡ true → changes_bytes d ≡ true → applies (changed tree c) d ≡ applies tree d
 bytes-kept tree c (Put node offset contents) bytes is too = ap (λ b. b && is_whole contents) (file-kept tree c node bytes is)
 bytes-kept tree c (Cut node size pages) bytes is too = ap (λ b. b && is_empty_list pages) (file-kept tree c node bytes is)

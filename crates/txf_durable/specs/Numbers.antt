@@ -7,9 +7,9 @@ AreAbove n [] = Unit {0}
 AreAbove n (m ∷ ms) = (n < m) × AreAbove n ms
 
 -- each number is below those behind it
-abbrev pub IsRising : List ℕ → Type 0
-IsRising [] = Unit {0}
-IsRising (n ∷ ns) = AreAbove n ns × IsRising ns
+abbrev pub AreNumbersRising : List ℕ → Type 0
+AreNumbersRising [] = Unit {0}
+AreNumbersRising (n ∷ ns) = AreAbove n ns × AreNumbersRising ns
 
 -- the numbers, and how many there is room for
 pub record FileNumbersState : Type 0 where

@@ -1,7 +1,7 @@
 // The committed files while a log is read.
 ghost use Rattle.std.specs.Prelude.{◌≡◌, ◌+◌, ◌&&◌, ◌<◌, ◌≤◌, ◌^◌, [], ◌∷◌, true, length, sum_by, Ok, IfOk, IsOk};
 ghost use Rattle.std.specs.List.{list_all};
-ghost use Rattle.ktm_world.specs.Changes.{applies, changes_apply, changes_bytes, changed, changed_all, next_after};
+ghost use Rattle.ktm_world.specs.Changes.{applies, changes_apply, changes_bytes, changed_all, next_after};
 ghost use Rattle.ktm_world.specs.Durable.{are_recorded_changes, is_new_in, next_after_all};
 ghost use Rattle.ktm_world.specs.Tree.{IsWellFormed, bytes_of, bytes_or_none, units_of};
 ghost use Rattle.txf_tree.specs.TreeState.{fits, tree_of, versions_of, KeepsRooms};
@@ -148,7 +148,7 @@ impl DurableFiles {
     }
 
     /// Makes changes in order, if they apply and none of them makes a node that is there before the first, and tells whether
-    /// that is so. It fails for want of memory, and where the files have nearly 2^64 units. Where not all changes were made
+    /// that is so. It fails where it is out of memory, and where the files have nearly 2^64 units. Where not all changes were made
     /// the files are of no use, since some of them may have been.
     pub fn commit(&mut self, changes: Vec<Change>) -> Result<bool, NoMemory>
         ensures applies { IfOk result (λ all. all ≡ (changes_apply (tree_of self.old.tree) changes.items && list_all (is_new_in (tree_of self.old.tree)) changes.items)) }
@@ -166,7 +166,7 @@ impl DurableFiles {
         Ok(true)
     }
 
-    /// Makes one change in the same way.
+    /// Makes one change, if it applies and makes no node that is there, and tells whether that is so. It fails where `commit` does.
     pub fn commit_one(&mut self, change: Change) -> Result<bool, NoMemory>
         ensures applies { IfOk result (λ done. done ≡ (changes_apply (tree_of self.old.tree) (change ∷ []) && list_all (is_new_in (tree_of self.old.tree)) (change ∷ []))) }
         ensures after { result ≡ Ok true → (tree_of self.new.tree ≡ changed_all (tree_of self.old.tree) (change ∷ [])) × (self.new.next_node ≡ next_after_all self.old.next_node (change ∷ [])) }

@@ -2,7 +2,7 @@
 ghost use Rattle.std.specs.Prelude.{◌≡◌, ◌+◌, ◌<◌, ◌≤◌, [], IsOk, OnOk, length, vec_capacity, vec_len};
 ghost use Rattle.std.specs.List.{insert};
 ghost use Rattle.ktm_world.specs.Committed.{with_number, without_number};
-ghost use Rattle.txf_durable.specs.Numbers.{IsRising};
+ghost use Rattle.txf_durable.specs.Numbers.{AreNumbersRising};
 
 use ktm_base::NoMemory;
 use std::alloc::Global;
@@ -16,13 +16,13 @@ pub struct FileNumbers {
 
 impl Model for FileNumbers {
     ghost use Rattle.std.specs.Prelude.{vec_capacity};
-    ghost use Rattle.txf_durable.specs.Numbers.{FileNumbersState, IsRising};
+    ghost use Rattle.txf_durable.specs.Numbers.{FileNumbersState, AreNumbersRising};
 
     ghost Value = { FileNumbersState };
 
     ghost view = { λ n. record { numbers = n.items.items; room = vec_capacity n.items } };
 
-    ghost invariant = { λ n. IsRising n.items.items };
+    ghost invariant = { λ n. AreNumbersRising n.items.items };
 }
 
 // Puts the number before what stands at this place. There is room for it.
@@ -59,7 +59,7 @@ impl FileNumbers {
 
     pub fn as_slice(&self) -> &[u64]
         ensures numbers { result.now ≡ self.now.numbers }
-        ensures rising { IsRising result.now }
+        ensures rising { AreNumbersRising result.now }
     {
         &self.items
     }

@@ -3,7 +3,7 @@ ghost use Rattle.std.specs.Prelude.{◌≡◌, ◌≤◌, ◌++◌, None, true, 
 ghost use Rattle.std.specs.List.{list_all, position};
 ghost use Rattle.ktm_world.specs.Changes.{changes_bytes};
 ghost use Rattle.ktm_world.specs.Durable.{are_final_bytes, are_recorded_changes, gives_bytes};
-ghost use Rattle.txf_durable.specs.Numbers.{IsRising};
+ghost use Rattle.txf_durable.specs.Numbers.{AreNumbersRising};
 ghost use Rattle.txf_durable.specs.Recorded.{are_names, begins_with, begins_with_bytes, from_file};
 
 use crate::numbers::FileNumbers;
@@ -73,7 +73,7 @@ fn begins_with(changes: &[Change], file: u64) -> bool
 
 // Have all of the files bytes there. Both lists are gone through once.
 fn have_bytes(files: &[u64], bytes: &[Change]) -> bool
-    requires files { IsRising files.now }
+    requires files { AreNumbersRising files.now }
     requires bytes { are_final_bytes 0 None bytes.now ≡ true }
     ensures { result ≡ list_all (gives_bytes bytes.now) files.now }
 {

@@ -196,7 +196,7 @@ impl Waiting {
         self.meets_names(files.tree(), who, names)
     }
 
-    /// The transaction, which holds nothing, holds what its changes hold. At want of memory it may hold a part of it.
+    /// The transaction, which holds nothing, holds what its changes hold. Out of memory it may hold a part of it.
     pub fn hold(
         &mut self,
         files: &DurableFiles,
@@ -250,7 +250,7 @@ impl Waiting {
         self.meets_act(who, &act_over(tree, overlay, change)) || self.makes_held(who, change)
     }
 
-    // The same of changes of names, which are laid over the tree one after another.
+    // Does a change of names, over the tree as those before it leave it, meet what another holds, or make a node that another made.
     fn meets_over(
         &self,
         overlay: &mut Overlay,
@@ -274,7 +274,7 @@ impl Waiting {
         Ok(false)
     }
 
-    // The same of changes of names.
+    // Does one of the changes of names meet what another transaction holds, or make a node that another one made.
     fn meets_names(&self, tree: &Tree, who: Option<Id>, names: &[Change]) -> Result<bool, NoMemory>
         requires formed { IsWellFormed (tree_of tree.now) }
         requires names { are_names names.now ≡ true }

@@ -18,7 +18,7 @@ pub record MayOpenFirst (x : Present) (id : Id) (file : ℕ) : Type 0 where
   pub boot : (id.boot == x.recorded.boots) ≡ true
   -- the file is a committed one
   pub there : is_file x.files.tree file ≡ true
-  -- and no directory in what the transaction sees
+  -- the file is no directory in what the transaction sees
   pub seen : is_no_directory x.files file id ≡ true
   -- the transaction has neither made it nor opened it before
   pub new : made_or_opened x.files id file ≡ false

@@ -23,21 +23,21 @@ pub record MayOpen (x : Present) (o : OpenFile) (handles : List Handle) : Type 0
   pub number : o.number ≡ x.files.table.last_open + 1
   -- it has a handle
   pub named : has_handle handles (Object.File o.number) ≡ true
-  -- and no other object has lost one
+  -- no other object has lost a handle
   pub still : (object : Object) → has_handle x.handles object ≡ true → has_handle handles object ≡ true
   -- a plain one is on a node that was drawn, and on a committed file where it may be written
   pub plain : is_plain_well x.files o ≡ true
   -- one of a transaction is one that it may use
   pub own : may_use x o o.transaction ≡ true
-  -- and on no directory in what it sees
+  -- one of a transaction is on no directory in what the transaction sees
   pub file : opens_no_directory x.files o.node o.transaction ≡ true
   -- where a transaction may write it, no other undecided one holds it
   pub held : writes o.access ≡ true → (id : Id) → is_of id o.transaction ≡ true → (v : Transaction) → IsIn v (undecided x) → same_id id v.id ≡ false → IsIn o.node (holds_now x.files v.id).nodes → ⊥
-  -- and the transaction has first opened its last version
+  -- where a transaction may write it, the transaction has first opened its last version
   pub last : writes o.access ≡ true → (f : FirstOpen) → IsIn f x.files.first_opens → is_of f.transaction o.transaction ≡ true → o.node ≡ f.file → is_last_version x.files f ≡ true
   -- where a plain one may be written, no undecided transaction is on the file
   pub alone : is_none o.transaction ≡ true → writes o.access ≡ true → (v : Transaction) → IsIn v (undecided x) → is_touched_by x o.node v ≡ false
-  -- and no plain handle may write the file of one in a transaction
+  -- no plain handle may write the file of one in a transaction
   pub writers : is_some o.transaction ≡ true → (p : OpenFile) → IsIn p x.files.table.opens → is_none p.transaction ≡ true → writes p.access ≡ true → o.node ≡ p.node → ⊥
 
 -- such an open file keeps sound what undecided transactions own and hold of the files

@@ -37,7 +37,7 @@ pub record Owns (x : Present) (id : Id) (c : Change) : Type 0 where
   pub fresh : is_make c ≡ true → node_of c ≡ x.files.table.next_node
   -- no other undecided transaction holds what it holds
   pub alone : (v : Transaction) → IsIn v (undecided x) → same_id id v.id ≡ false → HoldsNothing (holds_now x.files v.id) (tree_seen x.files (Some id)) c
-  -- nor may a plain handle write its file
+  -- no plain handle may write its file
   pub plain : (o : OpenFile) → IsIn o x.files.table.opens → is_none o.transaction ≡ true → writes o.access ≡ true → node_of c ≡ o.node → ⊥
   -- its file has its last version in the transaction
   pub last : (o : FirstOpen) → IsIn o x.files.first_opens → o.transaction ≡ id → node_of c ≡ o.file → is_last_version x.files o ≡ true

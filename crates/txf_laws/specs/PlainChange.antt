@@ -21,7 +21,7 @@ pub record Lands (x : Present) (change : Change) : Type 0 where
   pub applies : applies x.files.tree change ≡ true
   -- it holds nothing that an undecided transaction has changed
   pub apart : (v : Transaction) → IsIn v (undecided x) → AreFootprintsApart (footprint x.files.tree (change ∷ [])) (footprint x.files.tree (own_changes x.files.table.own v.id))
-  -- nor a file that one may write
+  -- it changes no file that an undecided transaction may write
   pub clear : (v : Transaction) → IsIn v (undecided x) → is_make change ≡ false → is_in (holds_now x.files v.id).nodes (node_of change) ≡ false
   -- a node that it makes has the next number
   pub fresh : is_make change ≡ true → node_of change ≡ x.files.table.next_node

@@ -56,7 +56,7 @@ pub record IsSoundKeys (x : Present) : Type 0 where
   pub apart : each_pair set_no_key x.keys.own ≡ true
   -- the committed keys rise
   pub rises : is_rising x.keys.store ≡ true
-  -- and are within the limits, with their values
+  -- the committed keys are within the limits, with their values
   pub good : list_all is_good_entry x.keys.store ≡ true
 
 -- ---- own changes
@@ -165,7 +165,7 @@ pub record IsSoundFiles (x : Present) : Type 0 where
   pub own_puts : list_all (λ o. list_all puts_some o.changes) x.files.table.own ≡ true
   -- the nodes that they make have numbers that were drawn
   pub own_drawn : list_all (λ o. list_all (is_drawn_node x.files) (numbers_made o.changes)) x.files.table.own ≡ true
-  -- and that no committed node has
+  -- the nodes that they make have numbers that no committed node has
   pub own_new : list_all (λ o. list_all (λ n. is_none (node_at x.files.tree n)) (numbers_made o.changes)) x.files.table.own ≡ true
   -- no two transactions make a node of the same number
   pub own_differ : each_pair make_apart x.files.table.own ≡ true
@@ -185,15 +185,15 @@ pub record IsSoundFiles (x : Present) : Type 0 where
   pub first_bytes : All (λ o. is_last_version x.files o ≡ true → o.bytes ≡ bytes_of x.files.tree o.file) x.files.first_opens
   -- a transaction that changed a file, or may write it, has first opened its last version
   pub first_last : list_all (is_open_last x.files) x.files.first_opens ≡ true
-  -- nor is that file a directory in what the transaction sees
+  -- the file of a first open is no directory in what the transaction sees
   pub first_files : list_all (λ o. is_no_directory x.files o.file o.transaction) x.files.first_opens ≡ true
   -- the committed files are well formed
   pub formed : IsWellFormed x.files.tree
-  -- their numbers were drawn
+  -- the numbers of the committed files were drawn
   pub tree_drawn : list_all (λ (node : Node). is_drawn_node x.files node.number) x.files.tree ≡ true
   -- node numbers begin behind the root's
   pub next_from : 2 ≤ x.files.table.next_node
-  -- and have not come to their end
+  -- node numbers have not come to their end
   pub next_to : x.files.table.next_node ≤ 2 ^ 63
   -- versions stand by rising numbers of their files
   pub versions_rise : each_pair files_rise x.files.versions ≡ true
@@ -201,7 +201,7 @@ pub record IsSoundFiles (x : Present) : Type 0 where
   pub versions_there : list_all (λ v. is_file x.files.tree v.file && nat_le 1 v.count) x.files.versions ≡ true
   -- the numbers of open files rise
   pub opens_rise : each_pair opens_rise x.files.table.opens ≡ true
-  -- and were drawn
+  -- the numbers of open files were drawn
   pub opens_drawn : list_all (λ o. nat_le 1 o.number && nat_le o.number x.files.table.last_open) x.files.table.opens ≡ true
   -- an open file has a handle
   pub opens_named : list_all (λ o. has_handle x.handles (Object.File o.number)) x.files.table.opens ≡ true
@@ -209,7 +209,7 @@ pub record IsSoundFiles (x : Present) : Type 0 where
   pub opens_plain : list_all (is_plain_well x.files) x.files.table.opens ≡ true
   -- the open file of a transaction is one that it may use
   pub opens_own : list_all (is_own_well x) x.files.table.opens ≡ true
-  -- and on no directory in what the transaction sees
+  -- the open file of a transaction is on no directory in what the transaction sees
   pub opens_files : list_all (λ o. opens_no_directory x.files o.node o.transaction) x.files.table.opens ≡ true
   -- no two undecided transactions hold the same of the files
   pub apart : all_files_apart x ≡ true

@@ -82,7 +82,7 @@ length-filter p (o ∷ os) =
     let rest = length-filter p os in
     elim (cases_Bool (p o)) [ inl so ↦ rw so (omega (arith, rest)) | inr not_so ↦ rw not_so (omega (arith, rest)) ]
 
--- and fewer are open
+-- once one that is open ends, fewer are open
 pub fewer_open : (n : ℕ) (os : List OpenFile) → list_any (λ o. o.number == n) os ≡ true → length (filter (is_other_number n) os) < length os
 fewer_open n [] there = absurd (cc)
 fewer_open n (o ∷ os) there =

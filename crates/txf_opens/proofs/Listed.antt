@@ -1,11 +1,11 @@
 -- Lemmas on the open files in order, each with its key.
-use Rattle.std.proofs.Common.{◌≡◌, Bool, true, false, not, List, [], ◌∷◌, ◌++◌, filter, Some, None, refl, sym, ap, ◌∙◌, inl, inr}
+use Rattle.std.proofs.Common.{◌≡◌, Bool, true, false, not, List, [], ◌∷◌, filter, Some, None, refl, sym, ap, ◌∙◌, inl, inr}
 use Rattle.std.specs.List.{list_any, find}
 use Rattle.std.proofs.lemmas.Bool.{cases_Bool, or_cases, or_left, or_right, or_parts}
 use Rattle.std.proofs.lemmas.Option.{same_Some}
 use Rattle.ktm_world.specs.Files.{OpenFile}
 use Rattle.ktm_links.specs.declared.list.Key.{Key}
-use Rattle.ktm_links.specs.Items.{Item, item, same_key, value_at, without}
+use Rattle.ktm_links.specs.Items.{Item, same_key, value_at, without}
 use Rattle.ktm_links.specs.Indexed.{AreDistinct}
 use Rattle.ktm_links.proofs.offered.Keys.{same_key-true, same_key-self}
 use Rattle.txf_opens.specs.declared.file.OpenFile.{OpenFile as Kept}
@@ -16,7 +16,7 @@ use Rattle.txf_opens.specs.Acts.{open_of}
 pub value_at-here : (x : Item Kept) (xs : List (Item Kept)) → value_at (x ∷ xs) x.key ≡ Some x.value
 value_at-here x xs = rw (same_key-self x.key x.key refl) refl
 
--- and each behind it under its own
+-- each one behind the first is there under its own key
 pub value_at-behind : (x : Item Kept) (xs : List (Item Kept)) (key : Key) (e : Kept) → AreDistinct (x ∷ xs) → value_at xs key ≡ Some e → value_at (x ∷ xs) key ≡ Some e
 value_at-behind x xs key e distinct there =
     elim (cases_Bool (same_key x.key key)) [
@@ -121,7 +121,3 @@ filter-without p (x ∷ xs) key e distinct only there so =
           (ap (λ l. open_of x.value ∷ l)
           (filter-without p xs key e distinct.1 (IsOnly-behind p x xs key distinct only) (rw other at there) so))
     ]
-
-pub opens_of-push : (items : List (Item Kept)) (key : Key) (e : Kept) → opens_of (items ++ item key e ∷ []) ≡ opens_of items ++ open_of e ∷ []
-opens_of-push [] key e = refl
-opens_of-push (x ∷ xs) key e = ap (λ l. open_of x.value ∷ l) (opens_of-push xs key e)

@@ -171,7 +171,7 @@ transaction_writer opens id node =
 pub first_part : (v x y l : Bool) → v ≡ x → v ≡ true → l ≡ (x || y) → v ≡ l
 first_part v x y l is so whole = so ∙ sym (whole ∙ ap (λ b. b || y) (sym is ∙ so))
 
--- and else that of the second
+-- where the first part does not decide, the answer is the value of the second
 pub second_part : (v x y r l : Bool) → v ≡ x → v ≡ false → r ≡ y → l ≡ (x || y) → r ≡ l
 second_part v x y r l is not_so last whole = last ∙ sym (whole ∙ ap (λ b. b || y) (sym is ∙ not_so))
 

@@ -15,7 +15,7 @@ use Rattle.ktm_world.specs.Committed.{final_bytes}
 use Rattle.ktm_world.specs.Tree.{units_of}
 use Rattle.std.specs.List.{flat_map}
 use Rattle.txf_overlay.specs.Files.{AreCounted, AreFiles, files_in, IsFilesMap}
-use Rattle.txf_overlay.specs.Written.{AreOver, IsRising, bytes_at, bytes_or, file_of, first_from, with_bytes, with_file, without_file, total_units, units_in}
+use Rattle.txf_overlay.specs.Written.{AreOver, AreFilesRising, bytes_at, bytes_or, file_of, first_from, with_bytes, with_file, without_file, total_units, units_in}
 use Rattle.txf_overlay.specs.Maps.{under, IsSet}
 use Rattle.txf_tree.specs.Places.{number_bytes}
 use Rattle.txf_overlay.specs.OverlayState.{Written, final_of}
@@ -94,17 +94,17 @@ AreOver-without (w ∷ ws) file n over = elim (cases_Bool (w.file == file)) [
   | inr other ↦ rw other (over.0, AreOver-without ws file n over.1)
 ]
 
-pub IsRising-without : (ws : List Written) (file : ℕ) → IsRising ws → IsRising (without_file ws file)
-IsRising-without [] file rise = tt
-IsRising-without (w ∷ ws) file rise = elim (cases_Bool (w.file == file)) [
-  | inl this ↦ rw this (IsRising-without ws file rise.1)
-  | inr other ↦ rw other (AreOver-without ws file w.file rise.0, IsRising-without ws file rise.1)
+pub AreFilesRising-without : (ws : List Written) (file : ℕ) → AreFilesRising ws → AreFilesRising (without_file ws file)
+AreFilesRising-without [] file rise = tt
+AreFilesRising-without (w ∷ ws) file rise = elim (cases_Bool (w.file == file)) [
+  | inl this ↦ rw this (AreFilesRising-without ws file rise.1)
+  | inr other ↦ rw other (AreOver-without ws file w.file rise.0, AreFilesRising-without ws file rise.1)
 ]
 
 pub IsFilesMap-without : (es : List (NamedItem Written)) (file : ℕ) → IsFilesMap es → file < 2 ^ 64 → IsFilesMap (without_name es (number_bytes file))
 IsFilesMap-without es file is small = record {
   are = AreFiles-without es (number_bytes file) is.are;
-  rise = rw (files-without es file is small) (IsRising-without (files_in es) file is.rise);
+  rise = rw (files-without es file is small) (AreFilesRising-without (files_in es) file is.rise);
 }
 
 -- ---- one of them with other bytes
@@ -121,7 +121,7 @@ put-first (e ∷ es) w key n are over low small =
     rw are.0 (lower-name e.value.file w.file are.1 small ∙ le-ltb e.value.file w.file (omega (arith, over.0))) in
     rw test refl
 
-files-put : (es : List (NamedItem Written)) (w : Written) (key : Key) → AreFiles es → IsRising (files_in es) → w.file < 2 ^ 64
+files-put : (es : List (NamedItem Written)) (w : Written) (key : Key) → AreFiles es → AreFilesRising (files_in es) → w.file < 2 ^ 64
     → files_in (put (without_name es (number_bytes w.file)) (entry w key)) ≡ with_bytes (files_in es) w.file w.bytes
 files-put [] w key are rise small = refl
 files-put (e ∷ es) w key are rise small =
@@ -170,16 +170,16 @@ AreOver-with (w ∷ ws) file bytes n over less = elim (cases_Bool (w.file == fil
   ]
 ]
 
-pub IsRising-with : (ws : List Written) (file : ℕ) (bytes : List ℕ) → IsRising ws → IsRising (with_bytes ws file bytes)
-IsRising-with [] file bytes rise = (tt, tt)
-IsRising-with (w ∷ ws) file bytes rise = elim (cases_Bool (w.file == file)) [
+pub AreFilesRising-with : (ws : List Written) (file : ℕ) (bytes : List ℕ) → AreFilesRising ws → AreFilesRising (with_bytes ws file bytes)
+AreFilesRising-with [] file bytes rise = (tt, tt)
+AreFilesRising-with (w ∷ ws) file bytes rise = elim (cases_Bool (w.file == file)) [
   | inl this ↦ rw this (AreOver-lower ws file w.file (omega (arith, eqb-true w.file file this)) rise.0, rise.1)
   | inr other ↦ elim (cases_Bool (nat_lt file w.file)) [
     | inl before ↦
         let less = ltb-true file w.file before in
         rw (other, before) ((less, AreOver-lower ws file w.file (omega arith) rise.0), rise)
     | inr behind ↦
-        rw (other, behind) (AreOver-with ws file bytes w.file rise.0 (omega (arith, ltb-false file w.file behind, eqb-false w.file file other)), IsRising-with ws file bytes rise.1)
+        rw (other, behind) (AreOver-with ws file bytes w.file rise.0 (omega (arith, ltb-false file w.file behind, eqb-false w.file file other)), AreFilesRising-with ws file bytes rise.1)
   ]
 ]
 
@@ -187,7 +187,7 @@ pub IsFilesMap-set : (old new : List (NamedItem Written)) (name : List ℕ) (w :
     → IsFilesMap new
 IsFilesMap-set old new name w is put_in name_is small = record {
   are = rw (rw name_is at put_in.entries) (AreFiles-put (without_name old (number_bytes w.file)) w put_in.key (AreFiles-without old (number_bytes w.file) is.are) small);
-  rise = rw (files-set old new name w is put_in name_is small) (IsRising-with (files_in old) w.file w.bytes is.rise);
+  rise = rw (files-set old new name w is put_in name_is small) (AreFilesRising-with (files_in old) w.file w.bytes is.rise);
 }
 
 -- ---- how many units they take
@@ -203,7 +203,7 @@ bytes_at-over (w ∷ ws) file n over low = rw (ne_eqb w.file file (λ same. omeg
 more : (w : Written) (ws : List Written) → total_units (w ∷ ws) ≡ units_in w + total_units ws
 more w ws = sum_by-cons units_in w ws
 
-pub units-with : (ws : List Written) (file : ℕ) (bytes : List ℕ) → IsRising ws → total_units (with_bytes ws file bytes) + units_at ws file ≡ total_units ws + units_of bytes
+pub units-with : (ws : List Written) (file : ℕ) (bytes : List ℕ) → AreFilesRising ws → total_units (with_bytes ws file bytes) + units_at ws file ≡ total_units ws + units_of bytes
 units-with [] file bytes rise = omega (arith, more (record { file = file; bytes = bytes }) [])
 units-with (w ∷ ws) file bytes rise = elim (cases_Bool (w.file == file)) [
   | inl this ↦ rw this (omega (arith, more w ws, more new ws))
@@ -223,7 +223,7 @@ without_file-absent [] file n over low = refl
 without_file-absent (w ∷ ws) file n over low =
     rw (ne_eqb w.file file (λ same. omega (arith, over.0))) (ap (λ l. w ∷ l) (without_file-absent ws file n over.1 low))
 
-pub units-without : (ws : List Written) (file : ℕ) → IsRising ws → total_units (without_file ws file) + units_at ws file ≡ total_units ws
+pub units-without : (ws : List Written) (file : ℕ) → AreFilesRising ws → total_units (without_file ws file) + units_at ws file ≡ total_units ws
 units-without [] file rise = omega arith
 units-without (w ∷ ws) file rise = elim (cases_Bool (w.file == file)) [
   | inl this ↦
@@ -232,7 +232,7 @@ units-without (w ∷ ws) file rise = elim (cases_Bool (w.file == file)) [
   | inr other ↦ rw other (omega (arith, more w ws, more w (without_file ws file), units-without ws file rise.1))
 ]
 
-pub with_bytes-same : (ws : List Written) (file : ℕ) (bytes : List ℕ) → IsRising ws → bytes_at ws file ≡ Some bytes → with_bytes ws file bytes ≡ ws
+pub with_bytes-same : (ws : List Written) (file : ℕ) (bytes : List ℕ) → AreFilesRising ws → bytes_at ws file ≡ Some bytes → with_bytes ws file bytes ≡ ws
 with_bytes-same [] file bytes rise is = absurd (cc)
 with_bytes-same (w ∷ ws) file bytes rise is = elim (cases_Bool (w.file == file)) [
   | inl this ↦
@@ -268,7 +268,7 @@ pub record IsEdited (es new : List (NamedItem Written)) (file : ℕ) (bytes : Li
   pub files : files_in new ≡ with_bytes (files_in es) file bytes
   pub map : IsFilesMap new
 
-files-valued : (es : List (NamedItem Written)) (w : Written) → AreFiles es → IsRising (files_in es) → w.file < 2 ^ 64 → is_some (bytes_at (files_in es) w.file) ≡ true
+files-valued : (es : List (NamedItem Written)) (w : Written) → AreFiles es → AreFilesRising (files_in es) → w.file < 2 ^ 64 → is_some (bytes_at (files_in es) w.file) ≡ true
     → (files_in (with_value es (number_bytes w.file) w) ≡ with_bytes (files_in es) w.file w.bytes) × AreFiles (with_value es (number_bytes w.file) w)
 files-valued [] w are rise small some = absurd (cc)
 files-valued (e ∷ es) w are rise small some =
@@ -294,7 +294,7 @@ edited_there es file w w' is small there same =
     rw (← number)
     (record {
       files = both.0;
-      map = record { are = both.1; rise = rw both.0 (IsRising-with (files_in es) w'.file w'.bytes is.rise) };
+      map = record { are = both.1; rise = rw both.0 (AreFilesRising-with (files_in es) w'.file w'.bytes is.rise) };
     })
 
 -- a file that is not written comes to the others
@@ -390,7 +390,7 @@ changes-none names [] none = no_names names ∙ ap (λ cs. not (has_changes cs))
 changes-none names (w ∷ ws) none = absurd (let some : None ≡ Some w = none ∙ rw (le-ltb w.file 0 (omega arith)) refl in cc)
 
 -- ---- a file that is made
-pub kept_there : (ws : List Written) (file : ℕ) → IsRising ws → is_some (bytes_at ws file) ≡ true → ws ≡ with_file ws file
+pub kept_there : (ws : List Written) (file : ℕ) → AreFilesRising ws → is_some (bytes_at ws file) ≡ true → ws ≡ with_file ws file
 kept_there ws file rise some = go (bytes_at ws file) refl some
   where
     go : (o : Option (List ℕ)) → bytes_at ws file ≡ o → is_some o ≡ true → ws ≡ with_bytes ws file (bytes_or [] o)
@@ -407,7 +407,7 @@ pub record IsFirst (ws : List Written) (w : Written) : Type 0 where
   pub there : bytes_at ws w.file ≡ Some w.bytes
   pub rest : ws ≡ w ∷ without_file ws w.file
 
-pub first-some : (ws : List Written) (w : Written) → IsRising ws → Some w ≡ first_from ws 0 → IsFirst ws w
+pub first-some : (ws : List Written) (w : Written) → AreFilesRising ws → Some w ≡ first_from ws 0 → IsFirst ws w
 first-some [] w rise some = absurd (cc)
 first-some (v ∷ ws) w rise some =
     let is : w ≡ v = same_Some w v (some ∙ rw (le-ltb v.file 0 (omega arith)) refl) in

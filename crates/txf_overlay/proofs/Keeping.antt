@@ -22,7 +22,7 @@ use Rattle.ktm_world.specs.Holds.{each_change, place}
 use Rattle.ktm_world.specs.Paths.{is_name}
 use Rattle.ktm_world.specs.Tree.{Tree, IsWellFormed, node_at}
 use Rattle.txf_overlay.specs.declared.node.NodeSeen.{NodeSeen}
-use Rattle.txf_overlay.specs.Kept.{seats_in, IsKept}
+use Rattle.txf_overlay.specs.Kept.{seats_in, AreNamesKept}
 use Rattle.txf_overlay.specs.OverlayState.{is_of_names, OverlayState, seen}
 use Rattle.txf_overlay.specs.Maps.{under}
 use Rattle.txf_tree.specs.Places.{number_bytes}
@@ -143,7 +143,7 @@ short-after t c names is short m x found = elim (cases_eq (node_of c) m) [
   | inr other ↦ short m x (sym (node_at-elsewhere t c is m other) ∙ found)
 ]
 
--- and so are the places that changes hold
+-- the places that changes of names hold are short, where those of the tree's nodes are
 short-seats : (cs : List Change) (t : Tree) (p : List ℕ) (v : Option ℕ) → AreShort t → list_all is_of_names cs ≡ true → changes_apply t cs ≡ true
     → last_seat (each_change seats_of t cs) p ≡ Some v → length p ≤ 263
 short-seats [] t p v short names all seat = absurd (none-some v seat)
@@ -230,9 +230,9 @@ times-absent (c ∷ cs) t node all none =
 
 -- with one change more the parts still stand to each other
 pub kept-next : (names names' : List Change) (es es' : List (NamedItem NodeSeen)) (made made' : ℕ) (c : Change) (name : List ℕ) (s : NodeSeen)
-    → IsKept names es made → names' ≡ names ++ c ∷ [] → is_of_names c ≡ true → name ≡ number_bytes (node_of c)
+    → AreNamesKept names es made → names' ≡ names ++ c ∷ [] → is_of_names c ≡ true → name ≡ number_bytes (node_of c)
     → under es' name ≡ Some s → ((q : List ℕ) → (q ≡ name → ⊥) → under es' q ≡ under es q) → IsNext names c s
-    → made' ≡ nodes_made (names ++ c ∷ []) → IsKept names' es' made'
+    → made' ≡ nodes_made (names ++ c ∷ []) → AreNamesKept names' es' made'
 kept-next names names' es es' made made' c name s is names'_is of_names name_is here others next count = record {
   only = rw names'_is (only-push names c is.only of_names);
   nodes = rw names'_is (AreSeen-push names c es es' name s is.nodes name_is here others next);

@@ -13,11 +13,11 @@ use Rattle.ktm_world.specs.Changes.{bytes_in, changed, changed_all, changes_byte
 use Rattle.ktm_world.specs.Committed.{final_bytes, with_number, without_number, written_after, written_files}
 use Rattle.ktm_world.specs.Files.{bytes_after}
 use Rattle.ktm_world.specs.Tree.{Tree, bytes_of, cut_to, put_over}
-use Rattle.txf_overlay.specs.Written.{IsRising, bytes_at, bytes_or, with_bytes, without_file}
+use Rattle.txf_overlay.specs.Written.{AreFilesRising, bytes_at, bytes_or, with_bytes, without_file}
 use Rattle.txf_overlay.specs.OverlayState.{is_of_names, OverlayState, Written, final_of, own_of}
 use Rattle.txf_overlay.specs.Laws.{IsOwn, OwnFormLaw, number_of, written_with}
 use Rattle.txf_overlay.proofs.Options.{filter-append}
-use Rattle.txf_overlay.proofs.FilesMap.{bytes_at-over, IsRising-with, IsRising-without}
+use Rattle.txf_overlay.proofs.FilesMap.{bytes_at-over, AreFilesRising-with, AreFilesRising-without}
 
 -- ---- names
 all-kept : (cs : List Change) → list_all is_of_names cs ≡ true → filter is_of_names cs ≡ cs
@@ -112,7 +112,7 @@ abbrev given_to : ℕ → Option (List ℕ) → List Change
 given_to file None = []
 given_to file (Some bytes) = final_bytes file bytes
 
-ends-of : (ws : List Written) (file : ℕ) → IsRising ws → filter (is_of_file file) (flat_map final_of ws) ≡ given_to file (bytes_at ws file)
+ends-of : (ws : List Written) (file : ℕ) → AreFilesRising ws → filter (is_of_file file) (flat_map final_of ws) ≡ given_to file (bytes_at ws file)
 ends-of [] file rise = refl
 ends-of (w ∷ ws) file rise =
     filter-append (is_of_file file) (final_of w) (flat_map final_of ws) ∙ ap (λ ds. filter (is_of_file file) (final_of w) ++ ds) (ends-of ws file rise.1) ∙ go
@@ -235,15 +235,15 @@ edited-with first ws (Drop node) file bytes empty is = elim (cases_Bool (node ==
       rw now refl
 ]
 
-rising-with : (first : ℕ → List ℕ) (ws : List Written) (c : Change) → IsRising ws → IsRising (written_with first ws c)
-rising-with first ws (Make node parent File name) rise = IsRising-with ws node (bytes_or [] (bytes_at ws node)) rise
+rising-with : (first : ℕ → List ℕ) (ws : List Written) (c : Change) → AreFilesRising ws → AreFilesRising (written_with first ws c)
+rising-with first ws (Make node parent File name) rise = AreFilesRising-with ws node (bytes_or [] (bytes_at ws node)) rise
 rising-with first ws (Make node parent Directory name) rise = rise
-rising-with first ws (Put node offset contents) rise = IsRising-with ws node _ rise
-rising-with first ws (Cut node size pages) rise = IsRising-with ws node _ rise
+rising-with first ws (Put node offset contents) rise = AreFilesRising-with ws node _ rise
+rising-with first ws (Cut node size pages) rise = AreFilesRising-with ws node _ rise
 rising-with first ws (Move node parent name) rise = rise
-rising-with first ws (Drop node) rise = IsRising-without ws node rise
+rising-with first ws (Drop node) rise = AreFilesRising-without ws node rise
 
-same-ends : (ws : List Written) (by : ℕ → List ℕ) → IsRising ws → ((file : ℕ) (bytes : List ℕ) → bytes_at ws file ≡ Some bytes → by file ≡ bytes)
+same-ends : (ws : List Written) (by : ℕ → List ℕ) → AreFilesRising ws → ((file : ℕ) (bytes : List ℕ) → bytes_at ws file ≡ Some bytes → by file ≡ bytes)
     → flat_map final_of ws ≡ flat_map (λ file. final_bytes file (by file)) (map number_of ws)
 same-ends [] by rise gives = refl
 same-ends (w ∷ ws) by rise gives =
@@ -268,7 +268,7 @@ own_form_law o o' first c own next =
     let files : written_files all ≡ map number_of o'.written =
     fold-append written_after [] (own_of o) (c ∷ []) ∙ ap (λ fs. written_after fs c) own.files ∙ numbers-after first o.written c
     ∙ ap (map number_of) (sym next.written) in
-    let rise : IsRising o'.written = rw next.written (rising-with first o.written c own.rise) in
+    let rise : AreFilesRising o'.written = rw next.written (rising-with first o.written c own.rise) in
     let gives : (file : ℕ) (bytes : List ℕ) → bytes_at o'.written file ≡ Some bytes → by file ≡ bytes =
     λ file bytes is. bytes-next o c (first file) file own ∙ edited-with first o.written c file bytes next.empty (rw next.written at is) in
     let ends = same-ends o'.written by rise gives in

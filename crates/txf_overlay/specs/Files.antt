@@ -3,7 +3,7 @@ use Rattle.std.specs.Prelude.{◌≡◌, ℕ, ◌<◌, ◌^◌, List, [], ◌∷
 use Rattle.ktm_links.specs.Mapped.{NamedItem}
 use Rattle.txf_tree.specs.Places.{number_bytes}
 use Rattle.txf_overlay.specs.OverlayState.{Written}
-use Rattle.txf_overlay.specs.Written.{IsRising, total_units}
+use Rattle.txf_overlay.specs.Written.{AreFilesRising, total_units}
 
 -- the file of an entry
 abbrev pub file_in : NamedItem Written → Written
@@ -21,7 +21,7 @@ AreFiles (e ∷ es) = (e.name ≡ number_bytes e.value.file) × (e.value.file < 
 -- each file stands under its number, and the numbers rise
 pub record IsFilesMap (entries : List (NamedItem Written)) : Type 0 where
   pub are : AreFiles entries
-  pub rise : IsRising (files_in entries)
+  pub rise : AreFilesRising (files_in entries)
 
 -- the map, and how many units all files take
 pub record AreCounted (entries : List (NamedItem Written)) (units : ℕ) : Type 0 where

@@ -17,7 +17,7 @@ abbrev pub seats_in : List (NamedItem (Option ℕ)) → List Seat
 seats_in entries = map seat_in entries
 
 -- the map and the count stand for the changes of names
-pub record IsKept (names : List Change) (seen : List (NamedItem NodeSeen)) (made : ℕ) : Type 0 where
+pub record AreNamesKept (names : List Change) (seen : List (NamedItem NodeSeen)) (made : ℕ) : Type 0 where
   pub only : list_all is_of_names names ≡ true
   pub nodes : AreSeen names seen
   pub count : made ≡ nodes_made names

@@ -8,7 +8,7 @@ use Rattle.ktm_world.specs.Committed.{changes_to_commit, written_files}
 use Rattle.ktm_world.specs.Files.{bytes_after}
 use Rattle.ktm_world.specs.Holds.{each_change, places_of}
 use Rattle.ktm_world.specs.Tree.{Tree, IsWellFormed, cut_to, put_over}
-use Rattle.txf_overlay.specs.Written.{IsRising, bytes_at, bytes_or, with_bytes, with_made, without_file}
+use Rattle.txf_overlay.specs.Written.{AreFilesRising, bytes_at, bytes_or, with_bytes, with_made, without_file}
 use Rattle.txf_overlay.specs.OverlayState.{is_of_names, OverlayState, Written, own_of, seen}
 use Rattle.txf_overlay.specs.Views.{StandsOver}
 
@@ -32,7 +32,7 @@ written_with first ws (Drop node) = without_file ws node
 -- names are made, moved and dropped alone, the files rise, and they are those that the changes write
 pub record IsOwn (o : OverlayState) : Type 0 where
   pub only : list_all is_of_names o.names ≡ true
-  pub rise : IsRising o.written
+  pub rise : AreFilesRising o.written
   pub files : written_files (own_of o) ≡ map number_of o.written
 
 -- the second has one change more than the first; a file that it makes starts with no bytes

@@ -61,6 +61,6 @@ AreOver n [] = Unit {0}
 AreOver n (w ∷ ws) = (n < w.file) × AreOver n ws
 
 -- the numbers rise
-abbrev pub IsRising : List Written → Type 0
-IsRising [] = Unit {0}
-IsRising (w ∷ ws) = AreOver w.file ws × IsRising ws
+abbrev pub AreFilesRising : List Written → Type 0
+AreFilesRising [] = Unit {0}
+AreFilesRising (w ∷ ws) = AreOver w.file ws × AreFilesRising ws

@@ -3,7 +3,7 @@ ghost use Rattle.std.specs.Prelude.{◌≡◌, ◌<◌, ◌≤◌, ◌^◌, ◌+
 ghost use Rattle.std.specs.Option.{option_map};
 ghost use Rattle.txf_overlay.specs.Edits.{edited, reach};
 ghost use Rattle.txf_overlay.specs.Files.{files_in, AreFiles};
-ghost use Rattle.txf_overlay.specs.Written.{HasBytes, IsRising, bytes_at, bytes_or, file_of, first_from, total_units, with_bytes, with_made, without_file};
+ghost use Rattle.txf_overlay.specs.Written.{HasBytes, AreFilesRising, bytes_at, bytes_or, file_of, first_from, total_units, with_bytes, with_made, without_file};
 
 use crate::written::{Edit, WrittenFile};
 use ktm_base::NoMemory;
@@ -59,7 +59,7 @@ impl WrittenFiles {
 
     /// The numbers rise.
     pub(crate) fn law_of_numbers(&self)
-        ensures { IsRising self.now.written }
+        ensures { AreFilesRising self.now.written }
     {
         let _ = &self.alloc;
     }
@@ -127,7 +127,7 @@ impl WrittenFiles {
     }
 
     /// Changes the bytes of a file where it stands; one that is not written has these first bytes before, and comes to the
-    /// others, with room made for so many. It fails for want of memory.
+    /// others, with room made for so many. It fails where it is out of memory.
     pub(crate) fn edit(
         &mut self,
         room: usize,

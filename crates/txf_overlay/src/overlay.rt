@@ -3,7 +3,7 @@ ghost use Rattle.std.specs.Prelude.{◌≡◌, ◌<◌, ◌≤◌, ◌^◌, ◌+
 ghost use Rattle.std.specs.List.{list_all};
 ghost use Rattle.std.specs.Option.{option_copied, option_map};
 ghost use Rattle.ktm_base.specs.Reading.{IsReadIf};
-ghost use Rattle.txf_overlay.specs.Written.{HasBytes, IsRising, bytes_at, bytes_or, first_from, total_units, with_bytes};
+ghost use Rattle.txf_overlay.specs.Written.{HasBytes, AreFilesRising, bytes_at, bytes_or, first_from, total_units, with_bytes};
 ghost use Rattle.txf_overlay.specs.OverlayState.{is_of_names, own_of};
 ghost use Rattle.ktm_world.specs.Changes.{has_changes, has_made, nodes_made};
 ghost use Rattle.ktm_world.specs.Tree.{cut_to, put_over};
@@ -39,7 +39,7 @@ impl Model for Overlay {
 
     ghost Value = { OverlayState };
 
-    ghost use Rattle.txf_overlay.specs.Kept.{seats_in, IsKept};
+    ghost use Rattle.txf_overlay.specs.Kept.{seats_in, AreNamesKept};
 
     ghost view = { λ o. record {
       names = o.names.items;
@@ -48,7 +48,7 @@ impl Model for Overlay {
       spare = min (vec_capacity o.names - vec_len o.names) (min o.nodes.spare (min (o.seats.spare / 2) o.files.spare));
     } };
 
-    ghost invariant = { λ o. IsKept o.names.items o.nodes.entries o.made };
+    ghost invariant = { λ o. AreNamesKept o.names.items o.nodes.entries o.made };
 }
 
 impl Overlay {
@@ -72,7 +72,7 @@ impl Overlay {
     pub fn names(&self) -> &[Change]
         ensures names { result.now ≡ self.now.names }
         ensures only { list_all is_of_names self.now.names ≡ true }
-        ensures rise { IsRising self.now.written }
+        ensures rise { AreFilesRising self.now.written }
     {
         self.files.law_of_numbers();
         &self.names
@@ -195,7 +195,7 @@ impl Overlay {
     }
 
     /// Puts bytes of a file over what is there, from the offset on; a gap is filled with zeros. A file that is not written
-    /// has these first bytes before. It fails for want of memory.
+    /// has these first bytes before. It fails where it is out of memory.
     pub fn put(
         &mut self,
         file: u64,
@@ -217,7 +217,7 @@ impl Overlay {
     }
 
     /// Leaves so many bytes of a file: it is cut, or filled with zeros. A file that is not written has these first bytes
-    /// before. It fails for want of memory.
+    /// before. It fails where it is out of memory.
     pub fn cut(&mut self, file: u64, first: &[u8], size: u64) -> Result<(), NoMemory>
         requires few { total_units (with_bytes self.old.written file (cut_to (bytes_or first.now (bytes_at self.old.written file)) size)) < 2 ^ 64 }
         ensures ok { OnOk result (self.new.written ≡ with_bytes self.old.written file (cut_to (bytes_or first.now (bytes_at self.old.written file)) size)) }

@@ -126,7 +126,7 @@ impl WrittenFile {
         Ok(())
     }
 
-    /// Changes the bytes. It fails for want of memory, which what lies within them does not take.
+    /// Changes the bytes. It fails where it is out of memory; a change within the bytes that are there takes none.
     pub(crate) fn edit(&mut self, edit: Edit<'_>) -> Result<(), NoMemory>
         ensures ok { OnOk result (self.new ≡ record self.old { bytes = edited self.old.bytes edit.entry }) }
         ensures err { OnErr result (self.new ≡ self.old) }

@@ -49,7 +49,7 @@ node_same key n named =
     (λ same. (bytes_eq-Decides key (node_key n)).1 (named.is ∙ ap node_key (sym number ∙ eqb-true (node_of_key key) n same)))
     (λ same. eq-eqb (node_of_key key) n (number ∙ node_tells named.number n [] [] (sym named.is ∙ (bytes_eq-Decides key (node_key n)).0 same)))
 
--- and its place
+-- a key tells its place
 place_same : (key : List ℕ) (p : Place) → IsPlaceKey key → same_place p (place_of_key key) ≡ bytes_eq key (place_key p)
 place_same key p named =
     let place : place_of_key key ≡ named.place = ap place_of_key named.is ∙ place_of-bytes named.place.directory named.place.name in

@@ -120,7 +120,7 @@ module _ (room : ℕ) (keys : List (NamedItem Id)) (owners : List (NamedItem (Un
         let yes : is_of id who ≡ true = ap (λ i. is_of i who) id_is ∙ own in
         absurd (cc))
 
-    -- so the next name tells
+    -- the next name tells whether another transaction holds the key
     pub next_tells : (o : Option Id) → IfSome o (IsHolder (key_bytes key) (key_name key first ++ 0 ∷ []) keys) → IfNone o (HasNoHolder (key_bytes key) (key_name key first ++ 0 ∷ []) keys)
         → is_some o ≡ list_any (is_of_other key who) (pairs_of owners)
     next_tells (Some id) some none = other_holds (key_name key first ++ 0 ∷ []) id some (later_other id some)

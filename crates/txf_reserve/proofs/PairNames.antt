@@ -45,7 +45,7 @@ key_tells a b l r same =
     let rest : a ++ l ≡ b ++ r = cc in
     append_parts a b l r long rest
 
--- and the bytes of a transaction tell it
+-- the bytes of a transaction tell it, and what comes behind them
 pub id_tells : (a b : Id) (l r : List ℕ) → id_bytes a l ≡ id_bytes b r → (a ≡ b) × (l ≡ r)
 id_tells a b l r same =
     let boot = number_tells a.boot b.boot (number_bytes a.number l) (number_bytes b.number r) same in
@@ -79,7 +79,7 @@ number_from-bytes n = omega arith
 
 -- ---- the order of names
 
--- and a name is below the one right after it
+-- a name is below the one right after it
 pub not_behind : (n : List ℕ) → IsNotBelow n (n ++ 0 ∷ []) → ⊥
 not_behind [] not_below = absurd (let no = not_below in cc)
 not_behind (x ∷ n) not_below = not_behind n (rw (tied_itself nat_cmp_total x) at not_below)

@@ -45,7 +45,7 @@ meets_parts state opens who parts =
     || list_any (is_number_held who state.uses) (listed parts.dropped)
     || (parts.moves && is_other_among who state.moves)
 
--- the same by what the call does
+-- does a call that does this meet what another transaction holds
 abbrev pub meets_by : ReserveState → List OpenFile → Option Id → Act → Bool
 meets_by state opens who act =
     list_any (is_node_met state opens who) (nodes_changed act)

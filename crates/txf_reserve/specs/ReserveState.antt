@@ -48,7 +48,7 @@ holds_in state id = record {
   moves = list_any (λ i. same_id i id) state.moves;
 }
 
--- the same is held, in whatever order and however often
+-- both hold the same, in whatever order and however often
 pub record IsSameHold (a b : Holds) : Type 0 where
   pub nodes : (n : ℕ) → is_in a.nodes n ≡ is_in b.nodes n
   pub places : (p : Place) → is_place_in a.places p ≡ is_place_in b.places p

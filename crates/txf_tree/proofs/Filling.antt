@@ -1,7 +1,7 @@
--- Lemmas on bytes that are put over others, and on room for a name.
-use Rattle.std.proofs.Common.{◌≡◌, ℕ, suc, ◌+◌, ◌-◌, List, [], ◌∷◌, ◌++◌, length, take, drop, replicate, sym, ap, ap₂, ◌∙◌, inl, inr, arith, append_assoc, length-append}
+-- Lemmas on bytes that are put over others.
+use Rattle.std.proofs.Common.{◌≡◌, ℕ, ◌+◌, ◌-◌, List, ◌++◌, length, take, drop, replicate, sym, ap, ap₂, ◌∙◌, inl, inr, arith, append_assoc, length-append}
 use Rattle.std.proofs.lemmas.Bool.{cases_lt}
-use Rattle.std.proofs.lemmas.List.{append-nil, drop-replicate, drop_all, length-replicate, replicate-append-replicate, take-append-le, take_all, take_at}
+use Rattle.std.proofs.lemmas.List.{append-nil, drop_all, length-replicate, replicate-append-replicate, take-append-le, take_all, take_at}
 use Rattle.ktm_base.specs.Bytes.{written}
 use Rattle.ktm_world.specs.Tree.{cut_to, put_over}
 
@@ -40,12 +40,3 @@ drop-filled old end =
 pub put_over-filled : (old new : List ℕ) (at : ℕ) → written (old ++ replicate (at + length new - length old) 0) at new ≡ put_over old at new
 put_over-filled old new at =
     ap₂ (λ front back. front ++ new ++ back) (take-filled old at (length new)) (drop-filled old (at + length new))
-
--- a name with one zero behind it, in room of zeros
-pub take-room : (name : List ℕ) (n room left : ℕ) → length name ≡ n → room ≡ n + suc left → take (n + 1) (name ++ drop n (replicate room 0)) ≡ name ++ 0 ∷ []
-take-room name n room left long is =
-    let rest : room - n ≡ suc left = omega arith in
-    let zeros : drop {A = ℕ} n (replicate room 0) ≡ 0 ∷ replicate left 0 = drop-replicate n room 0 ∙ ap (λ m. replicate m 0) rest in
-    ap (λ l. take (n + 1) (name ++ l)) zeros
-    ∙ ap (take (n + 1)) (sym (append_assoc name (0 ∷ []) (replicate left 0)))
-    ∙ take_at (name ++ 0 ∷ []) (replicate left 0) (n + 1) (omega (arith, length-append name (0 ∷ [])))

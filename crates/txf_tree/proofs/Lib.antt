@@ -1,15 +1,7 @@
-mod Applying
-mod Changing
-mod Counting
-pub mod Digits
 mod Filling
-mod Filters
-mod InPlace
-pub mod Listing
-mod Naming
-mod Numbering
-pub mod Ordered
-pub mod Reaching
-mod Renaming
+mod Refilling
 mod Restart
-mod Upward
+pub use Rattle.txf_nodes.proofs.Digits
+pub use Rattle.txf_nodes.proofs.Listing
+pub use Rattle.txf_nodes.proofs.Ordered
+pub use Rattle.txf_nodes.proofs.Reaching

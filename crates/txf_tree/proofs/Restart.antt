@@ -1,24 +1,17 @@
 -- Lemmas on nodes that come and stand by rising number.
-use Rattle.std.proofs.Common.{◌≡◌, ℕ, ◌<◌, ◌≤◌, ◌&&◌, true, eqb, nat_lt, List, [], ◌∷◌, ◌++◌, length, get_or, All, Some, None, refl, ap, subst, inl, inr, arith}
-use Rattle.std.proofs.lemmas.Bool.{and_from, and_parts, cases_Bool, le-ltb, lt-ltb, ltb-true, ne_eqb}
+use Rattle.std.proofs.Common.{◌≡◌, ℕ, ◌<◌, ◌≤◌, ◌&&◌, true, eqb, nat_lt, [], ◌∷◌, ◌++◌, length, get_or, All, Some, None, refl, ap, subst, inl, inr, arith}
+use Rattle.std.proofs.lemmas.Bool.{and_parts, cases_Bool, le-ltb, ltb-true, ne_eqb}
 use Rattle.std.proofs.lemmas.List.{get_or_at}
 use Rattle.std.proofs.lemmas.Option.{same_Some}
 use Rattle.ktm_base.specs.declared.limits.TheConstants.{MOST_NAME_BYTES}
 use Rattle.ktm_base.specs.Names.{IsName}
 use Rattle.ktm_types.specs.declared.recorded.Node.{Node}
 use Rattle.ktm_world.specs.Tree.{Tree, child_of, node_at, numbers_rise, same_name, with_node}
-use Rattle.txf_tree.specs.Indexes.{AreRising}
-use Rattle.txf_tree.specs.TreeState.{NodeNow, tree_in}
 
 -- each number is below this one
 AreBelow : ℕ → Tree → Type 0
 AreBelow number [] = Unit {0}
 AreBelow number (n ∷ ns) = (n.number < number) × AreBelow number ns
-
-AreBelow-above : (tree : Tree) (a b : ℕ) → AreBelow a tree → a < b → AreBelow b tree
-unfolding AreBelow
-AreBelow-above [] a b below less = tt
-AreBelow-above (n ∷ ns) a b below less = (omega (arith, below.0), AreBelow-above ns a b below.1 less)
 
 rise_below : (done : Tree) (node : Node) (rest : Tree) → numbers_rise (done ++ node ∷ rest) ≡ true → AreBelow node.number done
 unfolding AreBelow
@@ -81,9 +74,3 @@ is_next done rest node rise names one_each =
           (at_place (λ (n : Node). child_of (done ++ node ∷ rest) n.parent n.name ≡ Some n) done rest node one_each);
       last = with_node-last done node below;
     }
-
--- the numbers of nodes that rise
-pub rise_now : (nodes : List NodeNow) → AreRising nodes → numbers_rise (tree_in nodes) ≡ true
-rise_now [] rising = refl
-rise_now (x ∷ []) rising = refl
-rise_now (x ∷ y ∷ ys) rising = and_from _ _ (lt-ltb x.node.number y.node.number rising.0.0) (rise_now (y ∷ ys) rising.1)

@@ -1,38 +1,9 @@
 -- What a contract sees of a node that is lent, and of the entries of a directory.
-use Rattle.std.specs.Prelude.{ℕ, ◌==◌, not, Bool, List, map, filter, is_some}
 use Rattle.std.specs.Option.{option_map}
-use Rattle.ktm_base.specs.Names.{matches}
 use Rattle.ktm_types.specs.declared.recorded.Node.{Node}
-use Rattle.ktm_world.specs.FileCalls.{in_order}
-use Rattle.ktm_world.specs.Tree.{Tree}
-use Rattle.txf_tree.specs.declared.entry.Entry.{Entry}
-use Rattle.txf_tree.specs.declared.entry.NodeRef.{NodeRef}
+use Rattle.txf_tree.specs.declared.node_ref.NodeRef.{NodeRef}
+pub use Rattle.txf_nodes.specs.Children.{Shown, children, entries_in, entry_seen, matching, shown}
 
 -- the node that is lent
 abbrev pub node_seen : NodeRef → Node
 node_seen node = record { number = node.number; parent = node.parent; name = node.name.now; content = option_map (λ bytes. bytes.now) node.content }
-
--- an entry of a directory: its name, and whether it is a directory
-pub record Shown : Type 0 where
-  pub name : List ℕ
-  pub is_directory : Bool
-
--- the node, as an entry of its directory
-abbrev pub shown : Node → Shown
-shown node = record { name = node.name; is_directory = not (is_some node.content) }
-
--- the entry that is lent
-abbrev pub entry_seen : Entry → Shown
-entry_seen entry = record { name = entry.name.now; is_directory = entry.is_directory }
-
--- the entries that the pattern matches
-abbrev pub matching : List ℕ → List Shown → List Shown
-matching pattern entries = filter (λ entry. matches pattern entry.name) entries
-
--- the nodes in a directory
-abbrev pub children : Tree → ℕ → Tree
-children tree directory = filter (λ node. node.parent == directory) tree
-
--- the entries of a directory, by rising folded name
-abbrev pub entries_in : Tree → ℕ → List Shown
-entries_in tree directory = map shown (in_order (children tree directory))

@@ -1,7 +1,3 @@
 pub mod Children
-pub mod Found
-pub mod Indexes
-pub mod Left
-pub mod Lends
-pub mod Places
 pub mod TreeState
+pub use Rattle.txf_nodes.specs.Places

@@ -1,66 +1,54 @@
 -- What a contract sees of the committed files and directories.
-use Rattle.std.specs.Prelude.{◌≡◌, ℕ, ◌+◌, ◌≤◌, ◌==◌, ◌&&◌, ◌||◌, not, Bool, true, false, List, [], ◌∷◌, length, map, find, nat_lt, nat_le, Option, Some, None, if◌then◌else◌}
+use Rattle.std.specs.Prelude.{◌≡◌, ℕ, ◌+◌, ◌≤◌, ◌==◌, ◌&&◌, ◌||◌, not, Bool, true, false, List, length, nat_lt, nat_le, Option, Some, None, if◌then◌else◌}
 use Rattle.ktm_types.specs.declared.change.Change.{Change}
 use Rattle.ktm_types.specs.declared.change.Change.TheVariants.{Make, Put, Cut, Move, Drop}
 use Rattle.ktm_types.specs.declared.recorded.Node.{Node}
-use Rattle.ktm_world.specs.Changes.{bytes_in, is_drop, is_make, is_move, node_of}
-use Rattle.ktm_world.specs.Committed.{Version}
-use Rattle.ktm_world.specs.Tree.{Tree, content_of, has_number, is_file, node_at}
+use Rattle.ktm_world.specs.Changes.{bytes_in, changed, is_drop, is_make, is_move, node_of}
+use Rattle.ktm_world.specs.Committed.{Version, versions_after}
+use Rattle.ktm_world.specs.Tree.{Tree, content_of, is_file, node_at}
+use Rattle.txf_nodes.specs.NodesState.{NodeOf, NodesState, content_at, node_by, tree_by, versions_in as versions_in_nodes}
 
--- a node, how often its bytes were changed since the restart, and for how many bytes its content has room
-pub record NodeNow : Type 0 where
-  pub node : Node
-  pub version : ℕ
-  pub room : ℕ
-
--- the bytes of a node, if it is a file, how often they were changed since the restart, and for how many there is room
+-- the bytes of a file, and for how many there is room
 pub record ContentNow : Type 0 where
-  pub bytes : Option (List ℕ)
-  pub version : ℕ
+  pub bytes : List ℕ
   pub room : ℕ
+
+-- the bytes of a content
+abbrev pub bytes_now : ContentNow → List ℕ
+bytes_now content = content.bytes
+
+-- a node: a file has bytes and room for them; and how often they were changed since the restart
+abbrev pub NodeNow : Type 0
+NodeNow = NodeOf ContentNow
 
 -- the nodes by rising number, and how many can come without memory
-pub record TreeState : Type 0 where
-  pub nodes : List NodeNow
-  pub spare : ℕ
+abbrev pub TreeState : Type 0
+TreeState = NodesState ContentNow
 
 -- the node alone
 abbrev pub plain : NodeNow → Node
-plain n = n.node
-
--- the nodes alone
-abbrev pub tree_in : List NodeNow → Tree
-tree_in nodes = map plain nodes
+plain n = node_by bytes_now n
 
 -- the tree
 abbrev pub tree_of : TreeState → Tree
-tree_of s = tree_in s.nodes
+tree_of s = tree_by bytes_now s
 
 -- the versions of the files whose bytes were changed since the restart, by rising number
 abbrev pub versions_in : List NodeNow → List Version
-versions_in [] = []
-versions_in (n ∷ ns) = if nat_lt 0 n.version then record { file = n.node.number; count = n.version } ∷ versions_in ns else versions_in ns
+versions_in nodes = versions_in_nodes nodes
 
 -- the same of the tree
 abbrev pub versions_of : TreeState → List Version
 versions_of s = versions_in s.nodes
 
--- has the node this number
-abbrev pub is_numbered : ℕ → NodeNow → Bool
-is_numbered number n = has_number number n.node
-
--- the node with this number
-abbrev pub now_at : List NodeNow → ℕ → Option NodeNow
-now_at nodes number = find (is_numbered number) nodes
-
--- for how many bytes the content of a node has room; for none where there is no node
-abbrev pub room_in : Option NodeNow → ℕ
+-- for how many bytes a content has room; for none where there is no file
+abbrev pub room_in : Option ContentNow → ℕ
 room_in None = 0
-room_in (Some n) = n.room
+room_in (Some content) = content.room
 
--- for how many bytes the content of the node with this number has room
+-- for how many bytes the content of the file with this number has room
 abbrev pub room_of : TreeState → ℕ → ℕ
-room_of s number = room_in (now_at s.nodes number)
+room_of s number = room_in (content_at s number)
 
 -- has the file, if it is one, room for so many bytes
 abbrev pub has_room : TreeState → ℕ → ℕ → Bool
@@ -89,3 +77,10 @@ KeepsRoom old new change = (file : ℕ) → (is_drop change && node_of change ==
 -- no file has room for fewer bytes than before
 abbrev pub KeepsRooms : TreeState → TreeState → Type 0
 KeepsRooms old new = (file : ℕ) → room_of old file ≤ room_of new file
+
+-- the change is made, and takes no more than its room
+pub record IsApplied (old new : TreeState) (change : Change) : Type 0 where
+  pub tree : tree_of new ≡ changed (tree_of old) change
+  pub versions : versions_of new ≡ versions_after (versions_of old) change
+  pub rooms : KeepsRoom old new change
+  pub spare : old.spare ≤ new.spare + takes change

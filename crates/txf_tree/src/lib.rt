@@ -2,22 +2,17 @@
 //! and how often they changed.
 #![tactic(auto)]
 
-mod applies;
 mod bytes;
 mod change;
-mod children;
 mod content;
-mod entry;
-mod listed;
-mod name;
-mod nodes;
-mod stored;
+mod node_ref;
 mod tree;
 
-pub use applies::{is_name, is_node_number};
 pub use change::{bytes_in, changes_bytes, is_drop, is_make, is_whole, next_after, node_of};
-pub use children::Children;
-pub use entry::{Entries, Entry, NodeRef};
-pub use listed::listed_names;
-pub use name::{ChildName, NumberName, after_place, child_name, number_bytes};
-pub use tree::Tree;
+pub use content::Content;
+pub use node_ref::NodeRef;
+pub use tree::{Children, Tree};
+pub use txf_nodes::{
+    ChildName, Entries, Entry, NumberName, after_place, child_name, is_name, is_node_number,
+    listed_names, number_bytes,
+};

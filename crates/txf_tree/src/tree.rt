@@ -1,65 +1,45 @@
 // The tree.
-ghost use Rattle.std.specs.Prelude.{◌≡◌, ◌+◌, ◌-◌, ◌^◌, ◌<◌, ◌≤◌, ℕ, [], None, Some, true, is_some, length, OnOk, IsOk, IfOk, IfSome, IfNone, All, fold, ◌≢◌};
+ghost use Rattle.std.specs.Prelude.{◌≡◌, ◌+◌, ◌-◌, ◌^◌, ◌<◌, ◌≤◌, ℕ, [], None, true, length, OnOk, IsOk, IfOk, All, fold, ◌≢◌};
 ghost use Rattle.std.specs.Option.{option_map};
 ghost use Rattle.ktm_base.specs.Names.{IsName};
+ghost use Rattle.ktm_base.specs.declared.limits.TheConstants.{MOST_NAME_BYTES};
 ghost use Rattle.ktm_base.specs.Reading.{IsRead};
 ghost use Rattle.ktm_types.specs.declared.change.Change.TheVariants.{Make, Put, Cut, Move, Drop};
 ghost use Rattle.ktm_links.specs.Mapped.{Begins};
 ghost use Rattle.ktm_world.specs.Changes.{applies, bytes_in, changed, changed_all, new_content, node_of};
 ghost use Rattle.ktm_world.specs.Committed.{final_bytes, version_of, versions_after, without_version};
-ghost use Rattle.ktm_world.specs.Tree.{bytes_of, child_of, content_of, has_entries, is_at_or_below, is_directory, is_file, node_at, numbers_rise, parent_of, with_node};
+ghost use Rattle.ktm_world.specs.Tree.{bytes_of, child_of, content_of, has_entries, is_at_or_below, is_directory, is_file, node_at, numbers_rise, with_node};
 ghost use Rattle.txf_tree.specs.Children.{node_seen, entries_in, matching};
-ghost use Rattle.txf_tree.specs.Indexes.{under, with_now, IsApplied};
 ghost use Rattle.txf_tree.specs.Places.{entries_from, number_bytes};
-ghost use Rattle.txf_tree.specs.TreeState.{dropped, fits, now_at, room_of, has_room, takes, tree_of, versions_of, KeepsRoom, KeepsRooms};
+ghost use Rattle.txf_tree.specs.TreeState.{bytes_now, dropped, fits, room_of, has_room, takes, tree_of, versions_of, IsApplied, KeepsRoom, KeepsRooms};
 
-use crate::change::{bytes_in, changes_bytes, node_of};
-use crate::children::Children;
-use crate::entry::{Entries, NodeRef};
-use crate::name::{ChildName, child_name, number_bytes};
-use crate::nodes::Nodes;
-use crate::stored::Stored;
-use ktm_base::{Bytes, MOST_NAME_BYTES, NoMemory, Text, read_at};
-use ktm_links::{Chains, Name};
-use ktm_names::{Pattern, ROOT};
+use crate::change::{bytes_in, changes_bytes, is_whole, node_of};
+use crate::content::Content;
+use crate::node_ref::{NodeRef, node_ref};
+use ktm_base::{Bytes, NoMemory, Text, read_at};
+use ktm_names::Pattern;
 use ktm_types::{Change, Contents, Node, NodeKind};
 use std::alloc::Global;
 use std::marker::Model;
+use txf_nodes::{Entries, NodeTable};
 
 /// The committed files and directories.
 #[derive(Drop)]
 pub struct Tree {
     alloc: Global,
-    nodes: Nodes,
-    // The numbers of the nodes, by their directories' numbers and their folded names.
-    names: Chains<ChildName, u64>,
+    nodes: NodeTable<Content>,
 }
 
 impl Model for Tree {
-    ghost use Rattle.std.specs.Prelude.{min};
     ghost use Rattle.txf_tree.specs.TreeState.{TreeState};
 
     ghost Value = { TreeState };
 
-    ghost use Rattle.txf_tree.specs.Indexes.{IsTree};
-
-    ghost view = { λ t. record {
-      nodes = t.nodes.nodes;
-      spare = min t.nodes.spare t.names.spare;
-    } };
-
-    ghost invariant = { λ t. IsTree t.nodes.nodes t.names.entries };
+    ghost view = { λ t. t.nodes };
 }
 
-// The number that stands under the name.
-fn number_under(names: &Chains<ChildName, u64>, name: &[u8]) -> Option<u64>
-    ensures { result ≡ under names.now.entries name.now }
-{
-    match names.find(name) {
-        Some(key) => names.get(key).copied(),
-        None => None,
-    }
-}
+/// The entries of a directory that are left.
+pub type Children<'a> = txf_nodes::Children<'a, Content>;
 
 // How many changes give a file these bytes: it is cut, and they are put where there are any.
 fn changes_to(bytes: &Bytes) -> u64
@@ -78,6 +58,26 @@ fn new_content(alloc: Global, kind: NodeKind) -> Option<Bytes>
     }
 }
 
+// The content with these bytes, if there are any.
+fn content_of(bytes: Option<Bytes>) -> Option<Content>
+    ensures { option_map bytes_now result ≡ bytes }
+{
+    match bytes {
+        Some(bytes) => Some(Content::new(bytes)),
+        None => None,
+    }
+}
+
+// The bytes of the content, if there is one.
+fn bytes_of(content: Option<Content>) -> Option<Bytes>
+    ensures { result ≡ option_map bytes_now content }
+{
+    match content {
+        Some(content) => Some(content.into_bytes()),
+        None => None,
+    }
+}
+
 impl Tree {
     /// A tree of the root alone.
     pub fn new(alloc: Global) -> Self
@@ -86,8 +86,7 @@ impl Tree {
     {
         Tree {
             alloc,
-            nodes: Nodes::new(alloc),
-            names: Chains::new(alloc),
+            nodes: NodeTable::new(alloc),
         }
     }
 
@@ -113,7 +112,7 @@ impl Tree {
     pub fn law_of_numbers(&self)
         ensures { numbers_rise (tree_of self.now) ≡ true }
     {
-        let _ = &self.alloc;
+        self.nodes.law_of_numbers();
     }
 
     /// How many nodes there are beside the root.
@@ -127,8 +126,8 @@ impl Tree {
     pub fn node(&self, number: u64) -> Option<NodeRef<'_>>
         ensures { option_map node_seen result ≡ node_at (tree_of self.now) number }
     {
-        match self.nodes.get(number) {
-            Some(node) => Some(node.as_node()),
+        match self.nodes.node(number) {
+            Some(node) => Some(node_ref(node)),
             None => None,
         }
     }
@@ -136,28 +135,22 @@ impl Tree {
     pub fn is_file(&self, number: u64) -> bool
         ensures { result ≡ is_file (tree_of self.now) number }
     {
-        match self.nodes.get(number) {
-            Some(node) => node.content().is_file(),
-            None => false,
-        }
+        self.nodes.is_file(number)
     }
 
     /// The root is a directory.
     pub fn is_directory(&self, number: u64) -> bool
         ensures { result ≡ is_directory (tree_of self.now) number }
     {
-        match self.nodes.get(number) {
-            Some(node) => !node.content().is_file(),
-            None => number == ROOT,
-        }
+        self.nodes.is_directory(number)
     }
 
     /// The bytes of a file.
     pub fn content(&self, file: u64) -> &[u8]
         ensures { result.now ≡ bytes_of (tree_of self.now) file }
     {
-        match self.nodes.get(file) {
-            Some(node) => node.content().bytes(),
+        match self.nodes.content(file) {
+            Some(content) => content.as_slice(),
             None => &[],
         }
     }
@@ -186,46 +179,28 @@ impl Tree {
     pub fn version(&self, file: u64) -> u64
         ensures { result ≡ version_of (versions_of self.now) file }
     {
-        match self.nodes.get(file) {
-            Some(node) => node.content().version(),
-            None => 0,
-        }
+        self.nodes.version(file)
     }
 
     /// The number of the node with the name in the directory. It takes no memory.
     pub fn child(&self, directory: u64, name: &[u8]) -> Option<u64>
         ensures { result ≡ option_map (λ node. node.number) (child_of (tree_of self.now) directory name.now) }
     {
-        let names = &self.names;
-        if name.len() > MOST_NAME_BYTES {
-            return None;
-        }
-        number_under(names, child_name(directory, name).as_slice())
+        self.nodes.child(directory, name)
     }
 
     /// Is anything in the directory.
     pub fn has_entries(&self, directory: u64) -> bool
         ensures { result ≡ has_entries (tree_of self.now) directory }
     {
-        self.names.first_with(&number_bytes(directory)).is_some()
+        self.nodes.has_entries(directory)
     }
 
     /// Is the node with the number the other one, or below it. It goes up from the node, and ends at the root.
     pub fn is_at_or_below(&self, number: u64, other: u64) -> bool
         ensures { result ≡ is_at_or_below (tree_of self.now) number other }
     {
-        let mut at = number;
-        for _ in 0..self.len() {
-            if at == other {
-                return true;
-            }
-            let above = self.parent_of(at);
-            if above == at {
-                return false;
-            }
-            at = above;
-        }
-        at == other
+        self.nodes.is_at_or_below(number, other)
     }
 
     /// The entries of a directory whose places are not below this one, one after another.
@@ -233,7 +208,7 @@ impl Tree {
         requires { Begins (number_bytes directory) from.now }
         ensures { result ≡ entries_from directory from.now (entries_in (tree_of self.now) directory) }
     {
-        Children::new(&self.nodes, directory, self.names.walk_from(from))
+        self.nodes.children(directory, from)
     }
 
     /// The entries of a directory that a pattern matches, by rising folded name. Their names are lent. No other is looked at
@@ -241,21 +216,7 @@ impl Tree {
     pub fn entries(&self, directory: u64, pattern: &Pattern) -> Result<Entries<'_>, NoMemory>
         ensures { IfOk result (λ entries. entries ≡ matching pattern.now.last (entries_in (tree_of self.now) directory)) }
     {
-        let mut entries = Entries::new(self.alloc);
-        let mut children = self.children(
-            directory,
-            child_name(directory, pattern.lead()).as_slice(),
-        );
-        while let Some(entry) = children.first() {
-            if !pattern.reaches(entry.name) {
-                return Ok(entries);
-            }
-            if let Err(NoMemory) = entries.push_matching(entry, pattern) {
-                return Err(NoMemory);
-            }
-            children.skip();
-        }
-        Ok(entries)
+        self.nodes.entries(directory, pattern)
     }
 
     /// Makes room for so many more nodes. It fails where the memory does not reach, or where the tree has had nearly 2^64
@@ -266,13 +227,26 @@ impl Tree {
         ensures nodes { self.new.nodes ≡ self.old.nodes }
         ensures spare { self.old.spare ≤ self.new.spare }
     {
-        if let Err(NoMemory) = self.nodes.reserve(n) {
-            return Err(NoMemory);
+        self.nodes.reserve(n)
+    }
+
+    /// Does the change apply. It takes no memory, and looks up what it names; a move goes up from its directory to the root.
+    pub fn applies(&self, change: &Change) -> bool
+        ensures { result ≡ applies (tree_of self.now) change.now }
+    {
+        let nodes = &self.nodes;
+        match change {
+            Change::Make {
+                node,
+                parent,
+                name,
+                ..
+            } => nodes.may_make(*node, *parent, name.as_slice()),
+            Change::Put { node, contents, .. } => nodes.is_file(*node) && is_whole(contents),
+            Change::Cut { node, pages, .. } => nodes.is_file(*node) && pages.is_empty(),
+            Change::Move { node, parent, name } => nodes.may_move(*node, *parent, name.as_slice()),
+            Change::Drop { node } => nodes.may_drop(*node),
         }
-        if let Err(NoMemory) = self.names.reserve(n) {
-            return Err(NoMemory);
-        }
-        Ok(())
     }
 
     /// Takes the memory that a change needs, so that it fits.
@@ -371,20 +345,9 @@ impl Tree {
         ensures spare { self.new.spare ≡ self.old.spare }
     {
         let changes = changes_to(&bytes);
-        match self.nodes.content_mut(file) {
-            Some(content) => content.replace(bytes, changes),
-            None => unreachable!(),
-        }
-    }
-
-    // The number of the directory that the node is in. The root is its own parent.
-    fn parent_of(&self, number: u64) -> u64
-        ensures { result ≡ parent_of (node_at (tree_of self.now) number) }
-    {
-        match self.nodes.get(number) {
-            Some(node) => node.parent(),
-            None => ROOT,
-        }
+        self.nodes
+            .replace(file, Content::new(bytes), changes)
+            .into_bytes()
     }
 
     // Puts a node whose number and name are free, and whose bytes were never changed. It takes no memory.
@@ -398,21 +361,13 @@ impl Tree {
         ensures rooms { KeepsRooms self.old self.new }
         ensures spare { self.new.spare + 1 ≡ self.old.spare }
     {
-        self.insert(Stored::new(node));
-    }
-
-    // Puts a node whose number and name are free at its place, and takes no memory.
-    fn insert(&mut self, node: Stored)
-        requires spare { 0 < self.old.spare }
-        requires number { now_at self.old.nodes node.node.number ≡ None }
-        requires name { child_of (tree_of self.old) node.node.parent node.node.name ≡ None }
-        ensures nodes { self.new.nodes ≡ with_now self.old.nodes node }
-        ensures spare { self.new.spare + 1 ≡ self.old.spare }
-    {
-        let number = node.number();
-        let name = child_name(node.parent(), node.name());
-        self.nodes.insert(node);
-        self.names.insert(name, number);
+        let Node {
+            number,
+            parent,
+            name,
+            content,
+        } = node;
+        self.nodes.insert(number, parent, name, content_of(content));
     }
 
     // Makes a node, for which the memory is there.
@@ -421,13 +376,8 @@ impl Tree {
         requires fits { fits self.old (Make node parent kind name) ≡ true }
         ensures { IsApplied self.old self.new (Make node parent kind name) }
     {
-        let content = new_content(self.alloc, kind);
-        self.push(Node {
-            number: node,
-            parent,
-            name,
-            content,
-        });
+        let content = content_of(new_content(self.alloc, kind));
+        self.nodes.make(node, parent, name, content);
     }
 
     // Puts bytes into a file that has room for them.
@@ -437,7 +387,7 @@ impl Tree {
         requires few { version_of (versions_of self.old) node < 2 ^ 64 - 2 }
         ensures { IsApplied self.old self.new (Put node offset contents.now) }
     {
-        match self.nodes.content_mut(node) {
+        match self.nodes.content_mut(node, 1) {
             Some(content) => content.put(offset as usize, bytes_in(contents)),
             None => unreachable!(),
         }
@@ -450,7 +400,7 @@ impl Tree {
         requires few { version_of (versions_of self.old) node < 2 ^ 64 - 2 }
         ensures { IsApplied self.old self.new (Cut node size []) }
     {
-        match self.nodes.content_mut(node) {
+        match self.nodes.content_mut(node, 1) {
             Some(content) => content.cut(size as usize),
             None => unreachable!(),
         }
@@ -462,12 +412,7 @@ impl Tree {
         requires fits { fits self.old (Move node parent name) ≡ true }
         ensures { IsApplied self.old self.new (Move node parent name) }
     {
-        let mut stored = self.nodes.replace(Stored::hollow(self.alloc, node));
-        let was = child_name(stored.parent(), stored.name());
-        self.names.remove(was.as_slice());
-        self.names.insert(child_name(parent, name.as_slice()), node);
-        stored.rename(parent, name);
-        self.nodes.replace(stored);
+        self.nodes.rename(node, parent, name);
     }
 
     // The bytes of the node with the number, if there is one, count as never changed.
@@ -477,10 +422,7 @@ impl Tree {
         ensures rooms { KeepsRooms self.old self.new }
         ensures spare { self.new.spare ≡ self.old.spare }
     {
-        let Some(content) = self.nodes.content_mut(number) else {
-            return;
-        };
-        content.forget_version();
+        self.nodes.forget_version(number);
     }
 
     // Takes a node out, and hands out the bytes of a file.
@@ -488,14 +430,7 @@ impl Tree {
         ensures bytes { result ≡ content_of (node_at (tree_of self.old) node) }
         ensures applied { IsApplied self.old self.new (Drop node) }
     {
-        match self.nodes.remove(node) {
-            Some(stored) => {
-                self.names
-                    .remove(child_name(stored.parent(), stored.name()).as_slice());
-                stored.into_bytes()
-            }
-            None => None,
-        }
+        bytes_of(self.nodes.remove(node))
     }
 
     // Takes the memory with which a file, if it is one, can have so many bytes from the offset on.
@@ -507,7 +442,7 @@ impl Tree {
         ensures rooms { KeepsRooms self.old self.new }
         ensures spare { self.new.spare ≡ self.old.spare }
     {
-        let Some(content) = self.nodes.content_mut(file) else {
+        let Some(content) = self.nodes.content_mut(file, 0) else {
             return Ok(());
         };
         content.reserve(offset, many)

@@ -3,7 +3,6 @@ use Rattle.std.proofs.Common.{◌≡◌, ℕ, ◌+◌, ◌<◌, ◌≤◌, ◌||
 use Rattle.std.specs.List.{list_any}
 use Rattle.std.specs.Prelude.{OnSome}
 use Rattle.std.proofs.lemmas.Bool.{cases_Bool, and_from, and_parts, eqb-true, eq-eqb, or_right}
-use Rattle.std.proofs.lemmas.List.Elements.{filter-append}
 use Rattle.std.proofs.lemmas.List.Folds.{list_any-append}
 use Rattle.ktm_base.specs.declared.id.Id.{Id}
 use Rattle.txf_versions.specs.declared.kept.Older.{Older}
@@ -86,21 +85,6 @@ held-push opens o (v ∷ vs) held =
     (is ∙ ap (λ b. b || list_any (fixes v.file v.version) (o ∷ [])) held.0, held-push opens o vs held.1)
 
 -- ---- a first open goes
--- what is pinned by another first open stays pinned
-pub pinned-still : (old new : List Opened) (it : Opened) (file version : ℕ) → IsTaken old it new → is_pinned new file version ≡ true
-    → is_pinned old file version ≡ true
-pinned-still old new it file version taken pinned =
-    let left : Bool = list_any (fixes file version) taken.left in
-    let right : Bool = list_any (fixes file version) taken.right in
-    let now : (left || right) ≡ true =
-    sym (ap (list_any (fixes file version)) taken.is ∙ list_any-append (fixes file version) taken.left taken.right) ∙ pinned in
-    ap (list_any (fixes file version)) taken.was ∙ list_any-append (fixes file version) taken.left (it ∷ taken.right)
-    ∙ by_cases left (fixes file version it) right now
-  where
-    by_cases : (a b c : Bool) → (a || c) ≡ true → (a || (b || c)) ≡ true
-    by_cases true b c is = refl
-    by_cases false true c is = refl
-    by_cases false false c is = is
 
 pinned-others : (old new : List Opened) (it : Opened) (file version : ℕ) → IsTaken old it new → fixes file version it ≡ false
     → is_pinned new file version ≡ is_pinned old file version
@@ -132,7 +116,7 @@ held-kept old new it (v ∷ vs) taken pinned held = (
   held-kept old new it vs taken pinned held.1,
 )
 
--- where it is not, each but that version is
+-- where the version is pinned no more, each older version but that one is held
 pub filter-others : (old new : List Opened) (it : Opened) (older : List Older) → IsTaken old it new → is_pinned new it.file it.version ≡ false
     → AreAllHeld old older → filter (λ v. not (is_version it.file it.version v)) older ≡ filter (is_held new) older
 filter-others old new it [] taken pinned held = refl
@@ -154,13 +138,6 @@ length-taken old new it taken =
     let was = ap length taken.was ∙ length-append taken.left (it ∷ taken.right) in
     let is = ap length taken.is ∙ length-append taken.left taken.right in
     omega (arith, was, is)
-
-pub others-taken : (old new : List Opened) (it : Opened) (transaction : Id) → IsTaken old it new → is_own transaction it ≡ true
-    → without_transaction new transaction ≡ without_transaction old transaction
-others-taken old new it transaction taken own =
-    let other : Opened → Bool = λ o. not (is_own transaction o) in
-    ap (filter other) taken.is ∙ filter-append other taken.left taken.right
-    ∙ sym (ap (filter other) taken.was ∙ filter-append other taken.left (it ∷ taken.right) ∙ rw own refl)
 
 -- ---- all of a transaction have gone
 pub none-own : (opens : List Opened) (transaction : Id) → list_any (is_own transaction) opens ≡ false → without_transaction opens transaction ≡ opens
@@ -186,7 +163,7 @@ filter-twice early late (v ∷ vs) still =
           ]
     ]
 
--- the same over steps that each give back what is held no more
+-- steps that each give back what is held no more leave of the first versions those that are held at last
 pub released : (now next : List Opened) (first older left : List Older)
     → ((file version : ℕ) → is_pinned next file version ≡ true → is_pinned now file version ≡ true)
     → filter (is_held now) older ≡ filter (is_held now) first → left ≡ filter (is_held next) older → left ≡ filter (is_held next) first

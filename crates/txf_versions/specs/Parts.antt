@@ -37,7 +37,7 @@ AreNamed [] = Unit {0}
 AreNamed (e ∷ es) = (e.name ≡ version_bytes e.value.file e.value.version []) × AreNamed es
 
 -- each version stands under its name, and they have so many units
-pub record IsKept (entries : List (NamedItem Older)) (units : ℕ) : Type 0 where
+pub record AreOlderKept (entries : List (NamedItem Older)) (units : ℕ) : Type 0 where
   pub names : AreNamed entries
   pub sum : units ≡ older_units (older_of entries)
 

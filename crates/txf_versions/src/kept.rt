@@ -32,11 +32,11 @@ impl Model for Kept {
 
     ghost Value = { KeptState };
 
-    ghost use Rattle.txf_versions.specs.Parts.{older_of, IsKept};
+    ghost use Rattle.txf_versions.specs.Parts.{older_of, AreOlderKept};
 
     ghost view = { λ k. record { older = older_of k.map.entries; spare = k.map.spare } };
 
-    ghost invariant = { λ k. IsKept k.map.entries k.units };
+    ghost invariant = { λ k. AreOlderKept k.map.entries k.units };
 }
 
 // The units of these bytes.

@@ -8,7 +8,7 @@ use Rattle.ktm_event.specs.Work.{FinalFile, bytes_changes, changes_of_file, firs
 use Rattle.ktm_world.specs.Committed.{final_bytes}
 use Rattle.ktm_world.specs.Tree.{Tree}
 use Rattle.txf_overlay.specs.OverlayState.{OverlayState, Written, final_of}
-use Rattle.txf_overlay.specs.Written.{AreOver, IsRising, first_from}
+use Rattle.txf_overlay.specs.Written.{AreOver, AreFilesRising, first_from}
 use Rattle.txf_volume.specs.Shown.{are_rising, recorded_file, recorded_files, shown}
 use Rattle.txf_volume.specs.Ties.{IsOver}
 
@@ -22,7 +22,7 @@ over-all : (n : ℕ) (ws : List Written) → AreOver n ws → list_all (λ (f : 
 over-all n [] over = refl
 over-all n (w ∷ ws) over = and_from _ _ (lt-ltb n w.file over.0) (over-all n ws over.1)
 
-pub recorded-rise : (ws : List Written) → IsRising ws → are_rising (map recorded_file ws) ≡ true
+pub recorded-rise : (ws : List Written) → AreFilesRising ws → are_rising (map recorded_file ws) ≡ true
 recorded-rise [] rise = refl
 recorded-rise (w ∷ ws) rise = and_from _ _ (over-all w.file ws rise.0) (recorded-rise ws rise.1)
 

@@ -3,7 +3,6 @@ pub mod OlderVersions
 pub mod Versions
 pub mod TreeUnits
 pub mod PlainUses
-pub mod Forms
 pub mod OwnTables
 pub mod NodesMade
 pub mod OwnBytes

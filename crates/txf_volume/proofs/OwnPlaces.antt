@@ -1,15 +1,19 @@
 -- Where the entry of a transaction stands among the changes.
-use Rattle.std.proofs.Common.{suc, ◌≡◌, ℕ, ◌+◌, ◌<◌, not, Bool, true, filter, List, [], ◌∷◌, ◌++◌, length, get_or, set, take, drop, Some, None, refl, sym, ◌∙◌, ap, subst, inl, inr}
+use Rattle.std.proofs.Common.{zero, suc, ◌≡◌, ℕ, ◌+◌, ◌<◌, ◌≤◌, not, Bool, true, false, filter, List, [], ◌∷◌, ◌++◌, length, get_or, remove, take, drop, position, MatchOption, Option, Some, None, refl, sym, ◌∙◌, ap, subst, arith, inl, inr}
 use Rattle.std.proofs.lemmas.Bool.{and_parts, cases_Bool, not-true}
-use Rattle.std.proofs.lemmas.List.{drop_more, get_or_read, set_split}
+use Rattle.std.proofs.lemmas.Grind.{common_steps}
+use Rattle.std.proofs.lemmas.List.{get_or-map, length-map}
+use Rattle.std.proofs.lemmas.List.Quantifiers.{position-Some}
+use Rattle.std.proofs.lemmas.List.Sums.{fails_before_first}
 use Rattle.std.proofs.lemmas.Option.{none-some}
-use Rattle.std.specs.List.{list_all}
+use Rattle.std.specs.List.{list_all, position_or_len}
 use Rattle.ktm_base.specs.declared.id.Id.{Id}
-use Rattle.ktm_keyed.proofs.Slots.{rest_is}
+use Rattle.ktm_places.specs.Places.{AreCounted}
+use Rattle.ktm_places.specs.declared.places.Places.{Places}
 use Rattle.ktm_world.specs.Transactions.{same_id}
 use Rattle.txf_overlay.specs.OverlayState.{OverlayState}
 use Rattle.txf_volume.specs.Held.{OwnHeld, overlay_in, without_own}
-use Rattle.txf_volume.specs.OwnParts.{IsPlace, with_overlay}
+use Rattle.txf_volume.specs.OwnParts.{IsPlace, owners, unchanged, with_overlay}
 use Rattle.txf_volume.specs.Ties.{held_by_two}
 use Rattle.txf_laws.specs.Elements.{IsIn, each_pair}
 use Rattle.txf_laws.proofs.offered.Elements.{list_all-at}
@@ -43,20 +47,62 @@ overlay-first o os id same = rw same refl
 put-first : (o : OwnHeld) (os : List OwnHeld) (id : Id) (new : OverlayState) → same_id o.transaction id ≡ true → with_overlay (o ∷ os) id new ≡ record o { overlay = new } ∷ os
 put-first o os id new same = rw same refl
 
-pub is_place : (os : List OwnHeld) (id : Id) (i : ℕ) (o : OwnHeld) → i < length os → o ≡ get_or os i o → same_id o.transaction id ≡ true
-    → overlay_in (drop i os) id ≡ overlay_in os id
-    → ((new : OverlayState) → take i os ++ with_overlay (drop i os) id new ≡ with_overlay os id new)
-    → take i os ++ without_own (drop i os) id ≡ without_own os id
-    → each_pair held_by_two (drop i os) ≡ true
-    → IsPlace os id i
-is_place os id i o within is same found put left once =
-    let rest : drop i os ≡ o ∷ drop (i + 1) os = drop_more os i o within ∙ ap (λ x. x ∷ drop (i + 1) os) (sym is) in
-    let behind : drop i os ≡ o ∷ drop (suc i) os = rest_is os i o within is in
+-- its only entry is at this place
+is_place : (os : List OwnHeld) (id : Id) (i : ℕ) (d : OwnHeld) → each_pair held_by_two os ≡ true → i < length os → same_id (get_or os i d).transaction id ≡ true → ((k : ℕ) → k < i → same_id (get_or os k d).transaction id ≡ false) → IsPlace os id i
+is_place [] id i d once within same before = absurd (omega arith)
+is_place (o ∷ os) id zero d once within same before = record {
+  within = within;
+  owner = λ e. same_id-equal o.transaction id same;
+  found = λ e. overlay-first o os id same;
+  put = λ new e. put-first o os id new same;
+  left = without-first o os id once same;
+}
+is_place (o ∷ os) id (suc i) d once within same before =
+    let rest = is_place os id i d (and_parts (list_all (held_by_two o) os) (each_pair held_by_two os) once).1 (omega arith) same (λ k less. before (suc k) (omega arith)) in
+    let other : same_id o.transaction id ≡ false = before zero (omega arith) in
     record {
       within = within;
-      found = λ d. sym found ∙ ap (λ l. overlay_in l id) rest ∙ overlay-first o (drop (i + 1) os) id same ∙ ap (λ (x : OwnHeld). Some x.overlay) (get_or_read os i o within is d);
-      put = λ new d.
-          sym (put new) ∙ ap (λ l. take i os ++ with_overlay l id new) behind ∙ ap (λ l. take i os ++ l) (put-first o (drop (suc i) os) id new same)
-          ∙ sym (set_split os i (record o { overlay = new }) within) ∙ ap (λ (x : OwnHeld). set os i (record x { overlay = new })) (get_or_read os i o within is d);
-      left = sym left ∙ ap (λ l. take i os ++ without_own l id) rest ∙ ap (λ l. take i os ++ l) (without-first o (drop (i + 1) os) id (subst (λ l. each_pair held_by_two l ≡ true) rest once) same);
+      owner = rest.owner;
+      found = λ e. rw other (rest.found e);
+      put = λ new e. rw other (ap (λ ps. o ∷ ps) (rest.put new e));
+      left =
+          let next : suc (i + 1) ≡ suc i + 1 = omega arith in
+          rw other (ap (λ ps. o ∷ ps) rest.left ∙ ap (λ n. o ∷ (take i os ++ drop n (o ∷ os))) next);
     }
+
+-- where no entry is its own, it changed nothing
+overlay-none : (os : List OwnHeld) (id : Id) (d : OwnHeld) → ((k : ℕ) → k < length os → same_id (get_or os k d).transaction id ≡ false) → overlay_in os id ≡ None
+overlay-none [] id d others = refl
+overlay-none (o ∷ os) id d others =
+    let other : same_id o.transaction id ≡ false = others zero (omega arith) in
+    rw other (overlay-none os id d (λ k within. others (suc k) (omega arith)))
+
+-- where its first entry is, if it has one
+pub place_is : (os : List OwnHeld) (id : Id) (place : Option ℕ) → each_pair held_by_two os ≡ true → place ≡ position (λ (o : OwnHeld). same_id o.transaction id) os → MatchOption place (overlay_in os id ≡ None) (IsPlace os id)
+place_is os id None once is =
+    let d : OwnHeld = record { transaction = id; overlay = unchanged } in
+    let none = sym is in
+    let passed : length os ≤ position_or_len (λ (o : OwnHeld). same_id o.transaction id) os = grind (arith, common_steps) in
+    overlay-none os id d (λ k within. fails_before_first (λ (o : OwnHeld). same_id o.transaction id) os k d (omega (arith, passed)))
+place_is os id (Some i) once is =
+    let d : OwnHeld = record { transaction = id; overlay = unchanged } in
+    let at = position-Some (λ (o : OwnHeld). same_id o.transaction id) os i d (sym is) in
+    is_place os id i d once at.0 at.1 at.2
+
+-- ---- whose entries are counted
+
+-- where an entry is taken out, its owner is
+owners-left : (os : List OwnHeld) (i : ℕ) → owners (remove os i) ≡ remove (owners os) i
+owners-left [] zero = refl
+owners-left [] (suc i) = refl
+owners-left (o ∷ os) zero = refl
+owners-left (o ∷ os) (suc i) = ap (λ ids. o.transaction ∷ ids) (owners-left os i)
+
+-- without an entry
+pub counted-left : (os : List OwnHeld) (id : Id) (i : ℕ) (places places' : Places) → IsPlace os id i → AreCounted (owners os) places
+    → ((ids : List Id) (place : ℕ) → place < length ids → get_or ids place id ≡ id → AreCounted ids places → AreCounted (remove ids place) places')
+    → AreCounted (owners (remove os i)) places'
+counted-left os id i places places' at counted removed =
+    let d : OwnHeld = record { transaction = id; overlay = unchanged } in
+    subst (λ ids. AreCounted ids places') (sym (owners-left os i))
+    (removed (owners os) i (let len = length-map os (λ (o : OwnHeld). o.transaction) in let within = at.within in omega (arith, len, within)) (get_or-map (λ (o : OwnHeld). o.transaction) os i d id at.within ∙ at.owner d) counted)

@@ -13,7 +13,7 @@ use Rattle.ktm_world.specs.Committed.{final_bytes, version_of}
 use Rattle.ktm_world.specs.Conflicts.{is_outdated}
 use Rattle.ktm_world.specs.Transactions.{same_id}
 use Rattle.ktm_world.specs.Tree.{Tree, bytes_of, is_file}
-use Rattle.txf_overlay.specs.Written.{AreOver, IsRising}
+use Rattle.txf_overlay.specs.Written.{AreOver, AreFilesRising}
 use Rattle.txf_overlay.specs.OverlayState.{is_of_names}
 use Rattle.txf_overlay.specs.Laws.{IsOwn}
 use Rattle.txf_overlay.specs.OverlayState.{OverlayState, Written, final_of, own_of}
@@ -75,7 +75,7 @@ none-over : (ws : List Written) (n f : ℕ) → n ≡ f → AreOver n ws → byt
 none-over [] n f e over = refl
 none-over (w ∷ ws) n f e over = rw (ne_eqb w.file f (λ same. omega (arith, over.0, e, same))) (none-over ws n f e over.1)
 
-filter-final : (ws : List Written) (f : ℕ) → IsRising ws → filter (is_of_file f) (flat_map final_of ws) ≡ changes_at f (bytes_at ws f)
+filter-final : (ws : List Written) (f : ℕ) → AreFilesRising ws → filter (is_of_file f) (flat_map final_of ws) ≡ changes_at f (bytes_at ws f)
 filter-final [] f rises = refl
 filter-final (w ∷ ws) f rises =
     let rest = filter-final ws f rises.1 in

@@ -13,7 +13,7 @@ use Rattle.ktm_world.specs.Committed.{Version, version_of, final_bytes, changes_
 use Rattle.ktm_world.specs.Files.{FirstOpen, OwnChanges, bytes_seen, is_last_version}
 use Rattle.ktm_world.specs.FileUses.{own_units, older_versions, units_used, nodes_used, file_changes_waiting}
 use Rattle.ktm_world.specs.Tree.{bytes_of, is_file, units_of}
-use Rattle.txf_overlay.specs.Written.{AreOver, IsRising}
+use Rattle.txf_overlay.specs.Written.{AreOver, AreFilesRising}
 use Rattle.txf_overlay.specs.OverlayState.{is_of_names}
 use Rattle.txf_overlay.specs.Laws.{IsOwn, number_of}
 use Rattle.txf_overlay.specs.OverlayState.{OverlayState, Written, final_of, own_of}
@@ -77,7 +77,7 @@ over-all n [] over w there = absurd there
 over-all n (v ∷ vs) over w (inl e) = subst (λ (u : Written). n < u.file) e over.0
 over-all n (v ∷ vs) over w (inr there) = over-all n vs over.1 w there
 
-bytes-at : (ws : List Written) → IsRising ws → (w : Written) → IsIn w ws → bytes_at ws w.file ≡ Some w.bytes
+bytes-at : (ws : List Written) → AreFilesRising ws → (w : Written) → IsIn w ws → bytes_at ws w.file ≡ Some w.bytes
 bytes-at [] rises w there = absurd there
 bytes-at (v ∷ vs) rises w (inl e) = rw (eq-eqb v.file w.file (ap (λ (u : Written). u.file) e)) (ap (λ (u : Written). Some u.bytes) e)
 bytes-at (v ∷ vs) rises w (inr there) = rw (ne_eqb v.file w.file (λ e. omega (arith, over-all v.file vs rises.0 w there, e))) (bytes-at vs rises.1 w there)
@@ -108,14 +108,14 @@ ends-same by (w ∷ ws) same = λ i. final_bytes w.file (same w (inl refl) i) ++
 later : (n : ℕ) (ns : List NodeNow) → Above n (map plain ns) → list_all (λ (v : Version). nat_lt n v.file) (versions_in ns) ≡ true
 later n [] above = refl
 later n (m ∷ ms) above = elim (cases_Bool (nat_lt 0 m.version)) [
-  | inl has ↦ rw has (and_from _ _ (lt-ltb n m.node.number above.0) (later n ms above.1))
+  | inl has ↦ rw has (and_from _ _ (lt-ltb n m.number above.0) (later n ms above.1))
   | inr none ↦ rw none (later n ms above.1)
 ]
 
 pub versions-rise : (ns : List NodeNow) → Rises (map plain ns) → each_pair files_rise (versions_in ns) ≡ true
 versions-rise [] rises = refl
 versions-rise (m ∷ ms) rises = elim (cases_Bool (nat_lt 0 m.version)) [
-  | inl has ↦ rw has (and_from _ _ (later m.node.number ms rises.0) (versions-rise ms rises.1))
+  | inl has ↦ rw has (and_from _ _ (later m.number ms rises.0) (versions-rise ms rises.1))
   | inr none ↦ rw none (versions-rise ms rises.1)
 ]
 

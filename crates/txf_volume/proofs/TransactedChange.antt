@@ -20,8 +20,8 @@ use Rattle.ktm_world.specs.Transactions.{same_id}
 use Rattle.ktm_world.specs.Tree.{Tree, cut_to, put_over}
 use Rattle.txf_overlay.specs.Laws.{IsNext, IsOwn, OwnFormLaw, number_of, written_with}
 use Rattle.txf_overlay.specs.OverlayState.{OverlayState, Written, final_of, is_of_names, own_of, seen}
-use Rattle.txf_overlay.specs.Written.{IsRising, bytes_at, bytes_or, total_units, with_bytes, without_file}
-use Rattle.txf_overlay.proofs.FilesMap.{IsRising-with, IsRising-without}
+use Rattle.txf_overlay.specs.Written.{AreFilesRising, bytes_at, bytes_or, total_units, with_bytes, without_file}
+use Rattle.txf_overlay.proofs.FilesMap.{AreFilesRising-with, AreFilesRising-without}
 use Rattle.txf_reserve.specs.ReserveState.{IsSameHold, Keeps, ReserveState, holds_in}
 use Rattle.txf_tree.specs.TreeState.{tree_of, versions_of}
 use Rattle.txf_volume.specs.Held.{FilesHeld, OwnHeld, files_of, names_held, overlay_in, own_held}
@@ -247,13 +247,13 @@ IsOwn-unchanged = record { only = refl; rise = tt; files = refl }
 only-next : (ns : List Change) (c : Change) → list_all is_of_names ns ≡ true → list_all is_of_names (ns ++ filter is_of_names (c ∷ [])) ≡ true
 only-next ns c only = list_all-append is_of_names ns (filter is_of_names (c ∷ [])) ∙ and_from _ _ only (elim (cases_Bool (changes_bytes c)) [ inl bytes ↦ rw bytes refl | inr of_names ↦ rw (of_names, of_names) refl ])
 
-rising-next : (first : ℕ → List ℕ) (ws : List Written) (c : Change) → IsRising ws → IsRising (written_with first ws c)
-rising-next first ws (Make node parent File name) rise = IsRising-with ws node _ rise
+rising-next : (first : ℕ → List ℕ) (ws : List Written) (c : Change) → AreFilesRising ws → AreFilesRising (written_with first ws c)
+rising-next first ws (Make node parent File name) rise = AreFilesRising-with ws node _ rise
 rising-next first ws (Make node parent Directory name) rise = rise
-rising-next first ws (Put node offset contents) rise = IsRising-with ws node _ rise
-rising-next first ws (Cut node size pages) rise = IsRising-with ws node _ rise
+rising-next first ws (Put node offset contents) rise = AreFilesRising-with ws node _ rise
+rising-next first ws (Cut node size pages) rise = AreFilesRising-with ws node _ rise
 rising-next first ws (Move node parent name) rise = rise
-rising-next first ws (Drop node) rise = IsRising-without ws node rise
+rising-next first ws (Drop node) rise = AreFilesRising-without ws node rise
 
 -- the files that are written look at the first bytes of the change's file alone
 written-at : (first first' : ℕ → List ℕ) (ws : List Written) (c : Change) → (changes_bytes c ≡ true → first (node_of c) ≡ first' (node_of c)) → written_with first ws c ≡ written_with first' ws c
@@ -328,7 +328,7 @@ module _ (h : FilesHeld) (units : ℕ) (counts : Counts) (tied : AreTied h units
         let is = law old new first c old-own next in
         record {
           only = ap (list_all is_of_names) names ∙ only-next old.names c old-own.only;
-          rise = subst IsRising (sym written) (rising-next (starts old fixed) old.written c old-own.rise);
+          rise = subst AreFilesRising (sym written) (rising-next (starts old fixed) old.written c old-own.rise);
           files = ap written_files is.form ∙ written-final (own_of old ++ c ∷ []) (λ file. bytes_after (first file) file (own_of old ++ c ∷ [])) ∙ is.files;
         }
 

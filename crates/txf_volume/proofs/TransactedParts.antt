@@ -1,9 +1,6 @@
 -- What one change of a transaction makes of the parts of the files in memory.
-use Rattle.std.proofs.Common.{zero, suc, ◌≡◌, ℕ, ◌<◌, ◌^◌, if◌then◌else◌, filter, get_or, set, drop, take, length, map, List, [], ◌∷◌, ◌++◌, Option, Some, None, Result, Ok, Err, IfOk, OnOk, OnErr, refl, sym, ◌∙◌, ap, subst, arith, inl, inr}
+use Rattle.std.proofs.Common.{zero, suc, ◌≡◌, ℕ, ◌<◌, ◌^◌, if◌then◌else◌, filter, get_or, set, drop, length, map, List, [], ◌∷◌, ◌++◌, Option, Some, None, Result, Ok, Err, IfOk, OnOk, OnErr, refl, sym, ◌∙◌, ap, subst, arith, inl, inr}
 use Rattle.std.proofs.lemmas.Bool.{cases_Bool, eq-eqb}
-use Rattle.std.proofs.lemmas.List.{get_or-append_right}
-use Rattle.std.proofs.Math.Nat.{sub_self}
-use Rattle.std.proofs.Math.Seq.{set-append_seam, take-append_seam}
 use Rattle.std.proofs.lemmas.Option.{none-some}
 use Rattle.ktm_base.specs.declared.id.Id.{Id}
 use Rattle.ktm_types.specs.declared.change.Change.{Change}
@@ -20,7 +17,7 @@ use Rattle.txf_overlay.specs.Views.{StandsOver, last_seat, seat_at, seats_of}
 use Rattle.txf_reserve.specs.ReserveState.{ReserveState}
 use Rattle.txf_volume.specs.Held.{OwnHeld, overlay_in}
 use Rattle.txf_volume.specs.declared.counts.Counted.{Counted}
-use Rattle.txf_volume.specs.OwnParts.{HoldsChange, IsChanged, IsChangedIn, IsCounted, IsPlace, bare, bare_own, counts_of, or_unchanged, unchanged, with_overlay, written_next}
+use Rattle.txf_volume.specs.OwnParts.{HoldsChange, IsChanged, IsChangedIn, IsCounted, IsPlace, bare, bare_own, counts_of, or_unchanged, owners, unchanged, with_overlay, written_next}
 
 -- ---- a node that is seen
 
@@ -84,26 +81,20 @@ changed-first tree fixed id c os os' o o' r r' none pushed names written is = re
   is = subst (λ (now : Option OverlayState). IsChanged tree fixed id c (or_unchanged now) o' r r') (sym none) (changed-from tree fixed id c o unchanged o' r r' names written is);
 }
 
--- a new last entry, found, and put in another's place
-pub pushed-is : (os ps : List OwnHeld) (i : ℕ) (o p d : OwnHeld) → ps ≡ os ++ o ∷ [] → i ≡ length os → p ≡ get_or ps i d → p ≡ o
-pushed-is os ps i o p d pushed last found = found ∙ (λ j. get_or (pushed j) (last j) d) ∙ get_or-append_right os (o ∷ []) (length os) (length os) d refl (omega arith) ∙ ap (λ k. get_or (o ∷ []) k d) (sub_self (length os))
-
-pub pushed-put : (os ps : List OwnHeld) (i : ℕ) (o p : OwnHeld) → ps ≡ os ++ o ∷ [] → i ≡ length os → set ps i p ≡ os ++ p ∷ []
-pushed-put os ps i o p pushed last = (λ j. set (pushed j) (last j) p) ∙ set-append_seam os o [] p
-
-pub pushed-taken : (os ps : List OwnHeld) (i : ℕ) (o p : OwnHeld) → ps ≡ os ++ o ∷ [] → i ≡ length os → take i (set ps i p) ≡ os
-pushed-taken os ps i o p pushed last = (λ j. take (last j) (pushed-put os ps i o p pushed last j)) ∙ take-append_seam os (p ∷ [])
-
--- where only memory differs
-bare-set : (os : List OwnHeld) (i : ℕ) (o : OwnHeld) (d : OwnHeld) → i < length os → bare_own o ≡ bare_own (get_or os i d) → map bare_own (set os i o) ≡ map bare_own os
-bare-set [] i o d within same = refl
-bare-set (p ∷ ps) zero o d within same = ap (λ q. q ∷ map bare_own ps) same
-bare-set (p ∷ ps) (suc i) o d within same = ap (λ qs. bare_own p ∷ qs) (bare-set ps i o d (omega arith) same)
+-- what is read of each is the same where it is the same of the one that is changed
+map-set : {X : Type 0} (read : OwnHeld → X) (os : List OwnHeld) (i : ℕ) (o : OwnHeld) (d : OwnHeld) → i < length os → read o ≡ read (get_or os i d) → map read (set os i o) ≡ map read os
+map-set read [] i o d within same = refl
+map-set read (p ∷ ps) zero o d within same = ap (λ x. x ∷ map read ps) same
+map-set read (p ∷ ps) (suc i) o d within same = ap (λ xs. read p ∷ xs) (map-set read ps i o d (omega arith) same)
 
 -- where only the memory of one is another
 pub bare-at : (os : List OwnHeld) (i : ℕ) (d : OwnHeld) (id : Id) (o o' : OverlayState) → i < length os → record { transaction = id; overlay = o } ≡ d → d ≡ get_or os i d → bare o' ≡ bare o
     → map bare_own (set os i (record { transaction = id; overlay = o' })) ≡ map bare_own os
-bare-at os i d id o o' within is at same = bare-set os i (record { transaction = id; overlay = o' }) d within ((λ j. record { transaction = id; overlay = same j }) ∙ ap bare_own is ∙ ap bare_own at)
+bare-at os i d id o o' within is at same = map-set bare_own os i (record { transaction = id; overlay = o' }) d within ((λ j. record { transaction = id; overlay = same j }) ∙ ap bare_own is ∙ ap bare_own at)
+
+-- whose entries they are is the same
+pub owners-at : (os : List OwnHeld) (i : ℕ) (d : OwnHeld) (id : Id) (o o' : OverlayState) → i < length os → record { transaction = id; overlay = o } ≡ d → d ≡ get_or os i d → owners (set os i (record { transaction = id; overlay = o' })) ≡ owners os
+owners-at os i d id o o' within is at = map-set (λ (p : OwnHeld). p.transaction) os i (record { transaction = id; overlay = o' }) d within (ap (λ (p : OwnHeld). p.transaction) (is ∙ at))
 
 -- ---- what is counted
 

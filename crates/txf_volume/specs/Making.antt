@@ -8,7 +8,7 @@ use Rattle.ktm_world.specs.Files.{FilesNow, FirstOpen}
 use Rattle.ktm_world.specs.FileUses.{older_versions}
 use Rattle.ktm_world.specs.Tree.{Tree, numbers_rise, units_of}
 use Rattle.txf_overlay.specs.OverlayState.{OverlayState, Written, final_of, is_of_names, own_of}
-use Rattle.txf_overlay.specs.Written.{IsRising, total_units}
+use Rattle.txf_overlay.specs.Written.{AreFilesRising, total_units}
 use Rattle.txf_tree.specs.TreeState.{TreeState, takes, tree_of, versions_of}
 use Rattle.txf_versions.specs.VersionsState.{VersionsState, is_pinned, is_version, older_units}
 use Rattle.txf_versions.specs.declared.opened.Opened.{Opened}
@@ -68,7 +68,7 @@ pub record CanName (p : Parts) (names : List Change) : Type 0 where
 -- the files can have these bytes
 pub record CanReplace (p : Parts) (files : List Written) : Type 0 where
   pub can : CanMake p (flat_map final_of files)
-  pub rise : IsRising files
+  pub rise : AreFilesRising files
   pub few : All (λ w. version_of (versions_of p.tree) w.file < 2 ^ 64 - 2) files
   pub units : p.units + total_units files < 2 ^ 66
 
@@ -76,7 +76,7 @@ pub record CanReplace (p : Parts) (files : List Written) : Type 0 where
 pub record CanTake (p : Parts) (o : OverlayState) : Type 0 where
   pub can : CanMake p (own_of o)
   pub only : list_all is_of_names o.names ≡ true
-  pub rise : IsRising o.written
+  pub rise : AreFilesRising o.written
   pub spare : length o.names ≤ p.tree.spare
   pub few : AreVersionsFew (versions_of p.tree)
   pub units : p.units + total_units o.written < 2 ^ 66

@@ -1,5 +1,5 @@
 -- What one change of a transaction makes of the parts of the files in memory. No public clause cites this module.
-use Rattle.std.specs.Prelude.{◌≡◌, ℕ, ◌+◌, ◌<◌, ◌^◌, true, All, List, [], ◌∷◌, ◌++◌, filter, length, Option, Some, None, if◌then◌else◌, slice_index_or, slice_set, drop, take}
+use Rattle.std.specs.Prelude.{◌≡◌, ℕ, ◌+◌, ◌<◌, ◌^◌, true, All, List, [], ◌∷◌, ◌++◌, filter, length, map, Option, Some, None, if◌then◌else◌, slice_index_or, slice_set, drop, take}
 use Rattle.std.specs.List.{list_any}
 use Rattle.ktm_base.specs.declared.id.Id.{Id}
 use Rattle.ktm_types.specs.declared.change.Change.{Change}
@@ -19,6 +19,10 @@ use Rattle.txf_volume.specs.Ties.{IsOver}
 
 -- ---- the list of what transactions changed
 
+-- whose entries they are
+abbrev pub owners : List OwnHeld → List Id
+owners overlays = map (λ o. o.transaction) overlays
+
 -- a transaction has changed this from now on
 abbrev pub with_overlay : List OwnHeld → Id → OverlayState → List OwnHeld
 with_overlay [] id o = record { transaction = id; overlay = o } ∷ []
@@ -27,6 +31,7 @@ with_overlay (p ∷ ps) id o = if same_id p.transaction id then record p { overl
 -- what a transaction changed is found at this place, and is changed there or taken out
 pub record IsPlace (overlays : List OwnHeld) (id : Id) (i : ℕ) : Type 0 where
   pub within : i < length overlays
+  pub owner : (d : OwnHeld) → (slice_index_or overlays i d).transaction ≡ id
   pub found : (d : OwnHeld) → overlay_in overlays id ≡ Some (slice_index_or overlays i d).overlay
   pub put : (o : OverlayState) (d : OwnHeld) → with_overlay overlays id o ≡ slice_set overlays i (record (slice_index_or overlays i d) { overlay = o })
   pub left : without_own overlays id ≡ take i overlays ++ drop (i + 1) overlays

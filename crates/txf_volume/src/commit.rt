@@ -10,7 +10,6 @@ ghost use Rattle.txf_volume.specs.Held.{files_of};
 
 use crate::change::units_in;
 use crate::files::{Files, end_version, law_of_older};
-use crate::own::take_overlay;
 use ktm_base::{Bytes, Id};
 use ktm_types::Change;
 use txf_laws::law_of_forms;
@@ -113,7 +112,7 @@ impl Files {
         law_of_older(&self.versions);
         self.reserve.release(transaction);
         self.opens.end_group(transaction);
-        let own = take_overlay(&mut self.overlays, &mut self.counts, transaction);
+        let own = self.overlays.take(&mut self.counts, transaction);
         self.units = commit_own(&mut self.tree, &mut self.versions, self.units, own);
     }
 }

@@ -12,7 +12,7 @@ ghost use Rattle.txf_volume.specs.Ties.{IsOver};
 ghost use Rattle.txf_volume.specs.Held.{files_begun, files_of, overlay_in, tree_units, version_bytes, FilesHeld};
 
 use crate::counts::Counts;
-use crate::own::{Own, overlay_of};
+use crate::own::Overlays;
 use ktm_base::{Bytes, Id, NoMemory, read_at};
 use std::alloc::Global;
 use std::marker::Model;
@@ -28,8 +28,7 @@ pub struct Files {
     pub(crate) alloc: Global,
     pub(crate) tree: Tree,
     pub(crate) versions: Versions,
-    // In the order of the transactions' first changes.
-    pub(crate) overlays: Vec<Own>,
+    pub(crate) overlays: Overlays,
     pub(crate) opens: Opens,
     pub(crate) reserve: Reserve,
     pub(crate) next_node: u64,
@@ -49,7 +48,7 @@ impl Model for Files {
     ghost view = { λ f. record {
       tree = f.tree;
       versions = f.versions;
-      overlays = f.overlays.items;
+      overlays = f.overlays;
       opens = f.opens;
       reserve = f.reserve;
       next_node = f.next_node;
@@ -58,7 +57,7 @@ impl Model for Files {
     ghost invariant = { λ f. AreTied (record {
       tree = f.tree;
       versions = f.versions;
-      overlays = f.overlays.items;
+      overlays = f.overlays;
       opens = f.opens;
       reserve = f.reserve;
       next_node = f.next_node;
@@ -177,7 +176,7 @@ impl Files {
             alloc,
             tree,
             versions: Versions::new(alloc),
-            overlays: Vec::new(alloc),
+            overlays: Overlays::new(alloc),
             opens: Opens::new(alloc),
             reserve: Reserve::new(alloc),
             next_node,
@@ -191,7 +190,7 @@ impl Files {
         ensures overlay { option_copied result ≡ overlay_in self.now.overlays transaction }
         ensures over { IfSome result (λ overlay. IsOver (tree_of self.now.tree) overlay.now) }
     {
-        overlay_of(&self.overlays, transaction)
+        self.overlays.of(transaction)
     }
 
     // How many bytes a file has that a transaction sees where it has changed something.

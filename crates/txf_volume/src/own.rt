@@ -1,5 +1,5 @@
 // What each undecided transaction changed.
-ghost use Rattle.std.specs.Prelude.{◌≡◌, MatchOption, None, Some, true};
+ghost use Rattle.std.specs.Prelude.{◌≡◌, [], MatchOption, None, Some, true};
 ghost use Rattle.std.specs.Option.{option_copied};
 ghost use Rattle.txf_volume.specs.Held.{overlay_in, without_own};
 ghost use Rattle.txf_volume.specs.OwnParts.{IsPlace};
@@ -8,6 +8,8 @@ ghost use Rattle.txf_laws.specs.Elements.{each_pair};
 
 use crate::counts::Counts;
 use ktm_base::Id;
+use ktm_places::{Entry, Places};
+use std::alloc::Global;
 use std::marker::Model;
 use txf_overlay::Overlay;
 
@@ -15,6 +17,8 @@ use txf_overlay::Overlay;
 #[derive(Drop)]
 pub(crate) struct Own {
     pub(crate) transaction: Id,
+    // What the places gave it as it came.
+    pub(crate) stamp: u64,
     pub(crate) overlay: Overlay,
 }
 
@@ -26,49 +30,91 @@ impl Model for Own {
     ghost view = { λ o. record { transaction = o.transaction; overlay = o.overlay } };
 }
 
-/// What a transaction changed, if it changed anything.
-pub(crate) fn overlay_of(overlays: &[Own], transaction: Id) -> Option<&Overlay>
-    ensures { option_copied result ≡ overlay_in overlays.now transaction }
-{
-    for own in overlays {
-        if own.transaction == transaction {
-            return Some(&own.overlay);
-        }
+impl Entry for Own {
+    ghost owner = { λ o. o.transaction };
+
+    fn transaction(&self) -> Id {
+        self.transaction
     }
-    None
+
+    fn stamp(&self) -> u64 {
+        self.stamp
+    }
 }
 
-/// Where the entry of a transaction is, if it changed anything.
-pub(crate) fn place_of(overlays: &[Own], transaction: Id) -> Option<usize>
-    requires { each_pair held_by_two overlays.now ≡ true }
-    ensures { MatchOption result (overlay_in overlays.now transaction ≡ None) (IsPlace overlays.now transaction) }
-{
-    for (place, own) in overlays.iter().enumerate() {
-        if own.transaction == transaction {
-            return Some(place);
-        }
-    }
-    None
+/// What each undecided transaction changed, in the order of their first changes.
+#[derive(Drop)]
+pub(crate) struct Overlays {
+    pub(crate) alloc: Global,
+    pub(crate) entries: Vec<Own>,
+    // Where the entry of each transaction is.
+    pub(crate) places: Places,
 }
 
-/// Takes out what a transaction changed, if it changed anything, which counts no more.
-pub(crate) fn take_overlay(
-    overlays: &mut Vec<Own>,
-    counts: &mut Counts,
-    transaction: Id,
-) -> Option<Overlay>
-    requires once { each_pair held_by_two overlays.old.items ≡ true }
-    requires counted { AreCounts overlays.old.items counts.old }
-    ensures overlay { result ≡ overlay_in overlays.old.items transaction }
-    ensures left { overlays.new.items ≡ without_own overlays.old.items transaction }
-    ensures counted { AreCounts overlays.new.items counts.new }
-{
-    match place_of(overlays, transaction) {
-        Some(place) => {
-            let Own { overlay, .. } = overlays.remove(place);
-            *counts = counts.without(Counts::of(&overlay));
-            Some(overlay)
+impl Model for Overlays {
+    ghost use Rattle.std.specs.Prelude.{List};
+    ghost use Rattle.txf_volume.specs.Held.{OwnHeld};
+
+    ghost Value = { List OwnHeld };
+
+    ghost use Rattle.ktm_places.specs.Places.{AreCounted};
+    ghost use Rattle.txf_volume.specs.OwnParts.{owners};
+
+    ghost view = { λ o. o.entries.items };
+
+    ghost invariant = { λ o. AreCounted (owners o.entries.items) o.places };
+}
+
+impl Overlays {
+    /// No transaction has changed anything.
+    pub(crate) fn new(alloc: Global) -> Self
+        ensures { result ≡ [] }
+    {
+        Overlays {
+            alloc,
+            entries: Vec::new(alloc),
+            places: Places::new(),
         }
-        None => None,
+    }
+
+    /// Where the entry of a transaction is, if it changed anything.
+    pub(crate) fn place_of(&self, transaction: Id) -> Option<usize>
+        requires { each_pair held_by_two self.now ≡ true }
+        ensures { MatchOption result (overlay_in self.now transaction ≡ None) (IsPlace self.now transaction) }
+    {
+        self.places.place_of(&self.entries, transaction)
+    }
+
+    /// What a transaction changed, if it changed anything.
+    pub(crate) fn of(&self, transaction: Id) -> Option<&Overlay>
+        requires { each_pair held_by_two self.now ≡ true }
+        ensures { option_copied result ≡ overlay_in self.now transaction }
+    {
+        match self.place_of(transaction) {
+            Some(place) => {
+                let own = &self.entries[place];
+                Some(&own.overlay)
+            }
+            None => None,
+        }
+    }
+
+    /// Takes out what a transaction changed, if it changed anything, which counts no more.
+    pub(crate) fn take(&mut self, counts: &mut Counts, transaction: Id) -> Option<Overlay>
+        requires once { each_pair held_by_two self.old ≡ true }
+        requires counted { AreCounts self.old counts.old }
+        ensures overlay { result ≡ overlay_in self.old transaction }
+        ensures left { self.new ≡ without_own self.old transaction }
+        ensures counted { AreCounts self.new counts.new }
+    {
+        match self.place_of(transaction) {
+            Some(place) => {
+                self.places.remove(transaction);
+                let Own { overlay, .. } = self.entries.remove(place);
+                *counts = counts.without(Counts::of(&overlay));
+                Some(overlay)
+            }
+            None => None,
+        }
     }
 }

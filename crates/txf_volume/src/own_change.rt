@@ -10,17 +10,16 @@ ghost use Rattle.txf_overlay.specs.Written.{total_units, HasBytes};
 ghost use Rattle.txf_reserve.specs.Acts.{listed};
 ghost use Rattle.txf_tree.specs.TreeState.{tree_of};
 ghost use Rattle.txf_volume.specs.Held.{overlay_in};
-ghost use Rattle.txf_volume.specs.OwnParts.{bare, bare_own, counts_of, starts, unchanged, written_next, CanChange, IsChanged, IsChangedIn, IsCounted, IsPlace};
+ghost use Rattle.txf_volume.specs.OwnParts.{bare, bare_own, counts_of, owners, starts, unchanged, written_next, CanChange, IsChanged, IsChangedIn, IsCounted, IsPlace};
 ghost use Rattle.txf_volume.specs.Ties.{held_by_two};
 ghost use Rattle.txf_volume.specs.Transacted.{CanAdd, IsWithin};
 ghost use Rattle.txf_laws.specs.Elements.{each_pair};
 
 use crate::counts::{Counted, Counts};
 use crate::holding::{hold_dropped, hold_file, hold_made, hold_moved};
-use crate::own::{Own, place_of};
+use crate::own::{Overlays, Own};
 use ktm_base::{Id, NoMemory, Text};
 use ktm_types::{Change, Contents, NodeKind};
-use std::alloc::Global;
 use txf_durable::{is_file_seen, place_seen};
 use txf_laws::law_of_forms;
 use txf_opens::Place;
@@ -251,86 +250,90 @@ fn make_room_and_change(
 fn change_at(
     tree: &Tree,
     reserve: &mut Reserve,
-    overlays: &mut Vec<Own>,
+    entries: &mut Vec<Own>,
     place: usize,
     transaction: Id,
     fixed: &[u8],
     change: Change,
 ) -> Result<Counted, NoMemory>
     requires spare { 0 < reserve.old.spare }
-    requires place { IsPlace overlays.old.items transaction place }
-    requires can { CanChange (tree_of tree.now) fixed.now transaction change overlays.old.items }
-    ensures ok { OnOk result (IsChangedIn (tree_of tree.now) fixed.now transaction change overlays.old.items overlays.new.items reserve.old reserve.new) }
-    ensures counted { IfOk result (IsCounted overlays.old.items overlays.new.items transaction) }
-    ensures err { OnErr result (map bare_own overlays.new.items ≡ map bare_own overlays.old.items) }
+    requires place { IsPlace entries.old.items transaction place }
+    requires can { CanChange (tree_of tree.now) fixed.now transaction change entries.old.items }
+    ensures ok { OnOk result (IsChangedIn (tree_of tree.now) fixed.now transaction change entries.old.items entries.new.items reserve.old reserve.new) }
+    ensures counted { IfOk result (IsCounted entries.old.items entries.new.items transaction) }
+    ensures err { OnErr result (map bare_own entries.new.items ≡ map bare_own entries.old.items) }
     ensures same { OnErr result (reserve.new ≡ reserve.old) }
-    ensures enough { CanAdd overlays.old.items transaction change → IsOk result }
+    ensures owners { owners entries.new.items ≡ owners entries.old.items }
+    ensures enough { CanAdd entries.old.items transaction change → IsOk result }
 {
-    let overlay = &mut overlays[place].overlay;
+    let overlay = &mut entries[place].overlay;
     make_room_and_change(tree, reserve, overlay, transaction, fixed, change)
 }
 
-// Makes the first change of a transaction. One that cannot be made leaves nothing behind.
-fn change_first(
-    tree: &Tree,
-    reserve: &mut Reserve,
-    overlays: &mut Vec<Own>,
-    alloc: Global,
-    transaction: Id,
-    fixed: &[u8],
-    change: Change,
-) -> Result<Counted, NoMemory>
-    requires spare { 0 < reserve.old.spare }
-    requires first { overlay_in overlays.old.items transaction ≡ None }
-    requires formed { IsWellFormed (tree_of tree.now) }
-    requires applies { applies (tree_of tree.now) change ≡ true }
-    requires few { total_units (written_next unchanged fixed.now change) < 2 ^ 64 }
-    ensures ok { OnOk result (IsChangedIn (tree_of tree.now) fixed.now transaction change overlays.old.items overlays.new.items reserve.old reserve.new) }
-    ensures counted { IfOk result (IsCounted overlays.old.items overlays.new.items transaction) }
-    ensures err { OnErr result (overlays.new.items ≡ overlays.old.items) }
-    ensures same { OnErr result (reserve.new ≡ reserve.old) }
-{
-    if let Err(_) = overlays.reserve(1) {
-        return Err(NoMemory);
-    }
-    let place = overlays.len();
-    overlays.push_reserved(Own {
-        transaction,
-        overlay: Overlay::new(alloc),
-    });
-    let overlay = &mut overlays[place].overlay;
-    match make_room_and_change(tree, reserve, overlay, transaction, fixed, change) {
-        Ok(counted) => Ok(counted),
-        Err(NoMemory) => {
-            overlays.truncate(place);
-            Err(NoMemory)
+impl Overlays {
+    // Makes the first change of a transaction.
+    fn change_first(
+        &mut self,
+        tree: &Tree,
+        reserve: &mut Reserve,
+        transaction: Id,
+        fixed: &[u8],
+        change: Change,
+    ) -> Result<Counted, NoMemory>
+        requires spare { 0 < reserve.old.spare }
+        requires first { overlay_in self.old transaction ≡ None }
+        requires formed { IsWellFormed (tree_of tree.now) }
+        requires applies { applies (tree_of tree.now) change ≡ true }
+        requires few { total_units (written_next unchanged fixed.now change) < 2 ^ 64 }
+        ensures ok { OnOk result (IsChangedIn (tree_of tree.now) fixed.now transaction change self.old self.new reserve.old reserve.new) }
+        ensures counted { IfOk result (IsCounted self.old self.new transaction) }
+        ensures err { OnErr result (self.new ≡ self.old) }
+        ensures same { OnErr result (reserve.new ≡ reserve.old) }
+    {
+        if let Err(_) = self.entries.reserve(1) {
+            return Err(NoMemory);
+        }
+        let mut overlay = Overlay::new(self.alloc);
+        match make_room_and_change(tree, reserve, &mut overlay, transaction, fixed, change) {
+            Ok(counted) => {
+                self.entries.push_reserved(Own {
+                    transaction,
+                    stamp: self.places.next_stamp(),
+                    overlay,
+                });
+                self.places.add(transaction);
+                Ok(counted)
+            }
+            Err(NoMemory) => Err(NoMemory),
         }
     }
-}
 
-/// Makes a change of a transaction, counts what it has changed before and after it, and holds what the change holds; a
-/// file that it has not written starts from these bytes, if the transaction has not made it.
-pub(crate) fn change_own(
-    tree: &Tree,
-    reserve: &mut Reserve,
-    overlays: &mut Vec<Own>,
-    alloc: Global,
-    transaction: Id,
-    fixed: &[u8],
-    change: Change,
-) -> Result<Counted, NoMemory>
-    requires spare { 0 < reserve.old.spare }
-    requires once { each_pair held_by_two overlays.old.items ≡ true }
-    requires formed { IsWellFormed (tree_of tree.now) }
-    requires can { CanChange (tree_of tree.now) fixed.now transaction change overlays.old.items }
-    ensures ok { OnOk result (IsChangedIn (tree_of tree.now) fixed.now transaction change overlays.old.items overlays.new.items reserve.old reserve.new) }
-    ensures counted { IfOk result (IsCounted overlays.old.items overlays.new.items transaction) }
-    ensures err { OnErr result (map bare_own overlays.new.items ≡ map bare_own overlays.old.items) }
-    ensures same { OnErr result (reserve.new ≡ reserve.old) }
-    ensures enough { CanAdd overlays.old.items transaction change → IsOk result }
-{
-    match place_of(overlays, transaction) {
-        Some(place) => change_at(tree, reserve, overlays, place, transaction, fixed, change),
-        None => change_first(tree, reserve, overlays, alloc, transaction, fixed, change),
+    /// Makes a change of a transaction, counts what it has changed before and after it, and holds what the change holds; a
+    /// file that it has not written starts from these bytes, if the transaction has not made it.
+    pub(crate) fn change(
+        &mut self,
+        tree: &Tree,
+        reserve: &mut Reserve,
+        transaction: Id,
+        fixed: &[u8],
+        change: Change,
+    ) -> Result<Counted, NoMemory>
+        requires spare { 0 < reserve.old.spare }
+        requires once { each_pair held_by_two self.old ≡ true }
+        requires formed { IsWellFormed (tree_of tree.now) }
+        requires can { CanChange (tree_of tree.now) fixed.now transaction change self.old }
+        ensures ok { OnOk result (IsChangedIn (tree_of tree.now) fixed.now transaction change self.old self.new reserve.old reserve.new) }
+        ensures counted { IfOk result (IsCounted self.old self.new transaction) }
+        ensures err { OnErr result (map bare_own self.new ≡ map bare_own self.old) }
+        ensures same { OnErr result (reserve.new ≡ reserve.old) }
+        ensures enough { CanAdd self.old transaction change → IsOk result }
+    {
+        match self.place_of(transaction) {
+            Some(place) => {
+                let entries = &mut self.entries;
+                change_at(tree, reserve, entries, place, transaction, fixed, change)
+            }
+            None => self.change_first(tree, reserve, transaction, fixed, change),
+        }
     }
 }

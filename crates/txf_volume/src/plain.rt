@@ -122,6 +122,8 @@ impl Files {
         ensures ready { IfOk result (λ ready. IsReady self.new plan.now ready) }
         ensures enough { IsReady self.old plan.now None → IsOk result }
         ensures spare { self.old.opens.spare ≤ self.new.opens.spare }
+        ensures tree { self.old.tree.spare ≤ self.new.tree.spare }
+        ensures overlays { self.new.overlays ≡ self.old.overlays }
         ensures versions { self.new.versions ≡ self.old.versions }
         ensures reserve { self.new.reserve ≡ self.old.reserve }
     {

@@ -15,8 +15,6 @@ ghost use Rattle.txf_volume.specs.Transacted.{changed_by, first_opened, opened_b
 ghost use Rattle.txf_volume.specs.Uses.{IsSteady};
 
 use crate::files::{Files, fixed_bytes};
-use crate::own::take_overlay;
-use crate::own_change::change_own;
 use ktm_base::{Id, NoMemory};
 use ktm_types::Change;
 use txf_calls::Plan;
@@ -74,15 +72,10 @@ impl Files {
         law_of_own_forms();
         let next = next_after(self.next_node, &change);
         let fixed = fixed_bytes(&self.tree, &self.versions, transaction, node_of(&change));
-        match change_own(
-            &self.tree,
-            &mut self.reserve,
-            &mut self.overlays,
-            self.alloc,
-            transaction,
-            fixed,
-            change,
-        ) {
+        match self
+            .overlays
+            .change(&self.tree, &mut self.reserve, transaction, fixed, change)
+        {
             Ok(counted) => {
                 self.counts = self.counts.without(counted.before).with(counted.after);
                 self.next_node = next;
@@ -192,7 +185,7 @@ impl Files {
     pub fn forget(&mut self, transaction: Id)
         ensures { files_of self.new ≡ forgotten (files_of self.old) transaction }
     {
-        let _ = take_overlay(&mut self.overlays, &mut self.counts, transaction);
+        let _ = self.overlays.take(&mut self.counts, transaction);
         self.reserve.release(transaction);
         self.versions.release(transaction);
         self.opens.end_group(transaction);

@@ -234,7 +234,7 @@ stays-unbound x process label sound = stays-sound x _ (record {
   quiet = record { took = refl; made = refl };
 })
 
--- so it is where handles are closed, and as time passes
+-- a machine stays sound where handles are closed, and as time passes
 pub stays-closing : Closes IsSoundCourse StaysSound
 stays-closing = record {
   rolls = record {

@@ -43,7 +43,7 @@ list_any-told test told f (e ∷ es) same = λ i. (if_cases (λ x. test x ≡ te
 pub list_any-with : (test told : Enlistment → Bool) (f : Enlistment → Enlistment) → ((e : Enlistment) → test (f e) ≡ test e) → (es : List Enlistment) → list_any test (with_enlistments told f es) ≡ list_any test es
 list_any-with test told f same es = list_any-told test told f es (λ e there is. same e)
 
--- and how many pass
+-- as many enlistments pass, where what is tested stays
 pub filter-with : (test told : Enlistment → Bool) (f : Enlistment → Enlistment) → ((e : Enlistment) → test (f e) ≡ test e) → (es : List Enlistment)
     → length (filter test (with_enlistments told f es)) ≡ length (filter test es)
 filter-with test told f same [] = refl

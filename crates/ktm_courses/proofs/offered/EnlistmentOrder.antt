@@ -117,7 +117,7 @@ same-rising (a ∷ ls) (b ∷ ms) rises rises' to back = λ i. first i ∷ same-
     back-rest x there (inl same) = absurd (before_other b.id x.id (behind' x there) (ap (λ (e : Enlistment). e.id) (sym first ∙ same)))
     back-rest x there (inr there') = there'
 
--- so lists with the same elements, none twice, are the same by rising Id
+-- lists with the same elements, none twice, are the same by rising Id
 pub rising-same : (ls ms : List Enlistment) → each_pair differ_in_id ls ≡ true → each_pair differ_in_id ms ≡ true → ((x : Enlistment) → IsIn x ls → IsIn x ms) → ((x : Enlistment) → IsIn x ms → IsIn x ls)
     → by_rising_id ls ≡ by_rising_id ms
 rising-same ls ms differ differ' to back = same-rising (by_rising_id ls) (by_rising_id ms) (Rises-by_rising_id ls differ) (Rises-by_rising_id ms differ')

@@ -25,7 +25,7 @@ module _ (Asked : Present → Type 0) (P : Present → Outcome → Type 0) where
     pub rolls : (x : Present) (t : Transaction) → Asked x → IsIn t (x.transactions).items → can_roll_back t.phase ≡ true → P x (aborted_by x t None Done)
     pub goes_on : (x : Present) (a : Outcome) (next : Present → Outcome) → P x a → (Asked (apply x a) → P (apply x a) (next (apply x a))) → P x (and_then x a next)
 
-  -- and of a label that is unbound, and of an open file that ends
+  -- it is so of all of that, of a label that is unbound, and of an open file that ends
   pub record Closes : Type 0 where
     pub rolls : Rolls
     pub unbinds : (x : Present) (process : Pid) (label : Label) → Asked x → P x (record (only_reply x Done) { handles = without_handle x.handles process label })

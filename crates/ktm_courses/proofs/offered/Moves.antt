@@ -70,7 +70,7 @@ same-by_id id_of xs rise x y there there' same = elim (each_pair-either (λ x y.
 
 -- ---- enlistments
 
--- the same enlistment, at another step
+-- both are one enlistment, at steps that may differ
 pub record IsSame (e f : Enlistment) : Type 0 where
   pub id : f.id ≡ e.id
   pub manager : f.manager ≡ e.manager

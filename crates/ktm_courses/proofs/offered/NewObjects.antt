@@ -74,7 +74,7 @@ counted-before boot last id is = let parts = counted-parts boot last id is in el
   ]
 ]
 
--- and stay drawn
+-- Ids that were drawn are drawn still once the next one is
 pub counted-more : (boot last : ℕ) (id : Id) → is_counted boot last id ≡ true → is_counted boot (last + 1) id ≡ true
 counted-more boot last id is = let parts = counted-parts boot last id is in
     and_from _ _ (and_from _ _ (and_from _ _ (and_from _ _ parts.0 parts.1) parts.2) parts.3) (elim (or_cases (nat_lt id.boot boot) (nat_le id.number last) parts.4) [

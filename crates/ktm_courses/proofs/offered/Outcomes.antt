@@ -48,7 +48,7 @@ changed-itself (a ∷ ts) u v there same = elim (cases_Bool (same_id a.id u.id))
   ]))
 ]
 
--- and so is every other one
+-- each transaction but the one that is changed is there
 changed-other : (ts : List Transaction) (u v : Transaction) → IsIn v ts → same_id v.id u.id ≡ false → IsIn v (changed_to ts u)
 changed-other [] u v there differs = absurd there
 changed-other (a ∷ ts) u v there differs = elim (cases_Bool (same_id a.id u.id)) [

@@ -186,7 +186,7 @@ module _ (base : Durable) (room : ℕ) (log : List Group) (good : IsGoodState (s
   managers-known : (e : Enlistment) → IsIn e es → is_manager s e.manager ≡ true
   managers-known e there = enlisted-fact (λ (e : Superior). is_manager s e.manager) good.managers_there e there
 
-  -- and its resource manager is durable
+  -- the resource manager of an enlistment that is brought back is durable
   pub durable-back : (e : Enlistment) → IsIn e es → is_durable_at ms e.manager ≡ true
   durable-back e there = (manager-back e.manager (managers-known e there)).1
 
@@ -236,7 +236,7 @@ module _ (base : Durable) (room : ℕ) (log : List Group) (good : IsGoodState (s
       go None is has = absurd (true≢false (sym has))
       go (Some sup) is has = superior-there t there brought sup is
 
-  -- and one that commits an enlistment that has not finished
+  -- a transaction that is brought back with an enlistment that takes part has one that has not finished
   unfinished-back : (t : Recorded) → IsIn t s.transactions → is_brought_back t ≡ true → list_any is_enlistment_part t.parts ≡ true → list_any (is_unfinished t.id) es ≡ true
   unfinished-back t there brought some =
       let one = list_any-at is_enlistment_part t.parts some in

@@ -51,7 +51,7 @@ get_or-contents seen count e unit i is long below low there =
     get_or-take e.size (flat_map (page_of seen) e.pages) (unit * 4096 + i) 0 there
     ∙ get_or-pages seen count e.pages unit i long below (unit-there e unit is (omega (arith, there))) low
 
--- and none behind their end
+-- behind the end of contents there is no byte
 pub contents-end : (seen : List ℕ) (e : ExtentState) (k : ℕ) → e.size ≤ k → get_or (contents seen e) k 0 ≡ 0
 contents-end seen e k past = get_or_past (contents seen e) k 0 (omega (arith, length-take e.size (flat_map (page_of seen) e.pages)))
 

@@ -58,7 +58,7 @@ events-few (event ∷ events) =
 pub frame-counts : (events : List Event) → length events ≤ frame_size events
 frame-counts events = let few = events-few events in omega (arith, few)
 
--- nor has the log that it makes, where it has any
+-- a group has no more events than the log that it makes has bytes, if it makes any
 pub groups-count : (events : List Event) → length events ≤ log_size (as_groups events)
 groups-count [] = omega arith
 groups-count (event ∷ events) =

@@ -1,12 +1,12 @@
 -- Resource managers that are served: sent to twice, sent to never, and found as before.
-use Rattle.std.proofs.Common.{◌≡◌, ◌&&◌, Bool, true, false, List, [], ◌∷◌, ◌++◌, map, Some, None, refl, sym, ◌∙◌, ap, append_assoc}
+use Rattle.std.proofs.Common.{◌≡◌, Bool, List, [], ◌∷◌, ◌++◌, map, None, refl, sym, ◌∙◌, ap, append_assoc}
 use Rattle.std.specs.Prelude.{is_some, filter, Option}
 use Rattle.std.proofs.lemmas.Bool.{cases_Bool}
 use Rattle.std.proofs.lemmas.List.{append-nil, map-append}
 use Rattle.std.proofs.lemmas.List.Elements.{filter-append}
-use Rattle.std.proofs.Common.{◌⊎◌, inl, inr}
+use Rattle.std.proofs.Common.{inl, inr}
 use Rattle.ktm_base.specs.declared.id.Id.{Id}
-use Rattle.ktm_world.specs.Enlistments.{Manager, Note, Sent, is_durable_at, manager_at, notes_for}
+use Rattle.ktm_world.specs.Enlistments.{Manager, Note, Sent, manager_at, notes_for}
 use Rattle.ktm_world.specs.Outcome.{served}
 use Rattle.ktm_world.specs.Transactions.{same_id}
 
@@ -33,8 +33,3 @@ there_served took sent (m ∷ ms) id = elim (cases_Bool (same_id m.id id)) [
   | inl same ↦ rw same refl
   | inr other ↦ rw other (there_served took sent ms id)
 ]
-
--- and is as durable
-pub durable_served : (took : Option Id) (sent : List Sent) (ms : List Manager) (id : Id) → is_durable_at (map (served took sent) ms) id ≡ is_durable_at ms id
-durable_served took sent [] id = refl
-durable_served took sent (m ∷ ms) id = rw (durable_served took sent ms id) refl

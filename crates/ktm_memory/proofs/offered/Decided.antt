@@ -8,28 +8,28 @@ use Rattle.ktm_world.specs.Outcome.{Outcome, apply, is_full, only_reply}
 use Rattle.ktm_memory.specs.declared.settlement.Settlement.{Settlement}
 use Rattle.ktm_memory.specs.declared.settlement.Settlement.TheVariants.{Nothing}
 use Rattle.ktm_memory.specs.Decided.{Decides}
-use Rattle.ktm_memory.specs.Memory.{Held, MaySettle, MemoryState, held, now_of, present_of}
+use Rattle.ktm_memory.specs.Memory.{LayersNow, MaySettle, MemoryState, held, now_of, present_of}
 use Rattle.ktm_memory.specs.Settled.{left_to_do}
 
 -- what is left to do comes to what the outcome comes to
-pub decided : (h : Held) (n : MemoryState) (o : Outcome) (reply : Reply) (then : Settlement) (events : EventsState) → reply ≡ o.reply → Holds events o.events → is_full (now_of h).machine.left o.events ≡ false
+pub decided : (h : LayersNow) (n : MemoryState) (o : Outcome) (reply : Reply) (then : Settlement) (events : EventsState) → reply ≡ o.reply → Holds events o.events → is_full (now_of h).machine.left o.events ≡ false
     → held n ≡ h → (left_to_do (now_of h) then).events ≡ o.events → (left_to_do (now_of h) then).sent ≡ o.sent → apply (now_of h) (left_to_do (now_of h) then) ≡ apply (now_of h) o → MaySettle n then
     → (o.events ≢ [] → (refusal : Refusal) → reply ≢ Refused refusal) → Decides h o reply then events n
 decided h n o reply then events says holds room same group tells comes may answers = record {
   says = says;
   records = holds;
   room = room;
-  journal = ap (λ (g : Held). g.journal) same;
-  group = ap (λ (g : Held). (left_to_do (now_of g) then).events) same ∙ group;
-  tells = ap (λ (g : Held). (left_to_do (now_of g) then).sent) same ∙ tells;
-  comes_to = ap (λ (g : Held). apply (now_of g) (left_to_do (now_of g) then)) same ∙ comes;
+  journal = ap (λ (g : LayersNow). g.journal) same;
+  group = ap (λ (g : LayersNow). (left_to_do (now_of g) then).events) same ∙ group;
+  tells = ap (λ (g : LayersNow). (left_to_do (now_of g) then).sent) same ∙ tells;
+  comes_to = ap (λ (g : LayersNow). apply (now_of g) (left_to_do (now_of g) then)) same ∙ comes;
   may = may;
   waits = λ some. same;
   answers = answers;
 }
 
--- the same of what records nothing
-pub quiet_decided : (h : Held) (n : MemoryState) (o : Outcome) (reply : Reply) (then : Settlement) (events : EventsState) → reply ≡ o.reply → o.events ≡ [] → held n ≡ h
+-- where nothing is recorded, what is left to do comes to what the outcome comes to
+pub quiet_decided : (h : LayersNow) (n : MemoryState) (o : Outcome) (reply : Reply) (then : Settlement) (events : EventsState) → reply ≡ o.reply → o.events ≡ [] → held n ≡ h
     → (left_to_do (now_of h) then).events ≡ o.events → (left_to_do (now_of h) then).sent ≡ o.sent → apply (now_of h) (left_to_do (now_of h) then) ≡ apply (now_of h) o → MaySettle n then → Holds events [] → Decides h o reply then events n
 quiet_decided h n o reply then events says none same group tells comes may holds =
     decided h n o reply then events says (subst (Holds events) (sym none) holds) (ap (is_full (now_of h).machine.left) none) same group tells comes may (λ some. absurd (some none))

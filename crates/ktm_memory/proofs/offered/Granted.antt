@@ -172,7 +172,7 @@ none_counted (s ∷ ss) all =
     not_of Notify.LastRecover plain = absurd (cc)
     not_of _ plain = refl
 
--- so nothing is granted for it
+-- nothing is granted for an outcome that makes no enlistment and sends nothing of a recovery
 pub grants_none : (x : Present) (o : Outcome) → GrantsNone x o → granted_in x o ≡ 0
 grants_none x o none = let made = none.made in let sent = none_counted o.sent none.sent in omega (arith, made, sent)
 
@@ -255,12 +255,12 @@ unfolding set_information
 inform_none x None information = record { made = refl; sent = refl }
 inform_none x (Some e) information = record { made = length-map x.transactions.enlistments _; sent = refl }
 
--- and that is told
+-- recovery information that is told
 pub told_none : (x : Present) (e : Option Enlistment) → GrantsNone x (get_information x e)
 unfolding get_information
 told_none x e = record { made = refl; sent = refl }
 
--- and on files
+-- a call on files
 pub files_none : (x : Present) (process : Pid) (who : Option Id) (label : Option Label) (o : FileOutcome) → GrantsNone x (files_outcome x process who label o)
 files_none x process who None o = record { made = refl; sent = refl }
 files_none x process who (Some l) o = go o.opened

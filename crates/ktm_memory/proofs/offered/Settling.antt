@@ -57,6 +57,6 @@ settles_with m j (Take manager) may = may
 settles_with m j (Enlist process label manager transaction kind) may = may
 settles_with m j (Inform enlistment information) may = may
 
--- and there is room for what it tells
+-- there is room for what an outcome tells, whatever the journal is
 pub tells_with : (m : MemoryState) (j : JournalState) (outcome : Present → Outcome) → TellsWithin m outcome → TellsWithin (record m { journal = j }) outcome
 tells_with m j outcome tells = λ x shows. tells x (shows_with m j x shows)

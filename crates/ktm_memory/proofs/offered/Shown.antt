@@ -12,7 +12,7 @@ use Rattle.ktm_world.specs.Outcome.{Outcome, apply}
 use Rattle.ktm_world.specs.Present.{Present}
 use Rattle.txf_volume.specs.Held.{files_of}
 use Rattle.ktm_memory.specs.Decided.{Decides}
-use Rattle.ktm_memory.specs.Memory.{Held, MemoryState, SettlesGood, Shows, durable_ids, now_of, present_of}
+use Rattle.ktm_memory.specs.Memory.{LayersNow, MemoryState, SettlesGood, Shows, durable_ids, now_of, present_of}
 use Rattle.ktm_memory.specs.Settled.{left_to_do}
 use Rattle.ktm_memory.specs.declared.settlement.Settlement.{Settlement}
 
@@ -72,7 +72,7 @@ some_event : (event : Event) (events : List Event) → event ∷ events ≢ []
 some_event event events is = absurd (cc)
 
 -- what was recorded is good in memory, too, where a command was decided
-decided-good : (old : Held) (o : Outcome) (reply : Reply) (rest : Settlement) (events : EventsState) (m : MemoryState) → Decides old o reply rest events m → IsGoodState (now_of old).recorded
+decided-good : (old : LayersNow) (o : Outcome) (reply : Reply) (rest : Settlement) (events : EventsState) (m : MemoryState) → Decides old o reply rest events m → IsGoodState (now_of old).recorded
     → IsGoodState (present_of m).recorded
 decided-good old o reply rest events m decides good = by-events o.events refl
   where
@@ -85,10 +85,10 @@ decided-good old o reply rest events m decides good = by-events o.events refl
         subst IsGoodState (sym same) good
     by-events (event ∷ group) some =
         let waits = decides.waits (λ is. some_event event group (sym some ∙ is)) in
-        subst (λ (h : Held). IsGoodState (now_of h).recorded) (sym waits) good
+        subst (λ (h : LayersNow). IsGoodState (now_of h).recorded) (sym waits) good
 
 -- once it is done in memory, whose journal counts it, that is what the outcome makes of what was so
-pub settled-is : ContentsLaw → KeptLaw → (old : Held) (o : Outcome) (reply : Reply) (rest : Settlement) (events : EventsState) (m : MemoryState) (j : JournalState) (new : MemoryState)
+pub settled-is : ContentsLaw → KeptLaw → (old : LayersNow) (o : Outcome) (reply : Reply) (rest : Settlement) (events : EventsState) (m : MemoryState) (j : JournalState) (new : MemoryState)
     → Decides old o reply rest events m → IsGoodState (now_of old).recorded → SettlesGood (record m { journal = j }) (λ x. left_to_do x rest) new
     → Counts new.journal (apply (now_of old) o) → IsKept (apply (now_of old) o) → present_of new ≡ apply (now_of old) o
 settled-is contents kept old o reply rest events m j new decides good settles counts is_kept =

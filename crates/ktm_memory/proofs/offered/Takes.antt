@@ -40,13 +40,13 @@ module _ (x : Present) (who : Option Id) (call : FileCall) (none : files_take_me
     takes_none : plan_takes_memory x who o ≡ false
     takes_none = ap (plan_takes_memory x who) planned ∙ (neither (decision_takes_memory call) (plan_takes_memory x who (file_outcome x.files (file_room x) who call)) none).1
 
-    -- one in a transaction only answers
+    -- a call in a transaction only answers
     pub own_quiet : (id : Id) → who ≡ Some id → ⊥
     own_quiet id is =
         let takes : plan_takes_memory x (Some id) o ≡ true = ap (λ quiet. not quiet && true) changes in
         let both = sym takes ∙ ap (λ w. plan_takes_memory x w o) (sym is) ∙ takes_none in absurd (cc)
 
-    -- and for a plain one the log has no room
+    -- for a plain call the log has no room
     pub plain_full : who ≡ None → is_full x.machine.left (events_of None o.change) ≡ true
     plain_full is =
         let full : Bool = is_full x.machine.left (events_of None o.change) in

@@ -130,7 +130,7 @@ arrived-keeps x t changes c reply is sound = released-sound (is_undecided c.tran
       transactions = record x.transactions { items = change_at x.transactions.items c.transaction.id (λ t. c.transaction); enlistments = c.enlistments };
     }
 
-    -- the same, released
+    -- the outcome, with what the transaction had of its own released
     gone : Outcome
     gone = record bare {
       forgotten = c.transaction.id ∷ [];

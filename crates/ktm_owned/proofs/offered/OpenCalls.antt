@@ -117,7 +117,7 @@ untouched x n none v = or_from _ _ (not-held x None n none v.id refl)
     (opened-node x v.id n (λ o there of at. true≢false (sym (and_from _ _ (some-of v.id o.transaction of) (list_any-from (λ m. m == o.node) (n ∷ []) n (inl refl) (eq-eqb _ _ (sym at))))
     ∙ no_test (λ o. is_some o.transaction && is_in (n ∷ []) o.node) o x.files.table.opens (clear-from x.files None (opens n true) none).opened there)))
 
--- nor on the next number
+-- no undecided transaction is on the next number
 untouched-next : (x : Present) → IsSoundFiles x → (v : Transaction) → is_touched_by x x.files.table.next_node v ≡ false
 untouched-next x sound v = or_from _ _ (none-from (λ m. m == x.files.table.next_node) (holds_now x.files v.id).nodes (λ m held. false_from_ne_true _ (λ same. below-next x m (held-drawn x sound v.id m held) (eqb-true _ _ same))))
     (opened-node x v.id x.files.table.next_node (λ o there of at. below-next x o.node (drawn-node x sound v.id o.node (used-in x sound o there v.id (transaction-of v.id o of)).made) at))

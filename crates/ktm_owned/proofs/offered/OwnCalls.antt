@@ -118,7 +118,7 @@ module _ (formed : FormedLaw) (x : Present) (sound : IsSoundFiles x) (id : Id) (
   directory-plain : (n : ℕ) → is_directory seen n ≡ true → (o : OpenFile) → IsIn o x.files.table.opens → is_none o.transaction ≡ true → writes o.access ≡ true → n ≡ o.node → ⊥
   directory-plain n dir o there plain may at = directory-no-file formed x sound id n dir (subst (λ m. is_file x.files.tree m ≡ true) (sym at) ((spares-none x (λ t. true) sound).plain o there plain may))
 
-  -- nor has it opened it first, or open
+  -- the transaction has neither first opened nor open what it sees as a directory
   directory-first : (n : ℕ) → is_directory seen n ≡ true → (o : FirstOpen) → IsIn o x.files.first_opens → o.transaction ≡ id → n ≡ o.file → ⊥
   directory-first n dir o there of at = true≢false (sym dir ∙ not-true _ (subst (λ m. is_no_directory x.files m id ≡ true) (sym at) (subst (λ i. is_no_directory x.files o.file i ≡ true) of
       (list_all-at (λ (o : FirstOpen). is_no_directory x.files o.file o.transaction) x.files.first_opens sound.first_files o there))))

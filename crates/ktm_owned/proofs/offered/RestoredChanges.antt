@@ -177,7 +177,7 @@ restored tree cs before all some recorded =
     let form = final-form cs spelled recorded in
     to_commit-same cs (λ file. bytes_after (before file) file cs) form.0 (λ n there. ap (bytes_after (before n) n) (sym form.1) ∙ (is-final cs form.0).gives (before n) n there) ∙ form.1
 
--- ---- and back
+-- ---- changes to commit are recorded changes
 
 ends-rise : (by : ℕ → List ℕ) (files : List ℕ) (least : ℕ) → RisingNumbers files → ((n : ℕ) → IsIn n files → least ≤ n) → are_final_bytes least None (ends_of by files) ≡ true
 ends-rise by [] least rises from = refl

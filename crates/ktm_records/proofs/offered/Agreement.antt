@@ -50,7 +50,7 @@ filter-step test step (x ∷ xs) each = elim (each x (inl refl)) [
   | inr same ↦ λ i. if test (same i) then same i ∷ filter-step test step xs (λ y there. each y (inr there)) i else filter-step test step xs (λ y there. each y (inr there)) i
 ]
 
--- and so is the first that passes
+-- the first that passes is as it was, where each that a step changes passes neither before nor behind it
 pub find-step : {X : Type 0} (test : X → Bool) (step : X → X) (xs : List X) → ((x : X) → IsIn x xs → ((test (step x) ≡ false) × (test x ≡ false)) ⊎ (step x ≡ x)) → find test (map step xs) ≡ find test xs
 find-step test step [] each = refl
 find-step test step (x ∷ xs) each = elim (each x (inl refl)) [
@@ -87,7 +87,7 @@ durable-stays x o id none = durable-served o.took o.sent (x.managers ++ o.made) 
 
 -- ---- what the log has to have of a transaction
 
--- the same, if it has it at all
+-- what the log has to have of a transaction, if it has it at all
 abbrev pub summaries : Present → Transaction → List Summary
 summaries x t = if t.is_recorded then summary_in x t (stage_in t.phase) else []
 
@@ -183,7 +183,7 @@ as-owned x o t none same changes settings = record {
   settings = settings;
 }
 
--- so it is by a reply, and by what changes handles alone
+-- a machine agrees still after a reply, and after what changes handles alone
 pub agreed-reply : (x : Present) (o : Outcome) → Agreed x → o.events ≡ [] → o.works ≡ [] → o.made ≡ [] → o.transactions.items ≡ x.transactions.items → o.transactions.enlistments ≡ x.transactions.enlistments → o.table ≡ x.files.table
     → o.own ≡ x.keys.own → Agreed (apply x o)
 agreed-reply x o agrees no_events no_works none items enlistments table own =

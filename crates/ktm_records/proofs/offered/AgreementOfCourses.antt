@@ -115,11 +115,11 @@ begun x t caller = elim (cases_Bool t.is_recorded) [ inl recorded ↦ rw recorde
     go None = refl
     go (Some stage) = refl
 
--- nothing, in a phase that the log knows nothing of
+-- in a phase that the log knows nothing of it has to have nothing of a transaction
 pub none-in : (d : Course) → stage_in d.transaction.phase ≡ None → course_summaries d ≡ []
 none-in d stage = elim (cases_Bool d.transaction.is_recorded) [ inl recorded ↦ rw recorded (ap (course_in d) stage) | inr other ↦ rw other refl ]
 
--- and nothing of one that it does not have
+-- the log has to have nothing of a transaction that it does not have
 pub none-unrecorded : (d : Course) → d.transaction.is_recorded ≡ false → course_summaries d ≡ []
 none-unrecorded d other = rw other refl
 
@@ -130,7 +130,7 @@ pub record Follows (x : Present) (id : Id) (before behind : List Recorded) (d : 
   pub summaries : map summary_of (if_there o) ≡ course_summaries d
   pub carried : (r : Recorded) → IsIn r (if_there o) → is_carried_out r ≡ true
 
--- the same where its events and works are known
+-- what follows from known events and works follows of the course that has them
 pub follows-from : (x : Present) (id : Id) (before behind : List Recorded) (d : Course) (o : Option Recorded) (es : List Event) (ws : List Work) → d.events ≡ es → d.works ≡ ws
     → Tracks x id before behind o (after_events x.recorded es) (committed_with (committed_now x) ws) → map summary_of (if_there o) ≡ course_summaries d → ((r : Recorded) → IsIn r (if_there o) → is_carried_out r ≡ true)
     → Follows x id before behind d
@@ -244,7 +244,7 @@ module _ (x : Present) (sound : IsSoundCourse x) (agreed : Agreed x) (t : Transa
   carried-there : (r : Recorded) → IsIn r (had.before ++ (if_there had.o ++ had.behind)) → is_carried_out r ≡ true
   carried-there r in_all = list_all-at is_carried_out x.recorded.transactions agreed.carried r (subst (IsIn r) (sym ((had.tracks).place).all) in_all)
 
-  -- and so was itself
+  -- what the log has of the transaction itself was carried out
   pub carried-itself : (r : Recorded) → IsIn r (if_there had.o) → is_carried_out r ≡ true
   carried-itself r is = list_all-at is_carried_out x.recorded.transactions agreed.carried r (was-in x t at had r is)
 
@@ -290,7 +290,7 @@ module _ (x : Present) (sound : IsSoundCourse x) (agreed : Agreed x) (t : Transa
       held-undecided Phase.Ended is' stage stands held = absurd (none-some _ stands)
       held-undecided _ is' stage stands held = is'
 
-      -- and of itself the log has to have what it has of its course
+      -- the log has to have of the transaction itself what it has to have of its course
       itself : summaries y d.transaction ≡ course_summaries d
       itself = elim (cases_Bool d.transaction.is_recorded) [ inl recorded ↦ rw recorded (go (stage_in d.transaction.phase) refl) | inr other ↦ rw other refl ]
         where

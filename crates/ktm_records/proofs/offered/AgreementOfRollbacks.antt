@@ -66,7 +66,7 @@ undoes-led c none = ap (list_all is_undo) ((rollback-undone c).events ∙ ap (λ
 pub undoes-aborted : (x : Present) (t : Transaction) (caller : Option Enlistment) (reply : Reply) → list_all is_undo (aborted_by x t caller reply).events ≡ true
 undoes-aborted x t caller reply = ap (list_all is_undo) (arrival x (led PhaseInput.Rollback (course_of x t caller)) reply).events ∙ undoes-led (course_of x t caller) refl
 
--- also where handles are closed, and as time passes
+-- rollbacks alone are recorded where handles are closed, and as time passes
 pub undoes-closing : Closes (λ x. ⊤) (λ x o. list_all is_undo o.events ≡ true)
 undoes-closing = record {
   rolls = record {

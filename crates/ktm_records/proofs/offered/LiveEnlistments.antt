@@ -47,7 +47,7 @@ fade-with test f es each = record { step = stepped test f; is = refl; declines =
 abbrev pub Fades : Course → Course → Type 0
 Fades c d = Fade c.enlistments d.enlistments
 
--- so it is by each row
+-- by each row no enlistment is live again
 pub fades-led : (input : PhaseInput) (c : Course) → Fades c (led input c)
 unfolding led
 fades-led input c =
@@ -121,7 +121,7 @@ live-stays (s ∷ ss) t u found live = elim (cases_Bool (same_id s.id u.id)) [
   | inr other ↦ rw other (let rest = live-stays ss t u (rw other at found) live in let new = count-cons is_live s (change_at ss u.id (λ r. u)) in let old = count-cons is_live s ss in omega arith)
 ]
 
--- and no more enlistments are
+-- no more enlistments are live, where the transaction that is changed was
 pub enlisted-stays : (ts : List Transaction) (t u : Transaction) (es fs : List Enlistment) → transaction_at ts u.id ≡ Some t → is_live t ≡ true → Fade es fs
     → count_by (is_live_enlistment (change_at ts u.id (λ s. u))) fs ≤ count_by (is_live_enlistment ts) es
 enlisted-stays ts t u es fs found live fade = subst (λ gs. count_by (is_live_enlistment (change_at ts u.id (λ s. u))) gs ≤ count_by (is_live_enlistment ts) es) (sym fade.is)

@@ -48,12 +48,12 @@ lands-none x change is = absurd (none-some change is)
 pub lands-one : (x : Present) (change : Change) → Lands x change → MayLand x (Some change)
 lands-one x change lands other is = subst (Lands x) (same_Some change other is) lands
 
--- so it is of a plain call that only answers, or commits one change
+-- a plain call that only answers, or commits one change, may commit what it changes
 pub may-land : (x : Present) (o : FileOutcome) → IsPlain x o → MayLand x o.change
 may-land x o (inl answers) change is = absurd (none-some change (sym (ap (λ (p : FileOutcome). p.change) answers) ∙ is))
 may-land x o (inr (change, changes, lands)) other is = subst (Lands x) (same_Some change other (sym (ap (λ (p : FileOutcome). p.change) changes) ∙ is)) lands
 
--- so what it records applies
+-- what a call on files records applies
 pub facts-of_files : (x : Present) (who : Option Id) (o : FileOutcome) → IsSoundFiles x → Agrees x → (who ≡ None → MayLand x o.change) → facts_apply x.recorded (of_files x who o).events ≡ true
 facts-of_files x (Some id) o sound agrees lands = refl
 facts-of_files x None o sound agrees lands = go o.change (lands refl)

@@ -28,7 +28,7 @@ pub early-voting : (phase : Phase) → is_early phase ≡ true → is_voting pha
 early-voting Preparing early = absurd (true≢false (sym early))
 early-voting _ early = early
 
--- then nothing at all is recorded
+-- where enlistments vote, and were not asked to prepare, nothing at all is recorded
 pub early-unrecorded : (phase : Phase) (ms : List Manager) (es : List Enlistment) (id : Id) (r : Bool) → is_early phase ≡ true → is_recorded_as phase ms es id r ≡ true → r ≡ false
 early-unrecorded Active ms es id r early right = not-true r right
 early-unrecorded Requested ms es id r early right = not-true r right
@@ -37,7 +37,7 @@ early-unrecorded PrePrepared ms es id r early right = not-true r right
 early-unrecorded SinglePhase ms es id r early right = not-true r right
 early-unrecorded _ ms es id r early right = absurd (true≢false (sym early))
 
--- so it is where a superior may ask that its transaction prepares, or pre-prepares
+-- enlistments were not asked to prepare where a superior may ask that its transaction prepares, or pre-prepares
 pub early-prepare : (phase : Phase) → before_prepare phase ≡ true → is_early phase ≡ true
 early-prepare Active is = refl
 early-prepare Requested is = refl

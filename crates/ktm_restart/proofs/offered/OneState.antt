@@ -22,7 +22,7 @@ new_log units image bytes is = record { is = is; applies = refl }
 pub one_held : (u v i j : ℕ) (log more : List Group) (bytes : List ℕ) → HoldsLog u i log bytes → HoldsLog v j more bytes → (u ≡ v) × (i ≡ j) × (log ≡ more)
 one_held u v i j log more bytes left right = one_image u v i j log more bytes left.is right.is
 
--- and stand for one state
+-- bytes stand for one state at most
 pub one_state : (a b : Durable) (bytes : List ℕ) → StandsFor a bytes → StandsFor b bytes → a ≡ b
 one_state a b bytes left right =
     let (units, image, log) = one_held a.units b.units a.image b.image left.log right.log bytes left.holds right.holds in
@@ -74,7 +74,7 @@ module _ (units image : ℕ) (log : List Group) (bytes : List ℕ) (bad : IsBadF
         | inr (p, other, is_bad) ↦ absurd (cc (here, is_bad split.events (subst (λ (x : List ℕ). IsGroupOf split.events x) (one_frame r p at frame other) split.group)))
       ]
 
-  -- and its gate is open
+  -- the gate of the bad frame is not closed
   no_end : IsClosed (drop (end_of bad.payloads) (area_bytes (log_area units) bytes)) → ⊥
   no_end closed = elim bad.bad [ inl torn ↦ closed.closed torn.open_gate | inr (p, frame, is_bad) ↦ closed.closed frame.open_gate ]
 

@@ -117,7 +117,7 @@ unfolding rollback_transaction
 done_rollback x None = record { goes_on = refl; says = refl }
 done_rollback x (Some t) = done_aborted x t
 
--- so does what closing a handle and the passing of time come to
+-- what closing a handle and the passing of time come to is done
 closing : Closes (λ x. Unit {0}) (λ x o. IsDone o)
 closing = record {
   rolls = record {
@@ -302,7 +302,7 @@ unfolding is_of_down
 conflict_up files who None = refl
 conflict_up files who (Some act) = refl
 
--- nor do the tests of calls on files
+-- the tests of calls on files say nothing of the machine
 create_file_up : (files : FilesNow) (room : FileRoom) (who : Option Id) (path : List ℕ) (access : Access) (share : ShareMode) (disposition : Disposition)
     → none_of_down (create_file_tests files room who path access share disposition) ≡ true
 unfolding is_of_down none_of_down create_file_tests
@@ -324,7 +324,7 @@ move_file_up : (files : FilesNow) (room : FileRoom) (who : Option Id) (source ta
 unfolding is_of_down none_of_down move_file_tests
 move_file_up files room who source target = and_from _ _ (conflict_up files who (move_act (find_path (tree_seen files who) source) (find_path (tree_seen files who) target))) refl
 
--- nor do those of calls on open files
+-- the tests of calls on open files say nothing of the machine
 on_file_up : (o : Option OpenFile) (tests : OpenFile → List (Bool × Refusal)) → ((p : OpenFile) → none_of_down (tests p) ≡ true) → none_of_down (own_tests o tests) ≡ true
 unfolding none_of_down
 on_file_up None tests up = refl

@@ -27,9 +27,8 @@ use Rattle.ktm_courses.specs.SoundCourse.{IsSoundCourse, is_recorded_as, is_reco
 use Rattle.ktm_courses.proofs.offered.HandlesAndTime.{Closes, close_handle-so}
 use Rattle.ktm_records.proofs.offered.AgreementOfCourses.{arrival}
 use Rattle.ktm_records.proofs.offered.AgreementOfRollbacks.{rollback-undone}
-use Rattle.ktm_standing.specs.Courses.{aside}
 use Rattle.ktm_standing.specs.Effects.{IsLater}
-use Rattle.ktm_standing.proofs.offered.Applied.{apply-kept, apply-then, later-joined, later-reply}
+use Rattle.ktm_standing.proofs.offered.Applied.{apply-kept, later-joined, later-reply}
 use Rattle.ktm_standing.proofs.offered.Found.{change_at-passes, found-passes}
 use Rattle.ktm_standing.proofs.offered.Timeouts.{later-rollback}
 
@@ -79,21 +78,6 @@ later-closed x process [] = later-reply x Done
 later-closed x process (label ∷ labels) = later-joined (close_handle x process label) _ (later-close x process label) (later-closed (apply x (close_handle x process label)) process labels)
 
 -- ---- what it leaves
-
--- the label is unbound, and then what depended on the handle has ended
-pub close_leaves : (x : Present) (process : Pid) (label : Label)
-    → (let y = record x { handles = without_handle x.handles process label } in aside (apply x (close_handle x process label)) ≡ aside (apply y (handle_gone (object_at x.handles process label) y)))
-unfolding close_handle
-close_leaves x process label =
-    let named = object_at x.handles process label in
-    apply-then x (unbinding x process label) (handle_gone named) refl (later-gone (apply x (unbinding x process label)) named)
-    ∙ ap (λ (y : Present). aside (apply y (handle_gone named y))) (apply-unbinding x process label)
-
--- one handle is closed, and then the others
-pub closed_leaves : (x : Present) (process : Pid) (label : Label) (labels : List Label)
-    → (let y = apply x (close_handle x process label) in aside (apply x (closed_in_turn x process (label ∷ labels))) ≡ aside (apply y (closed_in_turn y process labels)))
-closed_leaves x process label labels =
-    apply-then x (close_handle x process label) (λ next. closed_in_turn next process labels) (later-close x process label).opens (later-closed (apply x (close_handle x process label)) process labels)
 
 -- ---- it records nothing
 

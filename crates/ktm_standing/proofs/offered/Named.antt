@@ -61,7 +61,7 @@ managers_found ms (e ∷ es) all =
     let parts = and_parts (has_manager ms e.manager) (list_all (λ (e : Enlistment). has_manager ms e.manager) es) all in
     and_from _ _ (manager_found ms e.manager parts.0) (managers_found ms es parts.1)
 
--- so it is of one that is found
+-- a test that all enlistments pass is passed by the one that a label names
 of_named : (x : Present) (process : Pid) (label : Label) (e : Enlistment) (test : Enlistment → Bool) → list_all test x.transactions.enlistments ≡ true → enlistment_named x process label ≡ Some e → test e ≡ true
 of_named x process label e test all named =
     list_all-at test x.transactions.enlistments all e (find-found (λ (f : Enlistment). same_id f.id e.id) x.transactions.enlistments e (enlistment_again x process label e named)).0

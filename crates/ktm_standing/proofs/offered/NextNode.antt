@@ -70,11 +70,11 @@ raised n _ = n
 
 -- ---- what waits makes nodes below the next number
 
--- so do these parts
+-- these parts make nodes below a number
 abbrev BelowIn : ℕ → List RecordedPart → Type 0
 BelowIn n ps = (p : RecordedPart) → IsIn p ps → list_all (is_made_below n) (changes_in p.part) ≡ true
 
--- and those of each transaction
+-- the parts of each of these transactions make nodes below a number
 abbrev Below : ℕ → List Recorded → Type 0
 Below n ts = (t : Recorded) → IsIn t ts → BelowIn n t.parts
 
@@ -238,7 +238,7 @@ fact-raised Fact.Done b n = caller-still b.caller b.managers (λ e. Done b.id (D
 fact-raised Fact.SingleFiles b n = refl
 fact-raised Fact.SingleKeys b n = refl
 
--- so do those that steps record
+-- the events that steps record raise the next number as the changes do, where a step records these, and else leave it
 steps-raised : (steps : List Step) (b : Basis) (n : ℕ) → fold raised n (events_ahead steps b) ≡ given b.changes (records_files steps) n
 steps-raised [] b n = refl
 steps-raised (Step.Record fact ∷ steps) b n =

@@ -85,7 +85,7 @@ known-run [] c all known = known
 known-run (step ∷ steps) c all known =
     let parts = and_parts (decides_known step) (list_all decides_known steps) all in known-run steps (carried step c) parts.1 (known-step step c parts.0 known)
 
--- and is known once it is decided
+-- the outcome of a course is known once a step decides it
 known-once : (step : Step) (c : Course) → decides_known step ≡ true → decides step ≡ true → Known (carried step c)
 known-once (Step.Decide outcome) c is decided = known-outcome outcome c.transaction is
 known-once (Step.End outcome) c is decided = known-ended c outcome is

@@ -92,7 +92,7 @@ in_others s id u there waiting other =
 pub recorded_changes_apply-all : (s : Durable) (who : Option Id) (cs : List Change) → recorded_changes_apply s who cs ≡ true → changes_apply s.tree cs ≡ true
 recorded_changes_apply-all s who cs apply = (and_parts (list_all _ (others_waiting s who)) (changes_apply s.tree cs) (and_parts _ (list_all (is_new_in s.tree) cs) apply).0).1
 
--- and the nodes that they make are new
+-- the nodes that changes which apply make are new
 pub recorded_changes_apply-new : (s : Durable) (who : Option Id) (cs : List Change) → recorded_changes_apply s who cs ≡ true → list_all (is_new_in s.tree) cs ≡ true
 recorded_changes_apply-new s who cs apply = (and_parts _ (list_all (is_new_in s.tree) cs) apply).1
 

@@ -29,7 +29,7 @@ module _ (f : Enlistment → Enlistment) (same : (e : Enlistment) → lasting (f
   pub superior-with : (test : Enlistment → Bool) (c : Course) → lasting_of (superior (record c { enlistments = with_enlistments test f c.enlistments })) ≡ lasting_of (superior c)
   superior-with test c = superior-kept c.transaction.id (λ e. if test e then f e else e) (λ e. lasting-with (test e) e) c.enlistments
 
-  -- and what is read when it is recorded
+  -- enlistments that are changed so leave what is read of a course when it is recorded
   pub basis-with : (test : Enlistment → Bool) (c : Course) → basis (record c { enlistments = with_enlistments test f c.enlistments }) ≡ basis c
   basis-with test c = ap (λ o. record (basis c) { superior = o }) (superior-with test c)
 

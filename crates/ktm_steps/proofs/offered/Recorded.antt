@@ -64,7 +64,7 @@ all-of P Fact.Done b facts = all-of_caller P b.caller b.managers _ facts.done
 all-of P Fact.SingleFiles b facts = (facts.single_files, tt)
 all-of P Fact.SingleKeys b facts = (facts.single_keys, tt)
 
--- the same, whether the log has it or not
+-- the event of each fact is so, whether the log has the transaction or not
 facts-recorded : (P : Event → Type 0) (b : Basis) (is : Bool) → Facts P b → Facts P (record b { is_recorded = is })
 facts-recorded P b is facts = record {
   ready_files = facts.ready_files;

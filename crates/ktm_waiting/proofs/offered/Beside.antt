@@ -96,7 +96,7 @@ tested-with s who cs test is = elim (cases_Bool (changes_apply s.tree cs && list
 pub tried-with : (s : Durable) (who : Option Id) (cs : List Change) → (recorded_changes_apply s who cs && (changes_apply s.tree cs && list_all (is_new_in s.tree) cs)) ≡ recorded_changes_apply s who cs
 tried-with s who cs = tested-with s who cs (recorded_changes_apply s who cs) (λ all new. refl)
 
--- the same, where a test may want memory
+-- changes apply exactly where they meet nothing, unless the test runs out of memory
 pub met-ok : {E : Type 0} (r : Result Bool E) (apply met : Bool) → IfOk r (λ m. m ≡ met) → apply ≡ not met → IfOk r (λ m. apply ≡ not m)
 met-ok (Ok m) apply met is e = e ∙ ap not (sym is)
 met-ok (Err fault) apply met is e = tt
@@ -112,7 +112,7 @@ pub made-ok : {E : Type 0} (r : Result Bool E) (s : Durable) (who : Option Id) (
 made-ok (Ok a) s who cs free is tested made = made ∙ ap (λ b. b && (changes_apply s.tree cs && list_all (is_new_in s.tree) cs)) (sym is) ∙ tested
 made-ok (Err fault) s who cs free is tested made = tt
 
--- and so do those that apply to the files alone
+-- changes that pass the test, and apply to the files alone, apply
 pub tested-apply : (s : Durable) (who : Option Id) (cs : List Change) (free : Bool) → free ≡ true → (free && (changes_apply s.tree cs && list_all (is_new_in s.tree) cs)) ≡ recorded_changes_apply s who cs
     → changes_apply s.tree cs ≡ true → list_all (is_new_in s.tree) cs ≡ true → recorded_changes_apply s who cs ≡ true
 tested-apply s who cs free is tested all new = sym tested ∙ (λ i. is i && (all i && new i))

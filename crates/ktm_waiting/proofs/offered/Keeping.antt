@@ -25,7 +25,7 @@ use Rattle.txf_laws.proofs.offered.Tables.{IsIn-with_recorded, KnownOrNew, Table
 use Rattle.ktm_states.proofs.offered.Parts.{count_among, count_among-filter, count_among-map, count_among-none, count_among-push, gathered, gathered-map, gathered-map_none, gathered-push, gathered-push_none, is_among, is_among-push}
 use Rattle.ktm_states.proofs.offered.WaitingChanges.{in_others, in_others-plain, no_changes-left, no_changes_part, no_settings-left, no_settings_part, recorded_changes_apply-all, recorded_changes_apply-apart, recorded_changes_apply-new, waiting-apply, waiting-new}
 use Rattle.ktm_waiting.specs.Table.{changes_at, decided_in, finished_in, held_for, with_one_part}
-use Rattle.ktm_waiting.specs.Waiting.{AreBeside, AreKept, AreSpared, IsKept}
+use Rattle.ktm_waiting.specs.Waiting.{AreBeside, AreKept, AreSpared, IsWaitingKept}
 use Rattle.ktm_waiting.proofs.offered.TableSteps.{or-new-id}
 
 -- ---- one transaction
@@ -38,7 +38,7 @@ record IsAlike (t u : Recorded) : Type 0 where
   files : has_changes_part u ≡ has_changes_part t
   keys : has_settings_part u ≡ has_settings_part t
 
-kept-alike : (tree : Tree) (t u : Recorded) → IsKept tree t → IsAlike t u → has_one_part_each u ≡ true → IsKept tree u
+kept-alike : (tree : Tree) (t u : Recorded) → IsWaitingKept tree t → IsAlike t u → has_one_part_each u ≡ true → IsWaitingKept tree u
 kept-alike tree t u kept alike parts = record {
   parts = parts;
   changes = (λ i. (not (alike.decided i) || not (has_changes (alike.changes i))) && (alike.decided i || not (alike.files i) || are_recorded_changes (alike.changes i))) ∙ kept.changes;
@@ -56,7 +56,7 @@ changes-waiting u waits recorded =
     go true = refl
     go false = refl
 
--- and so are its settings
+-- where a transaction is not decided, its good settings are kept
 settings-waiting : (u : Recorded) → is_decided u.stage ≡ false → are_good_settings (settings_of u) ≡ true → are_kept_settings u ≡ true
 settings-waiting u waits good =
     (λ i. (not (waits i) || length (settings_of u) == 0) && (waits i || not (has_settings_part u) || good i)) ∙ go (has_settings_part u)
@@ -75,7 +75,7 @@ kept-form t kept some = elim (cases_Bool (is_decided t.stage)) [
   ]
 ]
 
--- and its settings rise by key
+-- the settings that a transaction has rise by key
 pub settings-rise : (t : Recorded) → are_kept_settings t ≡ true → is_rising (settings_of t) ≡ true
 settings-rise t kept = elim (cases_Bool (is_decided t.stage)) [
   | inl decided ↦ ap is_rising (no_settings-left t kept decided)
@@ -95,7 +95,7 @@ ready-waits Stage.Decided ready = absurd (true≢false (sym ready))
 
 -- ---- all of them
 
-table-of : (tree : Tree) (ts : List Recorded) → AreKept tree ts → Table (IsKept tree) (AreBeside tree) ts
+table-of : (tree : Tree) (ts : List Recorded) → AreKept tree ts → Table (IsWaitingKept tree) (AreBeside tree) ts
 table-of tree ts kept = record { rises = kept.rise; fit = kept.each; beside = kept.beside }
 
 pub kept-filter : (tree : Tree) (keep : Recorded → Bool) (ts : List Recorded) → AreKept tree ts → AreKept tree (filter keep ts)
@@ -109,13 +109,13 @@ kept-filter tree keep ts kept = record {
 abbrev IsBeside : Tree → List Recorded → Recorded → Type 0
 IsBeside tree ts t = (u : Recorded) → IsIn u ts → (u.id ≡ t.id → ⊥) → AreBeside tree t u
 
-kept-with : (tree : Tree) (ts : List Recorded) (t : Recorded) → AreKept tree ts → IsKept tree t → IsBeside tree ts t → AreKept tree (with_recorded ts t)
+kept-with : (tree : Tree) (ts : List Recorded) (t : Recorded) → AreKept tree ts → IsWaitingKept tree t → IsBeside tree ts t → AreKept tree (with_recorded ts t)
 kept-with tree ts t kept this beside =
     let table =
-    Table-with (IsKept tree) (AreBeside tree) (IsKept tree) (AreBeside tree) ts t (table-of tree ts kept) (λ u there other is. is) (λ u v there there' other other' is. is) this (λ u there other. let side = beside u there other in (side, AreFootprintsApart-sym (footprint tree (changes_of t)) (footprint tree (changes_of u)) side)) in
+    Table-with (IsWaitingKept tree) (AreBeside tree) (IsWaitingKept tree) (AreBeside tree) ts t (table-of tree ts kept) (λ u there other is. is) (λ u v there there' other other' is. is) this (λ u there other. let side = beside u there other in (side, AreFootprintsApart-sym (footprint tree (changes_of t)) (footprint tree (changes_of u)) side)) in
     record { rise = table.rises; each = table.fit; beside = table.beside }
 
-kept-while : (tree : Tree) (ts : List Recorded) (t : Recorded) → AreKept tree ts → IsKept tree t → IsBeside tree ts t → AreKept tree (while_not_done ts t)
+kept-while : (tree : Tree) (ts : List Recorded) (t : Recorded) → AreKept tree ts → IsWaitingKept tree t → IsBeside tree ts t → AreKept tree (while_not_done ts t)
 kept-while tree ts t kept this beside = elim (cases_Bool (list_any (λ (p : RecordedPart). not p.is_done) t.parts)) [
   | inl stays ↦ rw stays (kept-with tree ts t kept this beside)
   | inr over ↦ rw over (kept-filter tree (λ u. not (same_id u.id t.id)) ts kept)
@@ -130,12 +130,12 @@ IsIn-while ts t u tree kept there = elim (cases_Bool (list_any (λ (p : Recorded
 
 -- ---- the one with an Id
 
-pub kept-known : (tree : Tree) (ts : List Recorded) (id : Id) → AreKept tree ts → IsKept tree (recorded_or_new ts id)
+pub kept-known : (tree : Tree) (ts : List Recorded) (id : Id) → AreKept tree ts → IsWaitingKept tree (recorded_or_new ts id)
 kept-known tree ts id kept = go (recorded_or_new ts id) (recorded_or_new-cases ts id)
   where
-    go : (t : Recorded) → KnownOrNew ts id t → IsKept tree t
+    go : (t : Recorded) → KnownOrNew ts id t → IsWaitingKept tree t
     go t (inl known) = kept.each t known.0
-    go t (inr new) = subst (IsKept tree) (sym new) (record { parts = refl; changes = refl; settings = refl; apply = refl; new = refl })
+    go t (inr new) = subst (IsWaitingKept tree) (sym new) (record { parts = refl; changes = refl; settings = refl; apply = refl; new = refl })
 
 known-beside : (tree : Tree) (ts : List Recorded) (id : Id) → AreKept tree ts → IsBeside tree ts (recorded_or_new ts id)
 known-beside tree ts id kept = go (recorded_or_new ts id) (recorded_or_new-cases ts id)
@@ -152,7 +152,7 @@ beside-alike tree ts t u beside id same v there other =
 beside-none : (tree : Tree) (ts : List Recorded) (t : Recorded) → changes_of t ≡ [] → IsBeside tree ts t
 beside-none tree ts t none u there other = subst (λ (cs : List Change). AreFootprintsApart (footprint tree cs) (footprint tree (changes_of u))) (sym none) (apart-from-none tree (changes_of u))
 
-pub found-kept : (tree : Tree) (ts : List Recorded) (id : Id) (t : Recorded) → AreKept tree ts → recorded_at ts id ≡ Some t → IsKept tree t
+pub found-kept : (tree : Tree) (ts : List Recorded) (id : Id) (t : Recorded) → AreKept tree ts → recorded_at ts id ≡ Some t → IsWaitingKept tree t
 found-kept tree ts id t kept found = kept.each t (recorded_at-found ts id t found).0
 
 -- ---- changes that are apart from those that wait
@@ -238,7 +238,7 @@ enlisted-alike t enlistment manager information = let part : Part = Enlistment e
 }
 
 -- the one part that has settings leaves the changes, and the other way round
-with-settings-kept : (tree : Tree) (t : Recorded) (settings : OwnSettings) → IsKept tree t → is_decided t.stage ≡ false → has_settings_part t ≡ false → are_good_settings settings ≡ true → IsKept tree (with_one_part t (Settings settings))
+with-settings-kept : (tree : Tree) (t : Recorded) (settings : OwnSettings) → IsWaitingKept tree t → is_decided t.stage ≡ false → has_settings_part t ≡ false → are_good_settings settings ≡ true → IsWaitingKept tree (with_one_part t (Settings settings))
 with-settings-kept tree t settings kept waits absent good = record {
   parts = and_from _ _ (pushed (is_part_of DonePart.Files) t.parts part 1 (omega (arith, few.0))) (pushed (is_part_of DonePart.Keys) t.parts part 1 (omega (arith, none)));
   changes = (λ i. (not (is_decided t.stage) || not (has_changes (changes i))) && (is_decided t.stage || not (files i) || are_recorded_changes (changes i))) ∙ kept.changes;
@@ -269,8 +269,8 @@ with-settings-kept tree t settings kept waits absent good = record {
 pub with-changes-same : (t : Recorded) (cs : List Change) → has_changes_part t ≡ false → changes_of (with_one_part t (Changes cs)) ≡ cs
 with-changes-same t cs absent = gathered-push changes_in t.parts (record { is_done = false; part = Changes cs }) ∙ ap (λ ds. ds ++ cs) (no_changes_part t absent)
 
-with-changes-kept : (tree : Tree) (t : Recorded) (cs : List Change) → IsKept tree t → is_decided t.stage ≡ false → has_changes_part t ≡ false → are_recorded_changes cs ≡ true → changes_apply tree cs ≡ true → list_all (is_new_in tree) cs ≡ true
-    → IsKept tree (with_one_part t (Changes cs))
+with-changes-kept : (tree : Tree) (t : Recorded) (cs : List Change) → IsWaitingKept tree t → is_decided t.stage ≡ false → has_changes_part t ≡ false → are_recorded_changes cs ≡ true → changes_apply tree cs ≡ true → list_all (is_new_in tree) cs ≡ true
+    → IsWaitingKept tree (with_one_part t (Changes cs))
 with-changes-kept tree t cs kept waits absent recorded all new = record {
   parts = and_from _ _ (pushed (is_part_of DonePart.Files) t.parts part 1 (omega (arith, none))) (pushed (is_part_of DonePart.Keys) t.parts part 1 (omega (arith, few.1)));
   changes = changes-waiting (with_one_part t part) waits (ap are_recorded_changes same ∙ recorded);
@@ -305,7 +305,7 @@ module _ (s : Durable) (id : Id) (kept : AreKept s.tree s.transactions) (may : m
   abbrev known : Recorded
   known = recorded_or_new s.transactions id
 
-  part-kept-one : (part : Part) → part_applies s id part ≡ true → IsKept s.tree (with_one_part known part) × IsBeside s.tree s.transactions (with_one_part known part)
+  part-kept-one : (part : Part) → part_applies s id part ≡ true → IsWaitingKept s.tree (with_one_part known part) × IsBeside s.tree s.transactions (with_one_part known part)
   part-kept-one (Enlistment enlistment manager information) applies =
       let part : Part = Enlistment enlistment manager information in
       let fit = kept-known s.tree s.transactions id kept in
@@ -384,7 +384,7 @@ decided t = record t { stage = Stage.Decided; parts = map emptied_part t.parts }
 pub decided-changes : (t : Recorded) → changes_of (decided t) ≡ []
 decided-changes t = gathered-map_none changes_in emptied_part emptied-changes t.parts
 
-decided-kept-one : (tree : Tree) (t : Recorded) → has_one_part_each t ≡ true → IsKept tree (decided t)
+decided-kept-one : (tree : Tree) (t : Recorded) → has_one_part_each t ≡ true → IsWaitingKept tree (decided t)
 decided-kept-one tree t parts = record {
   parts = (λ i. nat_le (count_among-map (is_part_of DonePart.Files) emptied_part emptied-files t.parts i) 1 && nat_le (count_among-map (is_part_of DonePart.Keys) emptied_part emptied-keys t.parts i) 1) ∙ parts;
   changes = λ i. not (has_changes (decided-changes t i)) && true;
@@ -503,13 +503,13 @@ finish-kept tree ts done id kept = go (recorded_at ts id) (λ t found. (recorded
 pub changes-apply-at : (tree : Tree) (ts : List Recorded) (id : Id) → AreKept tree ts → changes_apply tree (changes_at (recorded_at ts id)) ≡ true
 changes-apply-at tree ts id kept = go (recorded_at ts id) (λ t found. found-kept tree ts id t kept found)
   where
-    go : (o : Option Recorded) → ((t : Recorded) → o ≡ Some t → IsKept tree t) → changes_apply tree (changes_at o) ≡ true
+    go : (o : Option Recorded) → ((t : Recorded) → o ≡ Some t → IsWaitingKept tree t) → changes_apply tree (changes_at o) ≡ true
     go None found = refl
     go (Some t) found = (found t refl).apply
 
 pub changes-new-at : (tree : Tree) (ts : List Recorded) (id : Id) → AreKept tree ts → list_all (is_new_in tree) (changes_at (recorded_at ts id)) ≡ true
 changes-new-at tree ts id kept = go (recorded_at ts id) (λ t found. found-kept tree ts id t kept found)
   where
-    go : (o : Option Recorded) → ((t : Recorded) → o ≡ Some t → IsKept tree t) → list_all (is_new_in tree) (changes_at o) ≡ true
+    go : (o : Option Recorded) → ((t : Recorded) → o ≡ Some t → IsWaitingKept tree t) → list_all (is_new_in tree) (changes_at o) ≡ true
     go None found = refl
     go (Some t) found = (found t refl).new

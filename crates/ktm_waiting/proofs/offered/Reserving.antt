@@ -176,7 +176,7 @@ changes-with ts t x id is other =
 pub changes-with-itself : (ts : List Recorded) (t : Recorded) (x : Id) → t.id ≡ x → changes_at (recorded_at (with_recorded ts t) x) ≡ changes_of t
 changes-with-itself ts t x is = ap (λ (i : Id). changes_at (recorded_at (with_recorded ts t) i)) (sym is) ∙ ap changes_at (at-with-itself ts t)
 
--- with the same changes as before
+-- one transaction is put in place of itself, with the same changes as before
 pub reserves-with : (r : ReserveState) (tree : Tree) (ts : List Recorded) (t : Recorded) (x : Id) → Reserves r tree ts → t.id ≡ x → changes_of t ≡ changes_of (recorded_or_new ts x) → Reserves r tree (with_recorded ts t)
 reserves-with r tree ts t x reserves is same = reserves-same r tree ts (with_recorded ts t) reserves (λ id. elim (cases_Bool (same_id id x)) [
   | inl this ↦
@@ -323,7 +323,7 @@ module _ (r : ReserveState) (tree : Tree) (ts : List Recorded) (held : AreHeld r
       reserves = reserves-decided r r' tree ts x held.kept.rise held.reserves released;
     }
 
--- the same is held
+-- each transaction is kept, and holds what its changes hold, where each holds the same as before
 pub held-as : (r r' : ReserveState) (tree : Tree) (ts : List Recorded) → AreHeld r tree ts → ((id : Id) → IsSameHold (holds_in r' id) (holds_in r id)) → AreHeld r' tree ts
 held-as r r' tree ts held same =
     record { kept = held.kept; reserves = λ id. same-hold (holds_in r' id) (holds_in r id) (holds_by tree (changes_at (recorded_at ts id)) []) (same id) (held.reserves id) }

@@ -5,7 +5,7 @@ use Rattle.std.proofs.lemmas.List.Sums.{sum_by-cons}
 use Rattle.ktm_base.specs.declared.id.Id.{Id}
 use Rattle.ktm_keyed.specs.declared.keyed.Keyed.{Keyed}
 use Rattle.ktm_keyed.specs.Keyed.{put}
-use Rattle.ktm_world.specs.Keys.{Store, OwnSettings, Own, KeysNow, keys_used, changes_pending, own_settings, with_own, without_own, stored, stored_all}
+use Rattle.ktm_world.specs.Keys.{Store, OwnSettings, Own, own_settings, with_own, without_own, stored, stored_all}
 use Rattle.ktm_world.specs.Transactions.{same_id}
 use Rattle.ktm_keyed.proofs.KeyedLemmas.{length-put-le, length-without-le, count_by-cons, count_by-put-le}
 
@@ -79,11 +79,3 @@ module _ (p : Keyed (Option (List ℕ)) → Bool) where
             let rest = counted-without_own id os in
             rw other (omega (arith, old, new, rest))
       ]
-
--- a transaction has no more settings than there are keys in use and changes that wait
-pub length-own_settings-le : (keys : KeysNow) (id : Id) → length (own_settings keys.own id) ≤ keys_used keys + changes_pending keys
-length-own_settings-le keys id =
-    let both = length-counts (own_settings keys.own id) in
-    let sets = counted-without_own (λ s. is_some s.value) id keys.own in
-    let unsets = counted-without_own (λ s. is_none s.value) id keys.own in
-    omega arith

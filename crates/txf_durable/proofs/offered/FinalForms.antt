@@ -42,7 +42,7 @@ name-puts (Cut node size pages) file bytes is = absurd (true≢false is)
 name-puts (Move node parent name) file bytes is = refl
 name-puts (Drop node) file bytes is = refl
 
--- nor do all of them
+-- changes of names give a file no bytes
 pub names-put : (cs : List Change) (file : ℕ) (bytes : List ℕ) → are_names cs ≡ true → fold (put_into file) bytes cs ≡ bytes
 names-put [] file bytes are = refl
 names-put (c ∷ cs) file bytes are =
@@ -70,7 +70,7 @@ IsNextOf done (Cut node size pages) = (size ≡ 0) × (put_bytes done node ≡ [
 IsNextOf done (Move node parent name) = are_names done ≡ true
 IsNextOf done (Drop node) = are_names done ≡ true
 
--- the same nodes are files before bytes are given and behind it
+-- the changes leave those nodes files that their changes of names alone leave files
 abbrev pub LeaveFiles : List Change → Type 0
 LeaveFiles done = (tree : Tree) → changes_apply tree done ≡ true → (n : ℕ) → is_file (changed_all tree done) n ≡ is_file (changed_all tree (names_of done)) n
 
@@ -101,7 +101,7 @@ names-done done are = record {
 apply-last : (tree : Tree) (done : List Change) (c : Change) → changes_apply tree (done ++ c ∷ []) ≡ true → applies (changed_all tree done) c ≡ true
 apply-last tree done c all = (and_parts (applies (changed_all tree done) c) true (and_parts (changes_apply tree done) (changes_apply (changed_all tree done) (c ∷ [])) (sym (apply-split tree done (c ∷ [])) ∙ all)).1).0
 
--- so do they with bytes of a file more
+-- changes with one more of bytes leave those nodes files that their changes of names alone leave files
 bytes-files : (done : List Change) (c : Change) → changes_bytes c ≡ true → LeaveFiles done → LeaveFiles (done ++ c ∷ [])
 bytes-files done c bytes files tree all n =
     ap (λ t. is_file t n) (fold-append changed tree done (c ∷ []))
@@ -134,7 +134,7 @@ put-done least cut done node offset contents this is = record {
 next-behind : (done : List Change) (y : Change) (ys : List Change) (c : Change) → Next ((done ++ y ∷ []) ++ ys) c → Next (done ++ y ∷ ys) c
 next-behind done y ys c next = subst (λ ds. Next ds c) (append_assoc done (y ∷ []) ys) next
 
--- or behind the first alone
+-- what comes next behind the first changes alone
 next-here : (done : List Change) (c : Change) → Next done c → Next (done ++ []) c
 next-here done c next = subst (λ ds. Next ds c) (sym (append-nil done)) next
 
@@ -244,12 +244,12 @@ puts-above least cut (Make node parent kind name ∷ bs) final f bytes low other
 puts-above least cut (Move node parent name ∷ bs) final f bytes low other = absurd (true≢false (sym final))
 puts-above least cut (Drop node ∷ bs) final f bytes low other = absurd (true≢false (sym final))
 
--- a cut and the bytes behind it, as they are given at the end
+-- a file without bytes is given a cut alone at the end
 cut-first : (by : ℕ → List ℕ) (node size : ℕ) (pages fs : List ℕ) (rest : List Change) → size ≡ 0 → pages ≡ [] → by node ≡ [] → ends_of by fs ≡ rest → ends_of by (node ∷ fs) ≡ Cut node size pages ∷ rest
 cut-first by node size pages fs rest none empty given later =
     (λ i. final_bytes node (given i) ++ later i) ∙ (λ i. Cut node (sym none i) (sym empty i) ∷ rest)
 
--- the same with the bytes behind the cut
+-- a file with bytes is given a cut and the bytes behind it at the end
 put-first : (by : ℕ → List ℕ) (node size : ℕ) (pages : List ℕ) (other offset b : ℕ) (bytes fs : List ℕ) (rest : List Change) → size ≡ 0 → pages ≡ [] → node ≡ other → offset ≡ 0 → by node ≡ b ∷ bytes → ends_of by fs ≡ rest
     → ends_of by (node ∷ fs) ≡ Cut node size pages ∷ Put other offset (Whole (b ∷ bytes)) ∷ rest
 put-first by node size pages other offset b bytes fs rest none empty same nought given later =

@@ -214,9 +214,6 @@ no_root tree good = go (node_at tree root) (good.numbers root)
 
 -- ---- what stays where a change applies
 
-dir_at : ℕ → Option Node → Bool
-dir_at d o = (d == root || is_some o) && not (is_some (content_of o))
-
 dir_there : (tree : Tree) (c : Change) → Applies tree c → is_directory tree (node_of c) ≡ true → is_drop c ≡ false → is_directory (changed tree c) (node_of c) ≡ true
 dir_there tree (Make node parent kind name) is dir kept = absurd (true≢false (sym (and_parts (is_there tree node) (not (is_file tree node)) dir).0 ∙ is.1))
 dir_there tree (Put node offset contents) is dir kept = absurd (true≢false (sym is.0 ∙ not-true _ (and_parts (is_there tree node) (not (is_file tree node)) dir).1))

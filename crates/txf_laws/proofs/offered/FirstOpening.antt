@@ -80,7 +80,7 @@ module _ (x : Present) (id : Id) (file : ℕ) (sound : IsSoundFiles x) (may : Ma
           same-tree None = refl
           same-tree (Some f) = refl
 
-  -- so one change more is the same
+  -- the transaction's changes with one more are the same
   pub changes-same : (c : Change) → changes_with z.files id c ≡ changes_with x.files id c
   changes-same c = let cs = own_changes x.files.table.own id ++ c ∷ [] in to_commit-same cs (bytes_with z.files id cs) (bytes_with x.files id cs) (λ n has. bytes-same id cs n)
 

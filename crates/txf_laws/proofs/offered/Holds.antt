@@ -237,7 +237,7 @@ module _ (tree : Tree) (ds cs : List Change) (writes : List ℕ) (all : changes_
         absurd (meets-not (nodes_changed act.0) (map node_of ds ++ writes) (act_misses act.0 act.1).nodes (node_of c) act.2 (IsIn-left (node_of c) (map node_of ds) writes (subst (λ m. IsIn m (map node_of ds)) (sym at) held)))
   ]
 
-  -- and others do not make what the changes make
+  -- the changes of others do not make what the changes make
   not_made : (n : ℕ) → IsIn n (map node_of cs) → IsIn n (map node_of ds) → (d : Change) → IsIn d ds → node_of d ≡ n → is_make d ≡ false
   not_made n here held d there at = false_from_ne_true (is_make d) (λ made.
       let mine = IsIn-unmap node_of n cs here in
@@ -281,7 +281,7 @@ module _ (tree : Tree) (ds cs : List Change) (writes : List ℕ) (all : changes_
 pub meeting_law : MeetingLaw
 meeting_law = apart-from-misses
 
--- ---- and back
+-- ---- what the acts of changes show
 
 -- what the acts of a change show it holds
 record Holding (tree : Tree) (c : Change) (a : Act) : Type 0 where
@@ -342,7 +342,7 @@ holding tree (Drop node) is a there = let found = there-from tree (Drop node) is
     }
     dropped n found b is (inr none) = absurd none
 
--- the same of changes in order
+-- what the acts of changes in order show that these hold
 record HoldingAll (tree : Tree) (cs : List Change) (a : Act) : Type 0 where
   nodes : (n : ℕ) → IsIn n (nodes_changed a) → IsIn n (map node_of cs)
   places : (p : Place) → IsIn p (places_changed a) → IsIn p (each_change places_of tree cs)

@@ -80,7 +80,7 @@ module _ (tree : Tree) (c : Change) (is : applies tree c ≡ true) (n : ℕ) (ot
   pub there-was : is_there (changed tree c) n ≡ true → is_there tree n ≡ true
   there-was after = was (is_there_at n) (λ at. subst (λ m. is_there_at m (remade c (node_at tree (node_of c))) ≡ true → is_there_at m (node_at tree (node_of c)) ≡ true) at (kept-there tree c is (not-made at)).there) after
 
--- the same of changes in order
+-- what is a file or a directory behind changes in order that do not make it was so before
 pub files-were : (cs : List Change) (tree : Tree) → changes_apply tree cs ≡ true → (n : ℕ) → ((c : Change) → IsIn c cs → MakesNot c n) → is_file (changed_all tree cs) n ≡ true → is_file tree n ≡ true
 files-were [] tree all n others after = after
 files-were (c ∷ cs) tree all n others after =

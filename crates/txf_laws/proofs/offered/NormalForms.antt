@@ -271,7 +271,7 @@ written-final cs by =
     (λ n there. elim (ends-written by (written_files cs) names n there) [ inl old ↦ names-within cs [] [] (λ m none. none) n old | inr is ↦ is ])
     (λ n there. ends-add by (written_files cs) names n (inr there))
 
--- and the same names
+-- changes in the form in which they are committed have the same changes of names
 pub names-final : (cs : List Change) (by : ℕ → List ℕ) → names_of (changes_to_commit cs by) ≡ names_of cs
 names-final cs by =
     filter-append names_only (names_of cs) (ends_of by (written_files cs)) ∙ ap (λ ds. names_of (names_of cs) ++ ds) (no-names (ends_of by (written_files cs)) (ends-bytes by (written_files cs)))
@@ -385,7 +385,7 @@ ends-files by (g ∷ gs) tree all f there = go (λ t rest later. ends-files by g
           | inr later ↦ file-before tree (Cut g 0 []) parts.0 refl file f (file-before cut put parts'.0 refl (Applies-from cut put parts'.0).0 f (rest (changed cut put) parts'.1 later))
         ]
 
--- and where they are files, the bytes at the end apply
+-- where the nodes are files the bytes at the end apply
 ends-apply : (by : ℕ → List ℕ) (files : List ℕ) (tree : Tree) → ((f : ℕ) → IsIn f files → is_file tree f ≡ true) → changes_apply tree (ends_of by files) ≡ true
 ends-apply by [] tree are = refl
 ends-apply by (g ∷ gs) tree are = go (λ t still. ends-apply by gs t still) (by g)

@@ -247,9 +247,6 @@ module _ (x : Present) (id : Id) (c : Change) (sound : IsSoundFiles x) (owns : O
   form : IsFinal cs by
   form = is-final cs by
 
-  old-form : IsFinal ms (bytes_seen x.files (Some id))
-  old-form = is-final ms (bytes_seen x.files (Some id))
-
   pub own-itself : own_changes z.files.table.own id ≡ new
   own-itself = with-itself x.files.table.own id new
 

@@ -123,7 +123,7 @@ holds-apart x sound t u there there' other =
     (list_all-at (λ (v : Transaction). list_all (files_apart x v) (others_undecided x.transactions.items (Some v.id))) (undecided x) sound.apart t there) u
     (in_others x t u there' (same_id-sym t.id u.id other))
 
--- also without the files that they have open
+-- what two transactions hold is apart also without the files that they have open
 bare-apart : (tree : Tree) (bs cs : List Change) (ws vs : List ℕ) → are_apart (holds_by tree bs ws) (holds_by tree cs vs) ≡ true → are_apart (holds_by tree bs []) (holds_by tree cs []) ≡ true
 bare-apart tree bs cs ws vs apart =
     let d = and_parts _ (not (list_any (λ (n : ℕ). true) (each_change moved_directory tree bs) && list_any (λ (n : ℕ). true) (each_change moved_directory tree cs))) apart in

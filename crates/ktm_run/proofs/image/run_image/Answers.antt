@@ -1,7 +1,7 @@
 use Rattle.std.proofs.Common.{ℕ, List, Option, inl, inr, refl}
 use Rattle.std.proofs.KnownBytes.{Keeps-refl}
-use Rattle.ktm_run.proofs.Openings.{begins_good, faults_bad, faults_down, faults_full, faults_memory, safe_begins}
-use Rattle.ktm_run.proofs.Theorems.{not_started_early, not_started_ends, not_started_is, not_usage, run_ended, script_ends, too_long}
+use Rattle.ktm_open.proofs.Openings.{begins_good, faults_bad, faults_down, faults_full, faults_memory, safe_begins}
+use Rattle.ktm_run.proofs.Theorems.{not_started_early, not_started_ends, not_started_is, not_usage, run_begun, run_ended, script_ends, too_long}
 use Rattle.ktm_log.specs.OnDisk.{on}
 use Rattle.ktm_base.specs.Disk.{DiskState, DiskStatus}
 use Rattle.ktm_run.specs.declared.status.Status.TheVariants.{NoMemory}
@@ -9,7 +9,7 @@ use Rattle.ktm_run.specs.Early.{NotRun, outside}
 use Rattle.ktm_run.specs.Ended.{RunLeaves}
 use Rattle.ktm_run.proofs.image.run_image.Goals as goal
 
--- for want of memory before anything is opened
+-- the run ends out of memory before anything is opened
 unopened : (left taken : Option (List ℕ)) (told : Option DiskState) (status : DiskStatus) → RunLeaves NoMemory (outside left taken told status) (outside left taken told status)
 unopened left taken told status = record {
   run = λ base room tells. inl (record {
@@ -60,9 +60,9 @@ returns-clause-leaves g c =
     record {
       run = λ base room tells.
           let (stands, fits) = opened.stands base room tells in
-          run_ended base room _ _ (on c.in-Ok-open_kernel.kernel (g.D.Disk.told c.open_kernel.new.disk) (g.D.Disk.status c.open_kernel.new.disk)) c.run_script-status.new.kernel
+          run_ended base room _ _ (on c.in-Ok-open_kernel.restarted.kernel (g.D.Disk.told c.open_kernel.new.disk) (g.D.Disk.status c.open_kernel.new.disk)) c.run_script-status.new.kernel
           (g.met.D.Disk.lengths c.run_script-status.new.disk)
-          stands fits (opened.counts base room tells) (c.law_of_runs.ensures _ _ base room stands) c.run_script-status.result made;
+          stands fits (run_begun base _ _ (opened.counts base room tells)) (c.law_of_runs.ensures _ _ base room stands) c.run_script-status.result made;
       ends = script_ends _ _ c.run_script-status.result _ _ _ opened.begins made;
       not_usage = not_usage _ _ c.run_script-status.result made;
       too_long = too_long _ _ c.run_script-status.result made;

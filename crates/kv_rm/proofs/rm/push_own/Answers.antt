@@ -1,18 +1,17 @@
-use Rattle.std.proofs.Common.{◌∙◌}
-use Rattle.kv_rm.proofs.Restoring.{are_held-restored, few_restored, last_settings}
+use Rattle.ktm_world.specs.Keys.{Own}
+use Rattle.kv_rm.proofs.Restoring.{are_held-restored, few_restored}
 use Rattle.kv_rm.proofs.rm.push_own.Goals as goal
 
 pub add_all-requires-clause-few : goal.add_all-requires-clause-few
 add_all-requires-clause-few c =
-    let last =
-    last_settings c.args.own.now.items c.args.transaction c.args.settings.items c.in-Some.last.now
-    (rw (c.deref.ensures.value, c.in_ok-push.ensures.items, c.with_settings.ensures) at c.in-Some.ensures.value) in
-    rw (c.settings.ensures.settings ∙ last) (few_restored c.args.own.now.items c.args.transaction _ _ (c.reserve.ensures.held _ c.requires.held) c.requires.few)
+    let last : Own = record { transaction = c.args.transaction; settings = c.args.settings.items } in
+    let settings = c.last_settings.ensures c.args.own.now last (rw c.from_vec.ensures at c.in_ok-push.ensures.ok) in
+    rw settings (few_restored c.args.own.now c.args.transaction _ _ (c.reserve.ensures.held _ c.requires.held) c.requires.few)
 
-pub returns-in-Some-clause-held : goal.returns-in-Some-clause-held
-returns-in-Some-clause-held c =
-    let last =
-    last_settings c.args.own.now.items c.args.transaction c.args.settings.items c.in-Some.last.now
-    (rw (c.deref.ensures.value, c.in_ok-push.ensures.items, c.with_settings.ensures) at c.in-Some.ensures.value) in
-    let more = rw (c.settings.ensures.settings ∙ last) at c.add_all.ensures in
-    rw (c.in_ok-push.ensures.items, c.with_settings.ensures) (are_held-restored c.args.own.now.items _ _ _ _ (c.reserve.ensures.held _ c.requires.held) more)
+pub returns-clause-held : goal.returns-clause-held
+returns-clause-held c =
+    let last : Own = record { transaction = c.args.transaction; settings = c.args.settings.items } in
+    let pushed = rw c.from_vec.ensures at c.in_ok-push.ensures.ok in
+    let settings = c.last_settings.ensures c.args.own.now last pushed in
+    let more = rw settings at c.add_all.ensures in
+    rw pushed (are_held-restored c.args.own.now _ _ _ _ (c.reserve.ensures.held _ c.requires.held) more)

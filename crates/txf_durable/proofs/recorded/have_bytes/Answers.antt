@@ -2,7 +2,7 @@ use Rattle.std.proofs.Common.{◌+◌, ◌∙◌, ◌&&◌, drop, get_or, refl, 
 use Rattle.std.specs.List.{list_all}
 use Rattle.std.proofs.lemmas.List.{at_drop_more}
 use Rattle.ktm_world.specs.Durable.{gives_bytes}
-use Rattle.txf_durable.specs.Numbers.{IsRising}
+use Rattle.txf_durable.specs.Numbers.{AreNumbersRising}
 use Rattle.txf_durable.specs.Recorded.{AreBytesFrom, begins_with, from_file}
 use Rattle.txf_durable.proofs.Recordings.{bytes-behind, from-final, from-lower, have-first}
 use Rattle.txf_durable.proofs.recorded.have_bytes.Goals as goal
@@ -17,7 +17,7 @@ returns-then-not-begins_with c =
     let later = drop (i + 1) c.args.files.now in
     let rest = c.loop-file.rest.now in
     let step = at_drop_more (λ files. files) c.args.files.now i 0 c.loop-file-test.true in
-    let rising = subst IsRising step c.loop-file.invariant.files in
+    let rising = subst AreNumbersRising step c.loop-file.invariant.files in
     let have = have-first rest 0 file later c.loop-file.invariant.bytes rising.0 in
     let begins = c.if-not-begins_with.ensures ∙ ap (λ cs. begins_with cs file) c.from_file-rest.ensures in
     ap (λ b. b && list_all (gives_bytes (from_file rest file)) later) begins ∙ sym have ∙ ap (list_all (gives_bytes rest)) (sym step) ∙ c.loop-file.invariant.rest
@@ -29,7 +29,7 @@ loop-file-preserved c =
     let later = drop (i + 1) c.args.files.now in
     let rest = c.loop-file.rest.now in
     let step = at_drop_more (λ files. files) c.args.files.now i 0 c.loop-file-test.true in
-    let rising = subst IsRising step c.loop-file.invariant.files in
+    let rising = subst AreNumbersRising step c.loop-file.invariant.files in
     let have = have-first rest 0 file later c.loop-file.invariant.bytes rising.0 in
     let begins = c.if-not-begins_with.ensures ∙ ap (λ cs. begins_with cs file) c.from_file-rest.ensures in
     record {

@@ -1,6 +1,6 @@
 use Rattle.std.proofs.Common.{rules, ◌∙◌, ap}
-use Rattle.ktm_cut.specs.Switch.{fallen}
-use Rattle.ktm_cut.proofs.Calls.{falls, fell}
+use Rattle.ktm_disk.specs.Status.{fallen}
+use Rattle.ktm_disk.proofs.offered.Calls.{falls, fell}
 use Rattle.ktm_cut.proofs.disk.CutDiskDisk.ensure.Goals as goal
 
 pub returns-in-Err-clause-call : goal.returns-in-Err-clause-call

@@ -1,5 +1,5 @@
 use Rattle.std.proofs.Common.{rules}
-use Rattle.ktm_cut.proofs.Calls.{falls, fell}
+use Rattle.ktm_disk.proofs.offered.Calls.{falls, fell}
 use Rattle.ktm_cut.proofs.disk.CutDiskDisk.write_at.Goals as goal
 
 pub returns-in-Err-clause-call : goal.returns-in-Err-clause-call

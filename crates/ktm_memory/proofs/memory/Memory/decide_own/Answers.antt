@@ -2,7 +2,7 @@ use Rattle.std.proofs.Common.{◌≤◌, Some, ap, sym, subst, ◌∙◌}
 use Rattle.ktm_world.specs.FileOutcome.{files_after}
 use Rattle.txf_opens.specs.Acts.{open_of}
 use Rattle.std.specs.Option.{option_map}
-use Rattle.ktm_memory.specs.Memory.{Held, MemoryState, held, now_of}
+use Rattle.ktm_memory.specs.Memory.{LayersNow, MemoryState, held, now_of}
 use Rattle.ktm_memory.specs.Routed.{IsFreeLabel}
 use Rattle.ktm_memory.proofs.FilesDecided.{may_bind, opens_some, own_decided}
 use Rattle.txf_volume.specs.Transacted.{HasRoom}
@@ -16,11 +16,11 @@ returns-clause-ok c = λ events holds.
     let reply = c.replace-reply.ensures.value ∙ ap (λ p. p.reply) c.plan.view_is in
     rw (c.binding.ensures, reply) (own_decided (held c.args.self.now) after c.args.process c.args.id c.args.label c.args.plan c.plan.inside.opened events c.requires.standing c.requires.active
     (ap (λ files. record { is_up = c.self.inside.is_up; journal = c.self.inside.journal; handles = c.self.inside.handles.handles; boot = c.self.inside.tm.boot; transactions = c.self.inside.tm.now; managers = c.self.inside.tm.managers; traces = c.self.inside.trace; files = files; next_node = c.self.inside.next_node; keys = c.self.inside.keys }) c.in_ok-keep.ensures.done
-    ∙ ap (λ (h : Held). record h { files = files_after h.files (Some c.args.id) (record { reply = c.plan.inside.reply; change = c.plan.inside.change; first = c.plan.inside.first; opened = option_map open_of c.plan.inside.opened }) }) then
+    ∙ ap (λ (h : LayersNow). record h { files = files_after h.files (Some c.args.id) (record { reply = c.plan.inside.reply; change = c.plan.inside.change; first = c.plan.inside.first; opened = option_map open_of c.plan.inside.opened }) }) then
     ∙ ap (λ p. record (held c.args.self.now) { files = files_after (held c.args.self.now).files (Some c.args.id) p }) c.plan.view_is)
     (ap (λ p. p.opened) c.plan.view_is)
     (may_bind after c.args.process c.args.label c.plan.inside.opened (λ some. subst (λ m. 1 ≤ m.handles.spare) (sym c.self.view_is) (c.in_ok-reserve_for.ensures.room some))
-    (subst (λ (h : Held). IsFreeLabel (now_of h) c.args.process c.args.label) (sym then) c.requires.free))
+    (subst (λ (h : LayersNow). IsFreeLabel (now_of h) c.args.process c.args.label) (sym then) c.requires.free))
     holds)
 
 pub returns-in_err-reserve_for-clause-enough : goal.returns-in_err-reserve_for-clause-enough

@@ -1,12 +1,12 @@
 use Rattle.std.proofs.Common.{◌∙◌, sym, subst}
-use Rattle.txf_durable.specs.Numbers.{IsRising}
+use Rattle.txf_durable.specs.Numbers.{AreNumbersRising}
 use Rattle.txf_durable.proofs.Rising.{found, missing}
 use Rattle.txf_durable.proofs.numbers.FileNumbers.remove.Goals as goal
 
 pub invariant_of-self : goal.invariant_of-self
 invariant_of-self c =
     let is = found c.self.inside.items.items c.deref.result.now c.args.number c.in-Ok.place c.deref.ensures.value c.self.invariant c.in-Ok.ensures.position in
-    subst IsRising (sym c.remove.ensures.items) is.rising
+    subst AreNumbersRising (sym c.remove.ensures.items) is.rising
 
 pub returns-in-Ok-clause-numbers : goal.returns-in-Ok-clause-numbers
 returns-in-Ok-clause-numbers c =

@@ -1,10 +1,10 @@
 use Rattle.std.proofs.Common.{◌∙◌, ap}
-use Rattle.ktm_world.specs.Tree.{bytes_or_none, content_of}
-use Rattle.txf_tree.specs.TreeState.{ContentNow}
+use Rattle.ktm_world.specs.Tree.{bytes_or_none}
+use Rattle.txf_tree.specs.TreeState.{bytes_now}
 use Rattle.txf_tree.proofs.tree.Tree.content.Goals as goal
 
 pub returns-in-Some : goal.returns-in-Some
-returns-in-Some c = rw (← c.self.view_is) (c.bytes.ensures ∙ ap (λ (x : ContentNow). bytes_or_none x.bytes) c.content.ensures ∙ ap (λ o. bytes_or_none (content_of o)) c.in-Some.ensures.node)
+returns-in-Some c = rw (← c.self.view_is) (c.as_slice.ensures ∙ ap bytes_or_none (c.in-Some.ensures.bytes bytes_now))
 
 pub returns-in-None : goal.returns-in-None
-returns-in-None c = rw (← c.self.view_is) (ap (λ o. bytes_or_none (content_of o)) c.in-None.ensures.node)
+returns-in-None c = rw (← c.self.view_is) (ap bytes_or_none (c.in-None.ensures.bytes bytes_now))

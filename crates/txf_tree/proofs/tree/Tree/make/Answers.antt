@@ -1,26 +1,21 @@
 use Rattle.std.proofs.Common.{◌∙◌, ap, arith}
 use Rattle.ktm_world.specs.Tree.{with_node}
-use Rattle.txf_tree.specs.TreeState.{tree_of}
-use Rattle.txf_tree.proofs.Applying.{can_make}
+use Rattle.txf_tree.specs.TreeState.{bytes_now, tree_of}
+use Rattle.txf_tree.proofs.Refilling.{rooms-inserted}
 use Rattle.txf_tree.proofs.tree.Tree.make.Goals as goal
 
-pub push-requires-clause-few : goal.push-requires-clause-few
-push-requires-clause-few c = (can_make c.args.self.now.nodes c.args.node c.args.parent c.args.kind c.args.name c.requires.applies).few
-
-pub push-requires-clause-number : goal.push-requires-clause-number
-push-requires-clause-number c = (can_make c.args.self.now.nodes c.args.node c.args.parent c.args.kind c.args.name c.requires.applies).number
-
-pub push-requires-clause-name : goal.push-requires-clause-name
-push-requires-clause-name c = (can_make c.args.self.now.nodes c.args.node c.args.parent c.args.kind c.args.name c.requires.applies).free
+pub make-requires-clause-applies : goal.make-requires-clause-applies
+make-requires-clause-applies c = (bytes_now, c.args.kind, rw (← c.self.view_is) at c.requires.applies)
 
 pub returns : goal.returns
 returns c =
-    record {
+    rw (← c.self.view_is)
+    (record {
       tree =
-          c.push.ensures.tree
-          ∙ ap (λ content. with_node (tree_of c.args.self.now) (record { number = c.args.node; parent = c.args.parent; name = c.args.name; content = content }))
-          c.new_content-content.ensures;
-      versions = c.push.ensures.versions;
-      rooms = λ file _. c.push.ensures.rooms file;
-      spare = omega (arith, c.push.ensures.spare);
-    }
+          c.make.ensures.tree bytes_now
+          ∙ ap (λ content. with_node (tree_of c.self.inside.nodes) (record { number = c.args.node; parent = c.args.parent; name = c.args.name; content = content }))
+          (c.content_of-content.ensures ∙ c.new_content.ensures);
+      versions = c.make.ensures.versions;
+      rooms = λ file _. rooms-inserted _ _ _ _ _ _ c.make.ensures file;
+      spare = omega (arith, c.make.ensures.spare);
+    })

@@ -1,28 +1,24 @@
 use Rattle.std.proofs.Common.{◌∙◌, ap}
-use Rattle.ktm_types.specs.declared.recorded.Node.{Node}
-use Rattle.ktm_world.specs.Tree.{child_of, with_node}
-use Rattle.txf_tree.specs.TreeState.{now_at, tree_in, tree_of, versions_in}
-use Rattle.txf_tree.proofs.Applying.{now_none}
-use Rattle.txf_tree.proofs.Changing.{tree_in-with, versions_in-with}
-use Rattle.txf_tree.proofs.InPlace.{rooms-with}
+use Rattle.ktm_world.specs.Tree.{with_node}
+use Rattle.txf_tree.specs.TreeState.{bytes_now, tree_of}
+use Rattle.txf_tree.proofs.Refilling.{rooms-inserted}
 use Rattle.txf_tree.proofs.tree.Tree.push.Goals as goal
 
 pub insert-requires-clause-number : goal.insert-requires-clause-number
-insert-requires-clause-number c =
-    ap (λ (n : Node). now_at c.args.self.now.nodes n.number) c.new.ensures.node ∙ now_none c.args.self.now.nodes c.args.node.number c.requires.number
+insert-requires-clause-number c = (bytes_now, rw (← c.self.view_is) at c.requires.number)
 
 pub insert-requires-clause-name : goal.insert-requires-clause-name
-insert-requires-clause-name c =
-    ap (λ (n : Node). child_of (tree_of c.args.self.now) n.parent n.name) c.new.ensures.node ∙ c.requires.name
+insert-requires-clause-name c = (bytes_now, rw (← c.self.view_is) at c.requires.name)
 
 pub returns-clause-tree : goal.returns-clause-tree
 returns-clause-tree c =
-    ap tree_in c.insert.ensures.nodes ∙ tree_in-with c.args.self.now.nodes c.new.result ∙ ap (with_node (tree_of c.args.self.now)) c.new.ensures.node
+    rw (← c.self.view_is)
+    (c.insert.ensures.tree bytes_now
+    ∙ ap (λ content. with_node (tree_of c.self.inside.nodes) (record { number = c.args.node.number; parent = c.args.node.parent; name = c.args.node.name; content = content }))
+    c.content_of.ensures)
 
 pub returns-clause-versions : goal.returns-clause-versions
-returns-clause-versions c = ap versions_in c.insert.ensures.nodes ∙ versions_in-with c.args.self.now.nodes c.new.result c.new.ensures.version
+returns-clause-versions c = rw (← c.self.view_is) c.insert.ensures.versions
 
 pub returns-clause-rooms : goal.returns-clause-rooms
-returns-clause-rooms c = λ file.
-    rooms-with c.args.self.now.nodes _ c.args.node.number c.new.result (ap (λ (n : Node). n.number) c.new.ensures.node)
-    (now_none c.args.self.now.nodes c.args.node.number c.requires.number) c.insert.ensures.nodes file
+returns-clause-rooms c = rw (← c.self.view_is) (rooms-inserted _ _ _ _ _ _ c.insert.ensures)

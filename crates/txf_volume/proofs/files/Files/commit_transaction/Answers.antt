@@ -7,10 +7,10 @@ use Rattle.txf_volume.specs.Held.{FilesHeld, files_of}
 use Rattle.txf_volume.specs.contracts.files.Files.{the_view}
 use Rattle.txf_volume.proofs.CommitTied.{Commits, can-own, files-are, right, tied-then}
 use Rattle.txf_volume.proofs.files.Files.commit_transaction.Goals as goal
-use Rattle.txf_volume.proofs.files.Files.commit_transaction.Goals.{After-take_overlay-own, After-commit_own-self-inside}
+use Rattle.txf_volume.proofs.files.Files.commit_transaction.Goals.{After-take-own, After-commit_own-self-inside}
 
 -- what was required, of the parts
-committable : (c : After-take_overlay-own) → MayCommit (files_of (the_view c.self.inside)) c.args.transaction
+committable : (c : After-take-own) → MayCommit (files_of (the_view c.self.inside)) c.args.transaction
 committable c = subst (λ (h : FilesHeld). MayCommit (files_of h) c.args.transaction) (sym c.self.view_is) c.requires
 
 -- the parts then
@@ -18,11 +18,11 @@ abbrev held' : After-commit_own-self-inside → FilesHeld
 held' c = the_view (record c.self.inside {
   tree = c.commit_own-self-inside.new.tree;
   versions = c.commit_own-self-inside.new.versions;
-  overlays = c.take_overlay-own.new.overlays;
+  overlays = c.take-own.new.self;
   opens = c.end_group.new.self;
   reserve = c.release-2.new.self;
   units = c.commit_own-self-inside.result;
-  counts = c.take_overlay-own.new.counts;
+  counts = c.take-own.new.counts;
 })
 
 -- what was done with them
@@ -33,8 +33,8 @@ done c = record {
   are = c.law_of_older.ensures;
   own = subst (λ (now : Option OverlayState). MatchOption now (AreMade (parts c.self.inside.tree c.release.new.self c.self.inside.units) (parts c.commit_own-self-inside.new.tree c.commit_own-self-inside.new.versions c.commit_own-self-inside.result) [])
       (λ o. AreMade (parts c.self.inside.tree c.release.new.self c.self.inside.units) (parts c.commit_own-self-inside.new.tree c.commit_own-self-inside.new.versions c.commit_own-self-inside.result) (own_of o)))
-      c.take_overlay-own.ensures.overlay c.commit_own-self-inside.ensures;
-  left = c.take_overlay-own.ensures.left;
+      c.take-own.ensures.overlay c.commit_own-self-inside.ensures;
+  left = c.take-own.ensures.left;
   files = c.end_group.ensures.opens;
   last = c.end_group.ensures.last;
   next = refl;
@@ -46,13 +46,13 @@ commit_own-self-inside-requires-clause-right c = right (the_view c.self.inside) 
 pub commit_own-self-inside-requires-clause-can : goal.commit_own-self-inside-requires-clause-can
 commit_own-self-inside-requires-clause-can c =
     can-own (the_view c.self.inside) c.self.inside.units c.self.inside.counts c.args.transaction c.self.invariant c.release.new.self c.release.ensures.opens c.release.ensures.held
-    (committable (goal.at.commit_own-self-inside-requires-clause-can c).After-take_overlay-own) c.law_of_older.ensures (omega arith) c.take_overlay-own.result c.take_overlay-own.ensures.overlay
+    (committable (goal.at.commit_own-self-inside-requires-clause-can c).After-take-own) c.law_of_older.ensures (omega arith) c.take-own.result c.take-own.ensures.overlay
 
 pub invariant_of-self : goal.invariant_of-self
 invariant_of-self c =
     let all = (goal.at.invariant_of-self c).After-commit_own-self-inside in
     tied-then (the_view c.self.inside) c.self.inside.units c.self.inside.counts c.args.transaction c.self.invariant (held' all) c.commit_own-self-inside.result c.release.new.self
-    (committable (goal.at.invariant_of-self c).After-take_overlay-own) (done all) c.law_of_forms.ensures c.law_of_other_trees.ensures c.take_overlay-own.new.counts c.take_overlay-own.ensures.counted
+    (committable (goal.at.invariant_of-self c).After-take-own) (done all) c.law_of_forms.ensures c.law_of_other_trees.ensures c.take-own.new.counts c.take-own.ensures.counted
     (record { nodes = c.release-2.ensures.nodes; places = c.release-2.ensures.places; uses = c.release-2.ensures.uses; dropped = c.release-2.ensures.dropped; moves = c.release-2.ensures.moves })
 
 pub returns : goal.returns
@@ -61,6 +61,6 @@ returns c =
     record {
       files =
           files-are (the_view c.self.inside) c.self.inside.units c.self.inside.counts c.args.transaction c.self.invariant (held' all) c.commit_own-self-inside.result c.release.new.self
-          (committable (goal.at.returns c).After-take_overlay-own) (done all)
+          (committable (goal.at.returns c).After-take-own) (done all)
           ∙ ap (λ (h : FilesHeld). files_committed (files_of h) c.args.transaction) c.self.view_is;
     }

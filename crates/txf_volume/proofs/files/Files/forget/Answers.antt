@@ -12,9 +12,9 @@ released c = record {
 
 pub invariant_of-self : goal.invariant_of-self
 invariant_of-self c =
-    tied-left _ c.self.inside.units c.self.inside.counts c.self.invariant c.args.transaction c.take_overlay.new.overlays.items c.release.new.self c.release-2.new.self c.end_group.new.self c.take_overlay.ensures.left (released c) c.release-2.ensures.opens c.release-2.ensures.held c.end_group.ensures.opens c.end_group.ensures.last
-    c.take_overlay.new.counts c.take_overlay.ensures.counted
+    tied-left _ c.self.inside.units c.self.inside.counts c.self.invariant c.args.transaction c.take.new.self c.release.new.self c.release-2.new.self c.end_group.new.self c.take.ensures.left (released c) c.release-2.ensures.opens c.release-2.ensures.held c.end_group.ensures.opens c.end_group.ensures.last
+    c.take.new.counts c.take.ensures.counted
 
 pub returns : goal.returns
 returns c = rw (← c.self.view_is)
-    (files-left _ c.self.inside.units c.self.inside.counts c.self.invariant c.args.transaction c.take_overlay.new.overlays.items c.release.new.self c.release-2.new.self c.end_group.new.self c.take_overlay.ensures.left (released c) c.release-2.ensures.opens c.release-2.ensures.held c.end_group.ensures.opens c.end_group.ensures.last)
+    (files-left _ c.self.inside.units c.self.inside.counts c.self.invariant c.args.transaction c.take.new.self c.release.new.self c.release-2.new.self c.end_group.new.self c.take.ensures.left (released c) c.release-2.ensures.opens c.release-2.ensures.held c.end_group.ensures.opens c.end_group.ensures.last)

@@ -16,5 +16,5 @@ if_some tree overlays id all (Some overlay) is = over-in tree overlays id overla
 
 pub returns-clause-over : goal.returns-clause-over
 returns-clause-over c =
-    subst (λ (h : FilesHeld). IfSome c.overlay_of.result (λ overlay. IsOver (tree_of h.tree) overlay.now)) c.self.view_is
-    (if_some _ _ c.args.transaction c.self.invariant.over c.overlay_of.result (rw (← c.deref.ensures.value) c.overlay_of.ensures))
+    subst (λ (h : FilesHeld). IfSome c.of.result (λ overlay. IsOver (tree_of h.tree) overlay.now)) c.self.view_is
+    (if_some _ _ c.args.transaction c.self.invariant.over c.of.result c.of.ensures)

@@ -12,8 +12,8 @@ use Rattle.txf_volume.proofs.TransactedChange.{counted-then, counts-fit, made-fi
 use Rattle.txf_volume.proofs.files.Files.own.Goals as goal
 use Rattle.txf_volume.proofs.files.Files.own.Goals.{After-without}
 
-pub change_own-requires-clause-can : goal.change_own-requires-clause-can
-change_own-requires-clause-can c = record {
+pub change-requires-clause-can : goal.change-requires-clause-can
+change-requires-clause-can c = record {
   over = search rules;
   applies =
       subst (λ tree. applies tree c.args.change ≡ true)
@@ -27,11 +27,11 @@ change_own-requires-clause-can c = record {
 }
 
 pub invariant_of-self-in-Err : goal.invariant_of-self-in-Err
-invariant_of-self-in-Err c = tied-bare _ c.self.inside.units c.self.inside.counts c.self.invariant c.change_own.new.overlays.items c.change_own.new.reserve c.in-Err.ensures.err c.in-Err.ensures.same
+invariant_of-self-in-Err c = tied-bare _ c.self.inside.units c.self.inside.counts c.self.invariant c.change.new.self c.change.new.reserve c.in-Err.ensures.err c.in-Err.ensures.same
 
 pub returns-in-Err-clause-same : goal.returns-in-Err-clause-same
 returns-in-Err-clause-same c = rw (← c.self.view_is)
-    (files-bare _ c.self.inside.units c.self.inside.counts c.self.invariant c.change_own.new.overlays.items c.change_own.new.reserve c.in-Err.ensures.err c.in-Err.ensures.same)
+    (files-bare _ c.self.inside.units c.self.inside.counts c.self.invariant c.change.new.self c.change.new.reserve c.in-Err.ensures.err c.in-Err.ensures.same)
 
 pub without-requires-clause-units : goal.without-requires-clause-units
 without-requires-clause-units c = units-part _ c.args.transaction c.self.inside.counts c.self.invariant.counted c.in-Ok.counted.before c.in-Ok.ensures.counted.before
@@ -47,7 +47,7 @@ fit : (c : After-without) → (c.without.result.units + c.in-Ok.counted.after.un
 fit c =
     counts-fit (the_view c.self.inside) c.self.inside.units c.self.inside.counts c.self.invariant c.law_of_own_forms.ensures c.args.transaction c.args.change c.fixed_bytes-fixed.result.now
     c.node_of.result c.node_of.ensures c.fixed_bytes-fixed.ensures
-    c.change_own.new.overlays.items c.change_own.new.reserve c.in-Ok.ensures.ok (subst (λ (h : FilesHeld). CanBeCounted (owned (files_of h) c.args.transaction c.args.change)) (sym c.self.view_is) c.requires.counted)
+    c.change.new.self c.change.new.reserve c.in-Ok.ensures.ok (subst (λ (h : FilesHeld). CanBeCounted (owned (files_of h) c.args.transaction c.args.change)) (sym c.self.view_is) c.requires.counted)
     c.in-Ok.counted c.in-Ok.ensures.counted c.without.result c.without.ensures.units c.without.ensures.nodes c.without.ensures.names
 
 pub with-self-inside-requires-clause-units : goal.with-self-inside-requires-clause-units
@@ -65,10 +65,10 @@ invariant_of-self c =
     rw c.next_after-next.ensures
     (made-tied (the_view c.self.inside) c.self.inside.units c.self.inside.counts c.self.invariant c.law_of_own_forms.ensures c.args.transaction c.args.change c.fixed_bytes-fixed.result.now
     c.node_of.result c.node_of.ensures c.fixed_bytes-fixed.ensures
-    c.change_own.new.overlays.items c.change_own.new.reserve c.in-Ok.ensures.ok counted c.with-self-inside.result
+    c.change.new.self c.change.new.reserve c.in-Ok.ensures.ok counted c.with-self-inside.result
     (counted-then (the_view c.self.inside) c.self.inside.units c.self.inside.counts c.self.invariant c.law_of_own_forms.ensures c.args.transaction c.args.change c.fixed_bytes-fixed.result.now
     c.node_of.result c.node_of.ensures c.fixed_bytes-fixed.ensures
-    c.change_own.new.overlays.items c.change_own.new.reserve c.in-Ok.ensures.ok counted
+    c.change.new.self c.change.new.reserve c.in-Ok.ensures.ok counted
     c.in-Ok.counted c.in-Ok.ensures.counted c.without.result c.without.ensures.units c.without.ensures.nodes c.without.ensures.names
     c.with-self-inside.result c.with-self-inside.ensures.units c.with-self-inside.ensures.nodes c.with-self-inside.ensures.names)
     (subst (λ (h : FilesHeld). HasTreeRoom h (Some c.args.change)) (sym c.self.view_is) c.requires.tree))
@@ -77,4 +77,4 @@ pub returns-in-Ok-clause-done : goal.returns-in-Ok-clause-done
 returns-in-Ok-clause-done c = rw (c.next_after-next.ensures, ← c.self.view_is)
     (made-files (the_view c.self.inside) c.self.inside.units c.self.inside.counts c.self.invariant c.law_of_own_forms.ensures c.args.transaction c.args.change c.fixed_bytes-fixed.result.now
     c.node_of.result c.node_of.ensures c.fixed_bytes-fixed.ensures
-    c.change_own.new.overlays.items c.change_own.new.reserve c.in-Ok.ensures.ok (subst (λ (h : FilesHeld). CanBeCounted (owned (files_of h) c.args.transaction c.args.change)) (sym c.self.view_is) c.requires.counted))
+    c.change.new.self c.change.new.reserve c.in-Ok.ensures.ok (subst (λ (h : FilesHeld). CanBeCounted (owned (files_of h) c.args.transaction c.args.change)) (sym c.self.view_is) c.requires.counted))

@@ -4,7 +4,7 @@ use Rattle.txf_volume.proofs.files.Files.with_tree.Goals as goal
 pub invariant_of-result : goal.invariant_of-result
 invariant_of-result c =
     tied _ (record {
-      overlays = c.new-2.ensures.items;
+      overlays = c.new-2.ensures;
       opens = c.new.ensures.opens;
       nodes = c.new-4.ensures.nodes;
       places = c.new-4.ensures.places;

@@ -1,0 +1,4 @@
+pub mod Told
+pub mod Status
+pub mod Lengths
+pub mod BlockDisk

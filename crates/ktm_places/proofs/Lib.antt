@@ -1,0 +1,3 @@
+mod Buckets
+mod FirstOf
+pub mod offered

@@ -1,0 +1,5 @@
+use Rattle.ktm_places.proofs.Buckets.{none_counted}
+use Rattle.ktm_places.proofs.places.Places.new.Goals as goal
+
+pub returns : goal.returns
+returns c = record { counted = none_counted 64 }

@@ -1,0 +1,4 @@
+-- Lemmas that other crates cite.
+pub mod Left
+pub mod Quiet
+pub mod Commits

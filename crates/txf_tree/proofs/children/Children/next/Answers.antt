@@ -1,5 +1,0 @@
-use Rattle.txf_tree.proofs.Reaching.{taken_of}
-use Rattle.txf_tree.proofs.children.Children.next.Goals as goal
-
-pub returns-clause-first : goal.returns-clause-first
-returns-clause-first c = rw c.skip.ensures (taken_of _ c.args.self.now c.first-first.ensures.first)

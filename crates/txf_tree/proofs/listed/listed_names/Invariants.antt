@@ -1,7 +1,0 @@
-use Rattle.std.proofs.Common.{◌≡◌, map, take}
-use Rattle.txf_tree.specs.Children.{entry_seen}
-use Rattle.txf_tree.specs.Found.{shown_text}
-use Rattle.txf_tree.proofs.listed.listed_names.Given as goal
-
-abbrev pub invariant-loop-entry : goal.invariant-loop-entry
-invariant-loop-entry l = l.texts ≡ map shown_text (map entry_seen (take l.entry-index l.entry-items))

@@ -1,6 +1,0 @@
-use Rattle.std.proofs.Common.{◌∙◌, sym}
-use Rattle.txf_tree.proofs.Numbering.{length-nodes_of}
-use Rattle.txf_tree.proofs.nodes.Nodes.len.Goals as goal
-
-pub returns : goal.returns
-returns c = rw (← c.self.view_is) (c.len.ensures ∙ c.self.invariant.count ∙ sym (length-nodes_of _ _ c.self.invariant.all))

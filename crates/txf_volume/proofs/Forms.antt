@@ -1,1 +1,0 @@
--- Changes in the form in which they are committed.

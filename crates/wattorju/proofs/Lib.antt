@@ -1,0 +1,4 @@
+pub mod Bytes
+pub mod Asking
+pub mod Labels
+pub mod Restarting

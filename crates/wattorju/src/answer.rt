@@ -1,0 +1,154 @@
+// What the machine's replies say, by what a call tells. No other reply comes.
+ghost use Rattle.std.specs.Prelude.{◌≡◌, IfOk};
+ghost use Rattle.ktm_forms.specs.Tells.{IsTold, a_guid, a_notification, a_size, a_transaction, bytes, keys, names, nothing, progress};
+ghost use Rattle.ktm_types.specs.declared.reply.Reply.TheVariants.{Contents, Done, Guid, Keys, Names, Size};
+ghost use Rattle.ktm_world.specs.KeyCalls.{reply_of_value};
+ghost use Rattle.wattorju.specs.Calls.{answer_of};
+ghost use Rattle.wattorju.specs.Told.{reply_of_information, reply_of_notification, reply_of_state};
+
+use crate::Failure;
+use crate::told::{CommitState, Notification, TransactionInformation};
+use ktm_base::{Bytes, NoMemory, Refusal, TextList};
+use ktm_types::Reply;
+use uuid::Uuid;
+
+// The reply, or that it is out of memory.
+fn told(answer: Result<Reply, NoMemory>) -> Result<Reply, Failure>
+    ensures { answer_of result (λ reply. reply) ≡ answer }
+{
+    match answer {
+        Ok(reply) => Ok(reply),
+        Err(NoMemory) => Err(Failure::NoMemory),
+    }
+}
+
+/// That it is done.
+pub fn to_done(answer: Result<Reply, NoMemory>) -> Result<(), Failure>
+    requires { IfOk answer (λ reply. IsTold reply nothing) }
+    ensures { answer_of result (λ done. Done) ≡ answer }
+{
+    match told(answer)? {
+        Reply::Done => Ok(()),
+        Reply::Refused(refusal) => Err(Failure::Refused(refusal)),
+        _ => unreachable!(),
+    }
+}
+
+/// The GUID of what was made.
+pub fn to_guid(answer: Result<Reply, NoMemory>) -> Result<Uuid, Failure>
+    requires { IfOk answer (λ reply. IsTold reply a_guid) }
+    ensures { answer_of result Guid ≡ answer }
+{
+    match told(answer)? {
+        Reply::Guid(guid) => Ok(guid),
+        Reply::Refused(refusal) => Err(Failure::Refused(refusal)),
+        _ => unreachable!(),
+    }
+}
+
+/// That a transaction has committed, or that it waits.
+pub fn to_progress(answer: Result<Reply, NoMemory>) -> Result<CommitState, Failure>
+    requires { IfOk answer (λ reply. IsTold reply progress) }
+    ensures { answer_of result reply_of_state ≡ answer }
+{
+    match told(answer)? {
+        Reply::Committed => Ok(CommitState::Committed),
+        Reply::Pending => Ok(CommitState::Pending),
+        Reply::Refused(refusal) => Err(Failure::Refused(refusal)),
+        _ => unreachable!(),
+    }
+}
+
+/// How a transaction stands.
+pub fn to_information(answer: Result<Reply, NoMemory>) -> Result<TransactionInformation, Failure>
+    requires { IfOk answer (λ reply. IsTold reply a_transaction) }
+    ensures { answer_of result reply_of_information ≡ answer }
+{
+    match told(answer)? {
+        Reply::Information {
+            transaction,
+            state,
+            outcome,
+        } => Ok(TransactionInformation {
+            transaction,
+            state,
+            outcome,
+        }),
+        Reply::Refused(refusal) => Err(Failure::Refused(refusal)),
+        _ => unreachable!(),
+    }
+}
+
+/// Bytes.
+pub fn to_bytes(answer: Result<Reply, NoMemory>) -> Result<Bytes, Failure>
+    requires { IfOk answer (λ reply. IsTold reply bytes) }
+    ensures { answer_of result Contents ≡ answer }
+{
+    match told(answer)? {
+        Reply::Contents(bytes) => Ok(bytes),
+        Reply::Refused(refusal) => Err(Failure::Refused(refusal)),
+        _ => unreachable!(),
+    }
+}
+
+/// How many bytes a file has.
+pub fn to_size(answer: Result<Reply, NoMemory>) -> Result<u64, Failure>
+    requires { IfOk answer (λ reply. IsTold reply a_size) }
+    ensures { answer_of result Size ≡ answer }
+{
+    match told(answer)? {
+        Reply::Size(size) => Ok(size),
+        Reply::Refused(refusal) => Err(Failure::Refused(refusal)),
+        _ => unreachable!(),
+    }
+}
+
+/// Names in a directory.
+pub fn to_names(answer: Result<Reply, NoMemory>) -> Result<TextList, Failure>
+    requires { IfOk answer (λ reply. IsTold reply names) }
+    ensures { answer_of result Names ≡ answer }
+{
+    match told(answer)? {
+        Reply::Names(names) => Ok(names),
+        Reply::Refused(refusal) => Err(Failure::Refused(refusal)),
+        _ => unreachable!(),
+    }
+}
+
+/// Keys.
+pub fn to_keys(answer: Result<Reply, NoMemory>) -> Result<TextList, Failure>
+    requires { IfOk answer (λ reply. IsTold reply keys) }
+    ensures { answer_of result Keys ≡ answer }
+{
+    match told(answer)? {
+        Reply::Keys(keys) => Ok(keys),
+        Reply::Refused(refusal) => Err(Failure::Refused(refusal)),
+        _ => unreachable!(),
+    }
+}
+
+/// The value of a key, or that it has none.
+pub fn to_value(answer: Result<Reply, NoMemory>) -> Result<Option<Bytes>, Failure>
+    requires { IfOk answer (λ reply. IsTold reply bytes) }
+    ensures { answer_of result reply_of_value ≡ answer }
+{
+    match told(answer)? {
+        Reply::Contents(value) => Ok(Some(value)),
+        Reply::Refused(Refusal::NotFound) => Ok(None),
+        Reply::Refused(refusal) => Err(Failure::Refused(refusal)),
+        _ => unreachable!(),
+    }
+}
+
+/// A notification, or that none waits.
+pub fn to_notification(answer: Result<Reply, NoMemory>) -> Result<Option<Notification>, Failure>
+    requires { IfOk answer (λ reply. IsTold reply a_notification) }
+    ensures { answer_of result reply_of_notification ≡ answer }
+{
+    match told(answer)? {
+        Reply::Notification { kind, enlistment } => Ok(Some(Notification { kind, enlistment })),
+        Reply::Refused(Refusal::WaitTimeout) => Ok(None),
+        Reply::Refused(refusal) => Err(Failure::Refused(refusal)),
+        _ => unreachable!(),
+    }
+}
