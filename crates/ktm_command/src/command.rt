@@ -1,7 +1,7 @@
 // The run of the words.
-ghost use Rattle.std.specs.Prelude.{◌≡◌, ◌⊎◌, map, true, false, IfOk, string_bytes};
+ghost use Rattle.std.specs.Prelude.{◌≡◌, ◌⊎◌, None, map, IfOk, string_bytes};
 ghost use Rattle.std.specs.Process.{exit_status};
-ghost use Rattle.ktm_run.specs.Form.{is_run};
+ghost use Rattle.ktm_run.specs.Form.{form_of};
 ghost use Rattle.ktm_command.specs.Command.{number_of};
 
 use crate::files::{disk, script};
@@ -40,8 +40,8 @@ pub fn run<R: Files<File = File> + Print>(
     words: &[String],
 ) -> Result<Status, NoMemory>
     ensures form { IfOk result (λ status.
-        (is_run (map string_bytes words.now) ≡ true) ⊎ (status ≡ Status.Usage) ⊎ (status ≡ Status.SinkFault)) }
-    ensures usage { IfOk result (λ status. status ≡ Status.Usage → is_run (map string_bytes words.now) ≡ false) }
+        form_of (map string_bytes words.now) ≡ None → (status ≡ Status.Usage) ⊎ (status ≡ Status.SinkFault)) }
+    ensures usage { IfOk result (λ status. status ≡ Status.Usage → form_of (map string_bytes words.now) ≡ None) }
 {
     let mut source = script(alloc, rt, words)?;
     let mut sink = StdSink::new(rt);

@@ -20,23 +20,23 @@ use Rattle.ktm_types.specs.EventGrammar.{IsIdOf, IsSetTo, IsSettingOf, AreSettin
 use Rattle.ktm_types.specs.Sizes.{set_to_size, setting_size, put_size, change_size, record_size, part_size, done_size, event_size, group_size}
 
 -- one thing and then another take the bytes of both
-length-then : (m n : ℕ) (First Second : List ℕ → Type 0) (bytes : List ℕ) → ((first : List ℕ) → First first → length first ≡ m) → ((second : List ℕ) → Second second → length second ≡ n)
+pub length-then : (m n : ℕ) (First Second : List ℕ → Type 0) (bytes : List ℕ) → ((first : List ℕ) → First first → length first ≡ m) → ((second : List ℕ) → Second second → length second ≡ n)
     → Then First Second bytes → length bytes ≡ m + n
 length-then m n First Second bytes one two both = ap length both.2 ∙ length-append both.0 both.1 ∙ ap₂ ◌+◌ (one both.0 both.3) (two both.1 both.4)
 
 -- a tag is one byte
-length-tagged : (tag n : ℕ) (Rest : List ℕ → Type 0) (bytes : List ℕ) → ((rest : List ℕ) → Rest rest → length rest ≡ n) → Tagged tag Rest bytes → length bytes ≡ 1 + n
+pub length-tagged : (tag n : ℕ) (Rest : List ℕ → Type 0) (bytes : List ℕ) → ((rest : List ℕ) → Rest rest → length rest ≡ n) → Tagged tag Rest bytes → length bytes ≡ 1 + n
 length-tagged tag n Rest bytes sized tagged = let rest = sized tagged.0 tagged.2 in ap length tagged.1 ∙ omega (arith, rest)
 
 -- a row of things, of each of which the size is known
-length-row : {X : Type 0} (Item : X → List ℕ → Type 0) (size : X → ℕ) → ((x : X) (bytes : List ℕ) → Item x bytes → length bytes ≡ size x)
+pub length-row : {X : Type 0} (Item : X → List ℕ → Type 0) (size : X → ℕ) → ((x : X) (bytes : List ℕ) → Item x bytes → length bytes ≡ size x)
     → (xs : List X) (bytes : List ℕ) → IsRow Item xs bytes → length bytes ≡ sum_by size xs
 length-row Item size sized [] bytes none = ap length none
 length-row Item size sized (x ∷ xs) bytes row =
     length-then (size x) (sum_by size xs) (Item x) (IsRow Item xs) bytes (sized x) (length-row Item size sized xs) row ∙ sym (sum_by-cons size x xs)
 
 -- a list has its count in four bytes
-length-list : {X : Type 0} (Item : X → List ℕ → Type 0) (size : X → ℕ) → ((x : X) (bytes : List ℕ) → Item x bytes → length bytes ≡ size x)
+pub length-list : {X : Type 0} (Item : X → List ℕ → Type 0) (size : X → ℕ) → ((x : X) (bytes : List ℕ) → Item x bytes → length bytes ≡ size x)
     → (xs : List X) (bytes : List ℕ) → IsListOf Item xs bytes → length bytes ≡ 4 + sum_by size xs
 length-list Item size sized xs bytes items =
     length-then 4 (sum_by size xs) (IsU32 (length xs)) (IsRow Item xs) bytes (λ count long. long.long) (length-row Item size sized xs) items
@@ -51,10 +51,10 @@ length-setting : (setting : Keyed (Option (List ℕ))) (bytes : List ℕ) → Is
 length-setting setting bytes is =
     length-then (1 + length setting.key) (set_to_size setting.value) _ _ bytes (λ key same. ap length same ∙ omega arith) (length-set_to setting.value) is.parts
 
-length-id : (id : Id) (bytes : List ℕ) → IsIdOf id bytes → length bytes ≡ 8
+pub length-id : (id : Id) (bytes : List ℕ) → IsIdOf id bytes → length bytes ≡ 8
 length-id id bytes is = length-then 4 4 _ _ bytes (λ boot four. four.long) (λ number four. four.long) is.numbers
 
-length-text : (text bytes : List ℕ) → IsTextOf text bytes → length bytes ≡ 1 + length text
+pub length-text : (text bytes : List ℕ) → IsTextOf text bytes → length bytes ≡ 1 + length text
 length-text text bytes is = ap length is ∙ omega arith
 
 length-kind : (kind : NodeKind) (bytes : List ℕ) → IsKindOf kind bytes → length bytes ≡ 1
@@ -88,7 +88,7 @@ length-change (Move node parent name) bytes is =
     ∙ omega arith
 length-change (Drop node) bytes is = length-tagged 5 8 _ bytes (λ rest number. number.long) is
 
-length-record : (enlistment manager : Id) (information bytes : List ℕ) → IsRecordOf enlistment manager information bytes → length bytes ≡ record_size information
+pub length-record : (enlistment manager : Id) (information bytes : List ℕ) → IsRecordOf enlistment manager information bytes → length bytes ≡ record_size information
 length-record enlistment manager information bytes is =
     length-then 8 (9 + length information) _ _ bytes (length-id enlistment)
     (λ second more. length-then 8 (1 + length information) _ _ second (length-id manager) (length-text information) more ∙ omega arith) is
@@ -97,7 +97,7 @@ length-record enlistment manager information bytes is =
 length-settings : (settings : List (Keyed (Option (List ℕ)))) (bytes : List ℕ) → AreSettingsOf settings bytes → length bytes ≡ 4 + sum_by setting_size settings
 length-settings settings bytes is = length-list IsSettingOf setting_size length-setting settings bytes is.listed
 
-length-part : (part : Part) (bytes : List ℕ) → IsPartOf part bytes → length bytes ≡ part_size part
+pub length-part : (part : Part) (bytes : List ℕ) → IsPartOf part bytes → length bytes ≡ part_size part
 length-part (Enlistment enlistment manager information) bytes is = length-tagged 1 (record_size information) _ bytes (length-record enlistment manager information) is
 length-part (Changes changes) bytes is =
     length-tagged 2 (4 + sum_by change_size changes) _ bytes (length-list IsChangeOf change_size length-change changes) is ∙ omega arith

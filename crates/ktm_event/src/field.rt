@@ -1,7 +1,7 @@
 // Fields that several kinds of thing have: numbers, Ids and texts.
 ghost use Rattle.std.specs.Prelude.{◌≡◌, ◌↔◌, ◌+◌, ◌≤◌, IsTrue, vec_len, vec_capacity};
 ghost use Rattle.ktm_base.specs.Grammar.{IsTextOf, IsU8, IsU32, IsU64};
-ghost use Rattle.ktm_codec.specs.Spans.{Adds};
+ghost use Rattle.ktm_codec.specs.Spans.{Adds, Reads};
 ghost use Rattle.ktm_types.specs.EventGrammar.{IsIdOf};
 ghost use Rattle.ktm_types.specs.Values.{IsText, IsTextByte};
 ghost use Rattle.ktm_event.specs.Reading.{Gives, IsKeyOf};
@@ -35,19 +35,26 @@ pub(crate) fn number_at(bytes: &[u8], at: usize) -> Result<(u64, usize), EventFa
     u64_at(bytes, at).ok_or(EventFault::NotAnEvent)
 }
 
+/// The Id at a place, and the place behind it.
+pub fn read_id(bytes: &[u8], at: usize) -> Option<(Id, usize)>
+    ensures { Reads IsIdOf bytes.now at result }
+{
+    let (boot, after) = u32_at(bytes, at)?;
+    let (number, end) = u32_at(bytes, after)?;
+    if boot < FIRST || number < FIRST {
+        return None;
+    }
+    Some((Id { boot, number }, end))
+}
+
 pub(crate) fn id_at(bytes: &[u8], at: usize) -> Result<(Id, usize), EventFault>
     ensures { Gives IsIdOf bytes.now at result }
 {
-    let (boot, after) = count_at(bytes, at)?;
-    let (number, end) = count_at(bytes, after)?;
-    if boot < FIRST || number < FIRST {
-        return Err(EventFault::NotAnEvent);
-    }
-    Ok((Id { boot, number }, end))
+    read_id(bytes, at).ok_or(EventFault::NotAnEvent)
 }
 
-// Writes at the end; it takes no memory.
-pub(crate) fn put_id(out: &mut Vec<u8>, id: Id)
+/// Writes an Id at the end. It takes no memory.
+pub fn put_id(out: &mut Vec<u8>, id: Id)
     requires id { IsSpellableId id }
     requires room { vec_len out.old + 8 ≤ vec_capacity out.old }
     ensures adds { Adds (IsIdOf id) out.old.items out.new.items }
@@ -86,7 +93,8 @@ fn is_text_byte(byte: u8) -> bool
     (0x20..=0x7e).contains(&byte) && byte != b'"'
 }
 
-fn is_text(text: &[u8]) -> bool
+/// Has a key only the characters of a text.
+pub fn is_text(text: &[u8]) -> bool
     ensures { IsTrue result ↔ IsText text.now }
 {
     text.iter().all(|byte| is_text_byte(*byte))

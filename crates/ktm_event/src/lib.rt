@@ -17,8 +17,13 @@ mod work;
 
 pub use event::{read_event, write_event};
 pub use fault::EventFault;
+pub use field::{is_text, put_id, read_id};
 pub use group::read_group;
 pub use kept::Events;
 pub use laws::{law_of_events, law_of_groups, law_of_kept_events, law_of_round_trip};
+pub use part::{
+    part_at, put_enlistment, put_names_and_files_part, put_part, put_record, put_settings_part,
+    record_at,
+};
 pub use size::{event_size, held_size, work_size};
 pub use work::{FileBytes, Stage, Work, WrittenFiles};

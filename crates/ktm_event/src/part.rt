@@ -25,8 +25,8 @@ const CHANGES: u8 = 2;
 
 const SETTINGS: u8 = 3;
 
-// An enlistment, its resource manager and its recovery information.
-pub(crate) fn record_at(
+/// The enlistment at a place, its resource manager and its recovery information, and the place behind them.
+pub fn record_at(
     alloc: Global,
     bytes: &[u8],
     at: usize,
@@ -39,7 +39,8 @@ pub(crate) fn record_at(
     Ok(((enlistment, manager, information), end))
 }
 
-pub(crate) fn part_at(alloc: Global, bytes: &[u8], at: usize) -> Result<(Part, usize), EventFault>
+/// The part at a place, and the place behind it.
+pub fn part_at(alloc: Global, bytes: &[u8], at: usize) -> Result<(Part, usize), EventFault>
     ensures { Gives IsPartOf bytes.now at result }
 {
     let (tag, after) = tag_at(bytes, at)?;
@@ -93,7 +94,9 @@ pub(crate) fn done_at(bytes: &[u8], at: usize) -> Result<(DonePart, usize), Even
 
 // Each function below writes at the end, and takes no memory where there is room for what it writes.
 
-pub(crate) fn put_record(
+/// Writes an enlistment, its resource manager and its recovery information at the end. It takes no memory where there is
+/// room for them, and where memory is not to be had a front of them may have been written.
+pub fn put_record(
     out: &mut Vec<u8>,
     enlistment: Id,
     manager: Id,
@@ -112,7 +115,9 @@ pub(crate) fn put_record(
     Ok(())
 }
 
-pub(crate) fn put_enlistment(
+/// Writes the part of an enlistment at the end. It takes no memory where there is room for it, and where memory is not to be
+/// had a front of it may have been written.
+pub fn put_enlistment(
     out: &mut Vec<u8>,
     enlistment: Id,
     manager: Id,
@@ -128,7 +133,9 @@ pub(crate) fn put_enlistment(
     put_record(out, enlistment, manager, information)
 }
 
-pub(crate) fn put_names_and_files_part<F: WrittenFiles>(
+/// Writes the part of the files at the end: changes of names, and behind them the bytes of the files that were written. It
+/// takes no memory where there is room for it, and where memory is not to be had a front of it may have been written.
+pub fn put_names_and_files_part<F: WrittenFiles>(
     out: &mut Vec<u8>,
     names: &[Change],
     files: &F,
@@ -154,7 +161,9 @@ fn put_changes_part(out: &mut Vec<u8>, changes: &[Change]) -> Result<(), NoMemor
     put_changes(out, changes)
 }
 
-pub(crate) fn put_settings_part(out: &mut Vec<u8>, settings: &[Setting]) -> Result<(), NoMemory>
+/// Writes the part of the keys at the end. It takes no memory where there is room for it, and where memory is not to be had a
+/// front of it may have been written.
+pub fn put_settings_part(out: &mut Vec<u8>, settings: &[Setting]) -> Result<(), NoMemory>
     requires { AreSpellableSettings settings.now }
     ensures adds { OnOk result (Adds (IsPartOf (Settings settings.now)) out.old.items out.new.items) }
     ensures len { OnOk result (vec_len out.new ≡ vec_len out.old + 5 + sum_by setting_size settings.now) }
@@ -165,7 +174,9 @@ pub(crate) fn put_settings_part(out: &mut Vec<u8>, settings: &[Setting]) -> Resu
     put_settings(out, settings)
 }
 
-pub(crate) fn put_part(out: &mut Vec<u8>, part: &Part) -> Result<(), NoMemory>
+/// Writes the part at the end. It takes no memory where there is room for it, and where memory is not to be had a front of it
+/// may have been written.
+pub fn put_part(out: &mut Vec<u8>, part: &Part) -> Result<(), NoMemory>
     requires { IsSpellablePart part.now }
     ensures adds { OnOk result (Adds (IsPartOf part.now) out.old.items out.new.items) }
     ensures len { OnOk result (vec_len out.new ≡ vec_len out.old + part_size part.now) }

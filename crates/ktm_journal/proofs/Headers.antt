@@ -1,15 +1,12 @@
--- What lies before the log, as it was read.
+-- The header of an image, as it was read.
 use Rattle.std.specs.Prelude.{IfSome}
-use Rattle.std.proofs.Common.{◌≡◌, ◌↔◌, ℕ, ◌+◌, ◌%◌, ◌≤◌, ◌==◌, Bool, Option, None, Some, List, length, get_or, take, drop, IsTrue, IfSome, slice_range, refl, sym, ◌∙◌, ap, arith, length-take}
+use Rattle.std.proofs.Common.{◌≡◌, ℕ, ◌+◌, ◌≤◌, Option, None, Some, List, length, get_or, take, drop, slice_range, refl, sym, ◌∙◌, ap, arith, length-take}
 use Rattle.std.proofs.lemmas.List.{get_or-take}
-use Rattle.std.proofs.lemmas.Slice.Eq.{slice_eq-Decides}
-use Rattle.std.specs.Cmp.{unsigned_Decides}
 use Rattle.std.specs.Int.{from_le_bytes, w16, w32}
-use lib.Pointwise.{pointwise}
 use Rattle.ktm_base.specs.Disk.{DiskState}
 use Rattle.ktm_log.proofs.Frames.{first_at}
 use Rattle.ktm_journal.specs.declared.header.Header.{Header}
-use Rattle.ktm_journal.specs.Image.{IsHeaded, empty_snapshot, snapshot_of}
+use Rattle.ktm_journal.specs.Image.{IsHeaded}
 use Rattle.ktm_journal.specs.Header.{BeginsAnImage, IsFront}
 use Rattle.ktm_journal.proofs.Formats.{header_part}
 
@@ -21,12 +18,11 @@ module _ (header selector : List ℕ) (len : ℕ) where
     selector_at : get_or selector 0 0 ≡ get_or bytes 2048 0
     selector_at = ap (λ (l : List ℕ). get_or l 0 0) selector_is ∙ get_or-take 1 (drop 2048 bytes) 0 0 (omega arith) ∙ first_at bytes 2048
 
-    to_front : (units image : ℕ) → IsHeaded units image bytes → IsFront units image len (get_or selector 0 0) header
-    to_front units image headed = record {
+    to_front : (units image selected : ℕ) → IsHeaded units image selected bytes → IsFront units image len header
+    to_front units image selected headed = record {
       least = headed.least;
       most = headed.most;
       long = omega (arith, headed.long);
-      even = ap (λ n. n % 2) selector_at ∙ headed.selector;
       header_is = record {
         long = ap (λ (l : List ℕ). length l) front_is ∙ omega (arith, length-take 18 bytes, headed.long);
         magic = sym (part 0 8 (omega arith)) ∙ headed.magic;
@@ -36,8 +32,8 @@ module _ (header selector : List ℕ) (len : ℕ) where
       };
     }
 
-    from_front : (units image : ℕ) → IsFront units image len (get_or selector 0 0) header → IsHeaded units image bytes
-    from_front units image front = record {
+    from_front : (units image selected : ℕ) → IsFront units image len header → selected ≡ get_or selector 0 0 → IsHeaded units image selected bytes
+    from_front units image selected front is = record {
       least = front.least;
       most = front.most;
       long = omega (arith, front.long);
@@ -45,27 +41,17 @@ module _ (header selector : List ℕ) (len : ℕ) where
       layout = ap (λ (l : List ℕ). from_le_bytes w32 l) (part 8 4 (omega arith)) ∙ front.header_is.layout;
       units_are = ap (λ (l : List ℕ). from_le_bytes w32 l) (part 12 4 (omega arith)) ∙ front.header_is.units_are;
       number = ap (λ (l : List ℕ). from_le_bytes w16 l) (part 16 2 (omega arith)) ∙ front.header_is.number;
-      selector = ap (λ n. n % 2) (sym selector_at) ∙ front.even;
+      selector_is = sym (is ∙ selector_at);
     }
 
-    begins : (found : Option Header) → IfSome found (λ h. IsFront h.units h.image len (get_or selector 0 0) header)
-        → (found ≡ None → (units image : ℕ) → IsFront units image len (get_or selector 0 0) header → ⊥) → BeginsAnImage found bytes
-    begins None some none = λ units image headed. none refl units image (to_front units image headed)
-    begins (Some h) some none = from_front h.units h.image some
+    begins : (found : Option Header) → IfSome found (λ h. IsFront h.units h.image len header × (h.selector ≡ get_or selector 0 0))
+        → (found ≡ None → (units image : ℕ) → IsFront units image len header → ⊥) → BeginsAnImage found bytes
+    begins None some none = λ units image selected headed. none refl units image (to_front units image selected headed)
+    begins (Some h) some none = from_front h.units h.image h.selector some.0 some.1
 
   -- where the bytes are told
   pub header_told : (found : Option Header) (o : Option DiskState) → IfSome o (λ s. len ≡ length s.seen) → IfSome o (λ s. header ≡ slice_range s.seen 0 18)
-      → IfSome o (λ s. selector ≡ slice_range s.seen 2048 2049) → IfSome found (λ h. IsFront h.units h.image len (get_or selector 0 0) header)
-      → (found ≡ None → (units image : ℕ) → IsFront units image len (get_or selector 0 0) header → ⊥) → IfSome o (λ s. BeginsAnImage found s.seen)
+      → IfSome o (λ s. selector ≡ slice_range s.seen 2048 2049) → IfSome found (λ h. IsFront h.units h.image len header × (h.selector ≡ get_or selector 0 0))
+      → (found ≡ None → (units image : ℕ) → IsFront units image len header → ⊥) → IfSome o (λ s. BeginsAnImage found s.seen)
   header_told found None long front at some none = tt
   header_told found (Some s) long front at some none = begins s.seen long front at found some none
-
--- the test of the snapshot
-pub snapshot_told : (o : Option DiskState) (read empty : List ℕ) (is : Bool) → is ≡ pointwise (λ x y. x == y) read empty → empty ≡ empty_snapshot
-    → IfSome o (λ s. read ≡ slice_range s.seen 4096 4140) → IfSome o (λ s. IsTrue is ↔ (snapshot_of s.seen ≡ empty_snapshot))
-snapshot_told None read empty is eq empty_is read_is = tt
-snapshot_told (Some s) read empty is eq empty_is read_is =
-    let (there, back) = slice_eq-Decides unsigned_Decides read empty is eq in (
-      λ yes. sym read_is ∙ there yes ∙ empty_is,
-      λ same. back (read_is ∙ same ∙ sym empty_is),
-    )

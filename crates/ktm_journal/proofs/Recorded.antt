@@ -14,8 +14,8 @@ use Rattle.ktm_types.specs.EventGrammar.{IsGroupOf}
 use Rattle.ktm_types.specs.Sizes.{frame_size}
 use Rattle.ktm_types.specs.Groups.{Group, is_full}
 use Rattle.ktm_journal.specs.Append.{RecordLeaves, Records, has_no_room, with_group}
-use Rattle.ktm_journal.specs.Image.{IsFormatted, JournalState, log_area}
-use Rattle.ktm_journal.proofs.offered.Images.{group_added, group_or_not, stays_formatted}
+use Rattle.ktm_journal.specs.Image.{IsHeaded, JournalState, half_of, log_area}
+use Rattle.ktm_journal.proofs.offered.Images.{group_added, group_or_not, stays_headed}
 
 -- a group has room where its frame has it
 has_room : (len end size : ℕ) (group : Group) → 1 ≤ length group → size ≡ frame_size group → end + size + 1 ≤ len → is_full (len - end) group ≡ false
@@ -43,16 +43,16 @@ module _ (j : JournalState) (events : EventsState) (body : List ℕ) (some : 1 �
       ∙ ap (λ n. record j { log = record j.log { end = j.log.end + n }; events = j.events + events.count }) (size group held)
       ∙ ap (λ n. record j { log = record j.log { end = j.log.end + frame_size group }; events = j.events + n }) (sym held.counted)
 
-  pub recorded : (l : LogState) (count : ℕ) (o n : Option DiskState) (s t : DiskStatus) → count ≡ j.events + events.count → j.log.area ≡ log_area j.units → IfSome o (λ s. IsFormatted j.units j.image s.seen)
+  pub recorded : (l : LogState) (count : ℕ) (o n : Option DiskState) (s t : DiskStatus) → count ≡ j.events + events.count → j.log.area ≡ log_area j.units (half_of j.selector) → IfSome o (λ s. IsHeaded j.units j.image j.selector s.seen)
       → Appends body (on j.log o s) (on l n t) → Records events (on j o s) (on (record j { log = l; events = count }) n t)
-  recorded l count o n s t counted area formatted appends = record {
-    same = record { units = refl; image = refl; area = ap (λ (l : LogState). l.area) appends.log };
+  recorded l count o n s t counted area headed appends = record {
+    same = record { units = refl; image = refl; selector = refl; area = ap (λ (l : LogState). l.area) appends.log };
     room = room_of appends.room;
     grows = λ group held. ap (λ k. record j { log = l; events = k }) counted ∙ grown l group held appends.log;
-    adds = λ log group held at.
-        group_added j log group events.payload (is_group group held (some_of group held)) l count o n (ap (λ (l : LogState). l.area) appends.log) at
+    adds = λ snapshot log group held at.
+        group_added j snapshot log group events.payload (is_group group held (some_of group held)) l count o n (ap (λ (l : LogState). l.area) appends.log) at
         (λ ps rests. appends.frame ps events.payload body_is rests) appends.elsewhere;
-    formatted = stays_formatted j o n area formatted appends.elsewhere;
+    headed = stays_headed j o n area headed appends.elsewhere;
     synced = appends.synced;
   }
 
@@ -61,8 +61,8 @@ module _ (j : JournalState) (events : EventsState) (body : List ℕ) (some : 1 �
   unrecorded Down l o n s t cut = record {
     same = ap (λ (l : LogState). record j { log = l }) cut.log;
     room = room_of cut.room;
-    either = λ log group held at.
-        group_or_not j log group events.payload (is_group group held (some_of group held)) o n at (λ ps rests. cut.either ps events.payload body_is rests);
+    either = λ snapshot log group held at.
+        group_or_not j snapshot log group events.payload (is_group group held (some_of group held)) o n at (λ ps rests. cut.either ps events.payload body_is rests);
     calls = cut.calls;
   }
   unrecorded Full l o n s t full = record {

@@ -1,4 +1,5 @@
 -- Lemmas that other crates cite.
+pub mod Halves
 pub mod Images
 pub mod GroupSizes
 pub mod OneImage

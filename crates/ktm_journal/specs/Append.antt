@@ -1,5 +1,5 @@
 -- What an append to a journal leaves, by its answer.
-use Rattle.std.specs.Prelude.{◌≡◌, ◌+◌, ◌-◌, Bool, true, false, List, [], ◌∷◌, ◌++◌, length, Result, Ok, Err, IfSome, IsSomeAnd}
+use Rattle.std.specs.Prelude.{◌≡◌, ℕ, ◌+◌, ◌-◌, Bool, true, false, List, [], ◌∷◌, ◌++◌, length, Result, Ok, Err, IfSome, IsSomeAnd}
 use Rattle.ktm_base.specs.Disk.{DeviceCalls}
 use Rattle.ktm_event.specs.Kept.{EventsState, Holds}
 use Rattle.ktm_log.specs.declared.fault.AppendFault.{AppendFault}
@@ -7,7 +7,7 @@ use Rattle.ktm_log.specs.declared.fault.AppendFault.TheVariants.{Down, Full}
 use Rattle.ktm_log.specs.OnDisk.{AllSynced, OnDisk}
 use Rattle.ktm_types.specs.Sizes.{frame_size}
 use Rattle.ktm_types.specs.Groups.{Group, is_full}
-use Rattle.ktm_journal.specs.Image.{IsFormatted, JournalAt, JournalState, LeavesGroupOrNot}
+use Rattle.ktm_journal.specs.Image.{IsHeaded, JournalAt, JournalState, LeavesGroupOrNot}
 
 -- has the log no room for this group
 abbrev pub has_no_room : JournalState → Group → Bool
@@ -21,6 +21,7 @@ with_group journal group = record journal { log = record journal.log { end = jou
 pub record IsSameImage (old new : JournalState) : Type 0 where
   pub units : new.units ≡ old.units
   pub image : new.image ≡ old.image
+  pub selector : new.selector ≡ old.selector
   pub area : new.log.area ≡ old.log.area
 
 -- the journal has these events as a group more, and all of it is safe
@@ -28,17 +29,17 @@ pub record Records (events : EventsState) (old new : OnDisk JournalState) : Type
   pub same : IsSameImage old.it new.it
   pub room : (group : Group) → Holds events group → has_no_room old.it group ≡ false
   pub grows : (group : Group) → Holds events group → new.it ≡ with_group old.it group
-  pub adds : (log : List Group) (group : Group) → Holds events group
-      → IsSomeAnd old.told (JournalAt old.it log) → IsSomeAnd new.told (JournalAt new.it (log ++ group ∷ []))
-  pub formatted : IfSome new.told (λ s. IsFormatted new.it.units new.it.image s.seen)
+  pub adds : (snapshot : List ℕ) (log : List Group) (group : Group) → Holds events group
+      → IsSomeAnd old.told (JournalAt old.it snapshot log) → IsSomeAnd new.told (JournalAt new.it snapshot (log ++ group ∷ []))
+  pub headed : IfSome new.told (λ s. IsHeaded new.it.units new.it.image new.it.selector s.seen)
   pub synced : AllSynced 4 old.status new.status
 
 -- the disk went down: the group may be there or not
 pub record IsInterrupted (events : EventsState) (old new : OnDisk JournalState) : Type 0 where
   pub same : new.it ≡ old.it
   pub room : (group : Group) → Holds events group → has_no_room old.it group ≡ false
-  pub either : (log : List Group) (group : Group) → Holds events group
-      → IsSomeAnd old.told (JournalAt old.it log) → IsSomeAnd new.told (LeavesGroupOrNot old.it log group)
+  pub either : (snapshot : List ℕ) (log : List Group) (group : Group) → Holds events group
+      → IsSomeAnd old.told (JournalAt old.it snapshot log) → IsSomeAnd new.told (LeavesGroupOrNot old.it snapshot log group)
   pub calls : DeviceCalls 4 old.status new.status true
 
 -- the log has no room for the group, and nothing was done

@@ -1,18 +1,17 @@
--- Bytes that begin no image, and where it shows.
-use Rattle.std.specs.Prelude.{◌≡◌, ◌≢◌, ◌⊎◌, ℕ, false, List, Result, Ok, Err, Bool, true}
+-- Bytes that begin no image.
+use Rattle.std.specs.Prelude.{ℕ, false, List, Result, Ok, Err, Bool, true}
 use Rattle.ktm_journal.specs.declared.fault.LoadFault.{LoadFault}
 use Rattle.ktm_journal.specs.declared.fault.LoadFault.TheVariants.{Down, Bad, NoMemory}
-use Rattle.ktm_journal.specs.Image.{IsHeaded, empty_snapshot, snapshot_of}
+use Rattle.ktm_journal.specs.declared.half.Half.{Half}
+use Rattle.ktm_journal.specs.Image.{HasSnapshot, IsHeaded}
 
 -- there is no header, or the bytes are too short for it
 abbrev pub HasNoHeader : List ℕ → Type 0
-HasNoHeader bytes = (units image : ℕ) → ¬ IsHeaded units image bytes
+HasNoHeader bytes = (units image selector : ℕ) → ¬ IsHeaded units image selector bytes
 
--- no image begins here for what stands at this offset: at 0 without a header, at 4,096 with a snapshot other than the empty one
-abbrev pub IsUnformattedAt : List ℕ → ℕ → Type 0
-IsUnformattedAt bytes offset =
-    (HasNoHeader bytes × (offset ≡ 0))
-    ⊎ ((units : ℕ) × (image : ℕ) × IsHeaded units image bytes × (snapshot_of bytes ≢ empty_snapshot) × (offset ≡ 4096))
+-- the half has no snapshot: it would be longer than its area
+abbrev pub HasNoSnapshot : ℕ → Half → List ℕ → Type 0
+HasNoSnapshot units half bytes = (snapshot : List ℕ) → ¬ HasSnapshot units half snapshot bytes
 
 -- did a load find the disk down
 abbrev pub load_went_down : {T : Type 0} → Result T LoadFault → Bool

@@ -4,3 +4,5 @@ pub mod Bad
 pub mod Header
 pub mod Append
 pub mod Open
+pub mod Snapshot
+pub mod Compact

@@ -7,8 +7,8 @@ pub enum LoadFault {
     /// The disk has no power.
     #[error("the disk has no power")]
     Down,
-    /// The bytes are no image, for what stands at this offset: 0 for the length and the header, 4,096 for the
-    /// snapshot, or the gate of the first bad frame.
+    /// The bytes are no image, for what stands at this offset: 0 for the length and the header, the begin of the
+    /// snapshot's area, or the gate of the first bad frame.
     #[error("bad image at {0}")]
     Bad(u64),
     /// Memory was wanted and not to be had. Nothing was written.

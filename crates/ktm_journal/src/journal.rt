@@ -7,39 +7,43 @@ ghost use Rattle.ktm_log.specs.OnDisk.{on};
 ghost use Rattle.ktm_types.specs.Groups.{Group};
 ghost use Rattle.ktm_types.specs.Sizes.{area_len, event_size, frame_size};
 ghost use Rattle.ktm_journal.specs.Append.{RecordLeaves, has_no_room};
+ghost use Rattle.ktm_journal.specs.Compact.{CompactLeaves};
 ghost use Rattle.ktm_journal.specs.Format.{Anything};
-ghost use Rattle.ktm_journal.specs.Image.{IsFormatted, IsImage};
+ghost use Rattle.ktm_journal.specs.Image.{IsHeaded, IsImage, empty_snapshot};
 ghost use Rattle.ktm_journal.specs.Open.{OpenLeaves};
 
-use crate::image::{area_len, lay, log_area, put_header};
+use crate::half::half_of;
+use crate::image::{SELECTOR_AT, area_len, lay, log_area, put_header};
+use crate::snapshot::lay_half;
 use crate::{Header, LoadFault};
 use ktm_base::{Disk, Down};
 use ktm_event::Events;
-use ktm_log::{AppendFault, Log, LogFault};
+use ktm_log::{AppendFault, Log, LogFault, settle};
 use std::marker::Model;
 
 // How many bytes a frame takes beside its events: a gate, a length of four bytes, and a count of four.
 const FRAME: usize = 9;
 
-/// The groups of an image. It knows where the next one goes, and none of them.
+/// The groups of an image. It knows which half counts and where in its log the next one goes, and none of them.
 #[derive(Drop)]
 pub struct Journal {
     units: u32,
     image: u16,
+    selector: u8,
     log: Log,
     events: u64,
 }
 
 impl Model for Journal {
-    ghost use Rattle.std.specs.Prelude.{◌≡◌, ◌*◌, ◌≤◌};
+    ghost use Rattle.std.specs.Prelude.{◌≡◌, ◌+◌, ◌^◌, ◌≤◌};
     ghost use Rattle.ktm_base.specs.declared.limits.TheConstants.{MOST_UNITS};
-    ghost use Rattle.ktm_journal.specs.Image.{JournalState, log_area};
+    ghost use Rattle.ktm_journal.specs.Image.{JournalState, half_of, log_area};
 
     ghost Value = { JournalState };
 
-    ghost view = { λ j. record { units = j.units; image = j.image; log = j.log; events = j.events } };
+    ghost view = { λ j. record { units = j.units; image = j.image; selector = j.selector; log = j.log; events = j.events } };
 
-    ghost invariant = { λ j. (j.units ≤ MOST_UNITS) × (j.log.area ≡ log_area j.units) × (5 * j.events ≤ j.log.end) };
+    ghost invariant = { λ j. (j.units ≤ MOST_UNITS) × (j.log.area ≡ log_area j.units (half_of j.selector)) × (j.events ≤ 2 ^ 63 + j.log.end) };
 }
 
 impl Journal {
@@ -49,7 +53,7 @@ impl Journal {
         requires from { LEAST_UNITS ≤ units }
         requires to { units ≤ MOST_UNITS }
         requires pending { (D.status disk.old).pending ≡ 0 }
-        ensures ok { OnOk result (Goes (λ old new. IsSafe new × IsImage units image [] new.seen) (D.told disk.old) (D.told disk.new)) }
+        ensures ok { OnOk result (Goes (λ old new. IsSafe new × IsImage units image empty_snapshot [] new.seen) (D.told disk.old) (D.told disk.new)) }
         ensures down { OnErr result (Goes Anything (D.told disk.old) (D.told disk.new)) }
         ensures pending { OnOk result ((D.status disk.new).pending ≡ 0) }
         ensures up { OnOk result ((D.status disk.new).is_down ≡ false) }
@@ -64,7 +68,7 @@ impl Journal {
         Ok(())
     }
 
-    /// Reads the log behind this header into the buffer, which is made as long as the log's area, and afterwards has room for
+    /// Reads the log of the half that counts into the buffer, which is made as long as the log's area, and afterwards has room for
     /// whatever can be appended. It writes nothing. The payloads stay in the buffer, where `first_payload` of `ktm_log` finds
     /// them; where a frame is torn, those before it. No event is counted so far (`count_from`).
     pub fn open<D: Disk>(
@@ -74,13 +78,15 @@ impl Journal {
     ) -> Result<Journal, LoadFault>
         requires least { LEAST_UNITS ≤ header.units }
         requires most { header.units ≤ MOST_UNITS }
-        requires formatted { IfSome (D.told disk.old) (λ s. IsFormatted header.units header.image s.seen) }
+        requires headed { IfSome (D.told disk.old) (λ s. IsHeaded header.units header.image header.selector s.seen) }
         ensures { OpenLeaves header (on buffer.old (D.told disk.old) (D.status disk.old)) (on buffer.new (D.told disk.new) (D.status disk.new)) result }
     {
-        match Log::scan(disk, log_area(header.units), buffer) {
+        let area = log_area(header.units, half_of(header.selector));
+        match Log::scan(disk, area, buffer) {
             Ok(log) => Ok(Journal {
                 units: header.units,
                 image: header.image,
+                selector: header.selector,
                 log,
                 events: 0,
             }),
@@ -90,9 +96,9 @@ impl Journal {
         }
     }
 
-    /// Counts events from so many on, which are in the log.
+    /// Counts events from so many on, which the snapshot and the log have together.
     pub fn count_from(&mut self, events: u64)
-        requires { 5 * events ≤ self.old.log.end }
+        requires { events ≤ 2 ^ 63 }
         ensures { self.new ≡ record self.old { events = events } }
     {
         self.events = events;
@@ -102,7 +108,7 @@ impl Journal {
     /// makes four device calls.
     pub fn append<D: Disk>(&mut self, disk: &mut D, events: &Events) -> Result<(), AppendFault>
         requires pending { (D.status disk.old).pending < MOST_PENDING }
-        requires formatted { IfSome (D.told disk.old) (λ s. IsFormatted self.old.units self.old.image s.seen) }
+        requires headed { IfSome (D.told disk.old) (λ s. IsHeaded self.old.units self.old.image self.old.selector s.seen) }
         requires some { 1 ≤ events.now.count }
         ensures { RecordLeaves events.now (on self.old (D.told disk.old) (D.status disk.old)) (on self.new (D.told disk.new) (D.status disk.new)) result }
     {
@@ -111,6 +117,36 @@ impl Journal {
         }
         self.events += u64::from(events.len());
         Ok(())
+    }
+
+    /// Lets this snapshot stand for all that the journal holds, with a log that is empty: it goes to the half that does not
+    /// count, which counts from then on. The half in use is not written. It takes no memory, and makes six device calls.
+    pub fn compact<D: Disk>(&mut self, disk: &mut D, snapshot: &[u8]) -> Result<(), Down>
+        requires fits { 8 + length snapshot.now ≤ area_len self.old.units }
+        requires counted { self.old.events ≤ 2 ^ 63 }
+        requires pending { (D.status disk.old).pending ≡ 0 }
+        requires headed { IfSome (D.told disk.old) (λ s. IsHeaded self.old.units self.old.image self.old.selector s.seen) }
+        ensures { CompactLeaves snapshot.now (on self.old (D.told disk.old) (D.status disk.old)) (on self.new (D.told disk.new) (D.status disk.new)) result }
+    {
+        let selector = self.selector.wrapping_add(1);
+        let half = half_of(selector);
+        if let Err(Down) = lay_half(disk, self.units, half, snapshot) {
+            return Err(Down);
+        }
+        if let Err(Down) = settle(disk, SELECTOR_AT, &[selector]) {
+            return Err(Down);
+        }
+        let log = Log::empty(log_area(self.units, half));
+        self.selector = selector;
+        self.log = log;
+        Ok(())
+    }
+
+    /// How many bytes of the log are left for a frame, behind which a closed gate has to stand.
+    pub fn spare(&self) -> u64
+        ensures { self.now.log.end + result + 1 ≡ self.now.log.area.len }
+    {
+        self.log.spare()
     }
 
     /// How many bytes of the log are left.

@@ -6,10 +6,10 @@ ghost use Rattle.ktm_journal.specs.Image.{IsImage, JournalAt, JournalState, left
 
 /// Of a journal that is answered a loss of power takes nothing.
 pub fn law_of_what_is_left()
-    ensures { (j : JournalState) (log : List Group) (s : DiskState) (image : List ℕ) → JournalAt j log s → MayLeave s image → IsImage j.units j.image log image }
+    ensures { (j : JournalState) (snapshot : List ℕ) (log : List Group) (s : DiskState) (image : List ℕ) → JournalAt j snapshot log s → MayLeave s image → IsImage j.units j.image snapshot log image }
 {}
 
 /// What a journal has left is what its groups leave of the log's area.
 pub fn law_of_what_is_free()
-    ensures { (j : JournalState) (log : List Group) (s : DiskState) → JournalAt j log s → j.log.area.len - j.log.end ≡ left_after j.units log }
+    ensures { (j : JournalState) (snapshot : List ℕ) (log : List Group) (s : DiskState) → JournalAt j snapshot log s → j.log.area.len - j.log.end ≡ left_after j.units log }
 {}

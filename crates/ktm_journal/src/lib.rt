@@ -4,13 +4,16 @@
 #![tactic(auto)]
 
 mod fault;
+mod half;
 mod header;
 mod image;
 mod journal;
 mod laws;
+mod snapshot;
 
 pub use fault::LoadFault;
 pub use header::Header;
 pub use journal::Journal;
 pub use ktm_log::AppendFault;
 pub use laws::{law_of_what_is_free, law_of_what_is_left};
+pub use snapshot::{empty_snapshot, read_snapshot};

@@ -9,7 +9,7 @@ use Rattle.ktm_base.specs.Disk.{DeviceCalls, DiskState, DiskStatus}
 use Rattle.ktm_types.specs.Sizes.{area_len, frame_size}
 use Rattle.ktm_event.specs.Kept.{EventsState, Holds}
 use Rattle.ktm_journal.specs.Append.{has_no_room}
-use Rattle.ktm_journal.specs.Image.{IsFormatted, JournalState, JournalAt}
+use Rattle.ktm_journal.specs.Image.{IsHeaded, JournalState, JournalAt, empty_snapshot}
 use Rattle.ktm_log.specs.OnDisk.{OnDisk, on}
 use Rattle.ktm_slots.specs.Owed.{owed_slots}
 use Rattle.ktm_trace.specs.Contents.{ContentsLaw, KeptLaw}
@@ -115,8 +115,8 @@ module _ (a : MemoryState) (o : Outcome) (reply : Reply) (rest : Settlement) (ev
         subst (λ (y : Present). owed_slots y ≤ m.tm.slots) (sym now_then) (omega (arith, well.paid, fewer))
 
 module _ (a : MemoryState) (o : Outcome) (reply : Reply) (rest : Settlement) (events : EventsState) (n : MemoryState) (decided : Decides (held a) o reply rest events n) (before : Option DiskState) (s : DiskStatus) where
-  at_first : (log : List Group) → IsSomeAnd before (JournalAt a.journal log) → IsSomeAnd before (JournalAt n.journal log)
-  at_first log at = subst (λ j. IsSomeAnd before (JournalAt j log)) (sym decided.journal) at
+  at_first : (log : List Group) → IsSomeAnd before (JournalAt a.journal empty_snapshot log) → IsSomeAnd before (JournalAt n.journal empty_snapshot log)
+  at_first log at = subst (λ j. IsSomeAnd before (JournalAt j empty_snapshot log)) (sym decided.journal) at
 
   -- what was recorded was not refused, and its command records something
   done_touches : (P : Type 0) → (Holds events [] → P) → TouchesNothing (within_log (present_of a) o) reply → P
@@ -160,8 +160,8 @@ module _ (a : MemoryState) (o : Outcome) (reply : Reply) (rest : Settlement) (ev
             state = now_then a o reply rest events n decided contents traces well m is_logged journal ∙ ap (apply (present_of a)) (sym same);
             units = ap (λ (j : JournalState). j.units) journal;
             image = ap (λ (j : JournalState). j.image) journal;
-            log = λ gs at. subst (λ (d : Outcome). IsSomeAnd now (JournalAt m.journal (gs ++ as_groups d.events))) (sym same)
-                (subst (λ j. IsSomeAnd now (JournalAt j (gs ++ as_groups o.events))) (sym keeps) (recorded.adds gs o.events decided.records (at_first gs at)));
+            log = λ gs at. subst (λ (d : Outcome). IsSomeAnd now (JournalAt m.journal empty_snapshot (gs ++ as_groups d.events))) (sym same)
+                (subst (λ j. IsSomeAnd now (JournalAt j empty_snapshot (gs ++ as_groups o.events))) (sym keeps) (recorded.adds empty_snapshot gs o.events decided.records (at_first gs at)));
           }
 
       -- the group was recorded, where there is one, and memory has settled
@@ -171,7 +171,7 @@ module _ (a : MemoryState) (o : Outcome) (reply : Reply) (rest : Settlement) (ev
         powered = record {
           power = λ up. recorded.synced.up;
           settled = λ up. recorded.synced.pending;
-          image = λ up. subst (λ j. IfSome now (λ d. IsFormatted j.units j.image d.seen)) (sym keeps) recorded.formatted;
+          image = λ up. subst (λ j. IfSome now (λ d. IsHeaded j.units j.image j.selector d.seen)) (sym keeps) recorded.headed;
         };
         slots = λ up. slots_then a o reply rest events n decided contents traces well m is_logged (journal_then recorded keeps);
         calls = subst (λ b. DeviceCalls 4 s t b) (sym recorded.synced.up) recorded.synced.calls;
@@ -188,8 +188,8 @@ module _ (a : MemoryState) (o : Outcome) (reply : Reply) (rest : Settlement) (ev
           says = refl;
           state = ap present_of fell ∙ ap (λ (g : LayersNow). now_of (record g { is_up = false })) was;
           journal = ap (λ (b : MemoryState). b.journal) fell ∙ decided.journal;
-          log = λ gs at. subst (λ (d : Outcome). IsSomeAnd now (LeavesWithOr a.journal gs (as_groups d.events))) (sym is)
-              (subst (λ j. IsSomeAnd now (LeavesWithOr j gs (as_groups o.events))) decided.journal (left.either gs o.events decided.records (at_first gs at)));
+          log = λ gs at. subst (λ (d : Outcome). IsSomeAnd now (LeavesWithOr a.journal empty_snapshot gs (as_groups d.events))) (sym is)
+              (subst (λ j. IsSomeAnd now (LeavesWithOr j empty_snapshot gs (as_groups o.events))) decided.journal (left.either empty_snapshot gs o.events decided.records (at_first gs at)));
         }
 
     pub cut_answered : AreCutOff events (on n before s) (on r now t) → m ≡ record r { is_up = false } → IsAnswered (within_log (present_of a) o) (on (machine_of a) before s) (on (machine_of m) now t) (Refused MachineDown)
@@ -217,8 +217,8 @@ stopped a o n m told full same falls =
       state = ap present_of falls ∙ ap (λ (g : LayersNow). now_of (record g { is_up = false })) same ∙ sym (apply-full x) ∙ ap (apply x) (sym stops);
       units = ap (λ (j : JournalState). j.units) journal;
       image = ap (λ (j : JournalState). j.image) journal;
-      log = λ gs at. subst (λ (d : Outcome). IsSomeAnd told (JournalAt m.journal (gs ++ as_groups d.events))) (sym stops)
-          (subst (λ j. IsSomeAnd told (JournalAt j (gs ++ []))) (sym journal) (subst (λ (l : List Group). IsSomeAnd told (JournalAt a.journal l)) (sym (append-nil gs)) at));
+      log = λ gs at. subst (λ (d : Outcome). IsSomeAnd told (JournalAt m.journal empty_snapshot (gs ++ as_groups d.events))) (sym stops)
+          (subst (λ j. IsSomeAnd told (JournalAt j empty_snapshot (gs ++ []))) (sym journal) (subst (λ (l : List Group). IsSomeAnd told (JournalAt a.journal empty_snapshot l)) (sym (append-nil gs)) at));
     }
 
 pub stopped_answered : (a : MemoryState) (o : Outcome) (n m : MemoryState) (told : Option DiskState) (status : DiskStatus) → is_full (present_of a).machine.left o.events ≡ true → held n ≡ held a → m ≡ record n { is_up = false }

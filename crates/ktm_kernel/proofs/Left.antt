@@ -4,7 +4,7 @@ use Rattle.std.proofs.lemmas.List.{append-nil}
 use Rattle.std.specs.Prelude.{Contains, IsTrue, IsSomeAnd}
 use Rattle.ktm_base.specs.Disk.{DiskState}
 use Rattle.ktm_base.proofs.offered.ToldSteps.{IsSomeAnd-map}
-use Rattle.ktm_journal.specs.Image.{JournalState, JournalAt}
+use Rattle.ktm_journal.specs.Image.{JournalState, JournalAt, empty_snapshot}
 use Rattle.ktm_restart.specs.Logs.{HoldsLog, StandsFor}
 use Rattle.ktm_journal.proofs.offered.Images.{what_is_left}
 use Rattle.ktm_world.specs.Durable.{Durable, empty_state, stand, log_applies}
@@ -51,11 +51,11 @@ log_is_possible w on kept = subst (λ p. Contains (possible_by p w.kept w.log) w
 
 -- of a machine that is up
 pub left_up : (k : KernelState) (told : Option DiskState) (w : World) → w.power ≡ up → (stands : Stands k told w) → IsSomeAnd told (LeavesPossible k.journal stands.before w)
-left_up k told w on stands = IsSomeAnd-map told (JournalAt k.journal (stands.before ++ w.log)) (LeavesPossible k.journal stands.before w) stands.disk
+left_up k told w on stands = IsSomeAnd-map told (JournalAt k.journal empty_snapshot (stands.before ++ w.log)) (LeavesPossible k.journal stands.before w) stands.disk
     (λ s at image left. (
       w.log,
       log_is_possible w on (stands.standing.running.kept),
-      record { is = what_is_left k.journal (stands.before ++ w.log) s image at left; applies = both_apply k.journal stands.before w stands.began w.log stands.standing.running.applies },
+      record { is = what_is_left k.journal empty_snapshot (stands.before ++ w.log) s image at left; applies = both_apply k.journal stands.before w stands.began w.log stands.standing.running.applies },
     ))
 
 left_by : (power : Power) (k : KernelState) (told : Option DiskState) (w : World) → w.power ≡ power → StandsBy (is_up power) k told w → IsSomeAnd told (LeavesStates w)

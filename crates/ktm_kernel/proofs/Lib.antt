@@ -9,3 +9,4 @@ pub mod Asked
 pub mod Restarts
 pub mod StartAgain
 pub mod Ends
+pub mod Events

@@ -15,7 +15,7 @@ use Rattle.ktm_restart.specs.Loads.{IsJournalOf, IsLoaded, MayStart}
 use Rattle.ktm_restart.specs.declared.replay.Loaded.{Loaded}
 use Rattle.ktm_restart.specs.Logs.{AreSpelled, HoldsLog, StandsFor}
 use Rattle.ktm_journal.specs.Append.{IsSameImage, has_no_room}
-use Rattle.ktm_journal.specs.Image.{JournalState, JournalAt, IsImage, IsFormatted, LeavesGroupOrNot, left_after}
+use Rattle.ktm_journal.specs.Image.{JournalState, JournalAt, IsImage, IsHeaded, LeavesGroupOrNot, empty_snapshot, left_after}
 use Rattle.ktm_journal.proofs.offered.GroupSizes.{journal_left}
 use Rattle.ktm_restart.proofs.offered.OneState.{one_held}
 use Rattle.ktm_event.specs.Kept.{EventsState, Holds}
@@ -112,7 +112,7 @@ pub record HasStart (state : Durable) (old new : OnDisk JournalState) : Type 0 w
   pub end : new.it.log.end ≡ old.it.log.end + frame_size (own_group state)
   pub counted : new.it.events ≡ old.it.events + length (own_group state)
   pub room : has_no_room old.it (own_group state) ≡ false
-  pub adds : (gs : List Group) → IsSomeAnd old.told (JournalAt old.it gs) → IsSomeAnd new.told (JournalAt new.it (gs ++ own_group state ∷ []))
+  pub adds : (gs : List Group) → IsSomeAnd old.told (JournalAt old.it empty_snapshot gs) → IsSomeAnd new.told (JournalAt new.it empty_snapshot (gs ++ own_group state ∷ []))
 
 -- the journal of a memory that recorded it
 abbrev pub journal_of : OnDisk MemoryState → OnDisk JournalState
@@ -124,11 +124,11 @@ has_start state events old new holds recorded =
     let grows = ap (λ (m : MemoryState). m.journal) (recorded.grows (own_group state) holds) in
     let one = sum_by-cons frame_size (own_group state) [] in
     record {
-      same = record { units = ap (λ (j : JournalState). j.units) grows; image = ap (λ (j : JournalState). j.image) grows; area = ap (λ (j : JournalState). j.log.area) grows };
+      same = record { units = ap (λ (j : JournalState). j.units) grows; image = ap (λ (j : JournalState). j.image) grows; selector = ap (λ (j : JournalState). j.selector) grows; area = ap (λ (j : JournalState). j.log.area) grows };
       end = omega (arith, ap (λ (j : JournalState). j.log.end) grows, one);
       counted = ap (λ (j : JournalState). j.events) grows;
       room = recorded.room (own_group state) holds;
-      adds = λ gs at. recorded.adds gs (own_group state) holds at;
+      adds = λ gs at. recorded.adds empty_snapshot gs (own_group state) holds at;
     }
 
 -- a memory that showed what is so at the start of this state recorded that
@@ -192,8 +192,8 @@ module _ (units image : ℕ) (before log : List Group) (state : Durable) (is : I
 
   -- its journal is at the groups that are there
   pub journal_at : (j : JournalState) (old new : Option DiskState)
-      → ((gs : List Group) → IsSomeAnd old (λ s. IsSafe s × HoldsLog state.units state.image gs s.seen) → IsSomeAnd new (JournalAt j gs))
-      → IsSomeAnd old (HoldsBoth units image before log) → IsSomeAnd new (JournalAt j (before ++ log))
+      → ((gs : List Group) → IsSomeAnd old (λ s. IsSafe s × HoldsLog state.units state.image gs s.seen) → IsSomeAnd new (JournalAt j empty_snapshot gs))
+      → IsSomeAnd old (HoldsBoth units image before log) → IsSomeAnd new (JournalAt j empty_snapshot (before ++ log))
   journal_at j old new loaded holds = loaded (before ++ log) (IsSomeAnd-map old (HoldsBoth units image before log) _ holds (λ s held. (held.0, here s.seen held.1)))
 
   -- what it has read is in the grammar
@@ -205,16 +205,16 @@ module _ (units image : ℕ) (before log : List Group) (state : Durable) (is : I
       and_parts _ _ (sym (list_all-append (list_all is_grammatical) before log) ∙ log_grammatical grammar (before ++ log) all)
 
   -- what it has left
-  pub left_found : (j : JournalState) (told : Option DiskState) → j.units ≡ state.units → IsSomeAnd told (JournalAt j (before ++ log)) → j.log.area.len - j.log.end ≡ left_after units before - log_size log
+  pub left_found : (j : JournalState) (told : Option DiskState) → j.units ≡ state.units → IsSomeAnd told (JournalAt j empty_snapshot (before ++ log)) → j.log.area.len - j.log.end ≡ left_after units before - log_size log
   left_found j None units_are at = absurd at
   left_found j (Some s) units_are at =
-      let left = journal_left j (before ++ log) s at in
+      let left = journal_left j empty_snapshot (before ++ log) s at in
       let size = log_size-append before log in
       let same = is.units_are in
       omega arith
 
   -- the log is full exactly where the group of the restart does not fit
-  pub is_full : (j : JournalState) (told : Option DiskState) → j.units ≡ state.units → IsSomeAnd told (JournalAt j (before ++ log))
+  pub is_full : (j : JournalState) (told : Option DiskState) → j.units ≡ state.units → IsSomeAnd told (JournalAt j empty_snapshot (before ++ log))
       → is_full_in (j.log.area.len - j.log.end) (own_group state) ≡ is_full_for_own units image before log
   is_full j told units_are at =
       ap (λ n. is_full_in n (own_group state)) (left_found j told units_are at)
@@ -250,7 +250,7 @@ module _ (units image : ℕ) (before log : List Group) (state : Durable) (is : I
 
   -- of the journal that the group of the restart was added to
   module _ (may : events_apply state (own_group state) ≡ true) (j k : JournalState) (units_are : j.units ≡ state.units) (image_is : j.image ≡ state.image) (old new : Option DiskState)
-      (at : IsSomeAnd old (JournalAt j (before ++ log))) where
+      (at : IsSomeAnd old (JournalAt j empty_snapshot (before ++ log))) where
     pub started : GoodStatesLaw → StandingLaw → FreshLaw → (is_log_grammatical before ≡ true) × (is_log_grammatical log ≡ true) → MayStart state → (kernel : KernelState) (left count doubts : ℕ) → kernel.journal ≡ k → kernel.now ≡ fresh state left → left ≡ k.log.area.len - k.log.end → count ≡ state.events → doubts ≡ length (in_doubt state)
         → (s t : DiskStatus) → HasStart state (on j old s) (on k new t) → Started units image before log kernel count doubts new
     started good law begins grammatical start kernel left count doubts journal now left_is count_is doubts_are s t has = record {
@@ -260,22 +260,22 @@ module _ (units image : ℕ) (before log : List Group) (state : Durable) (is : I
         standing = standing good law (subst (λ (n : ℕ). n < 2 ^ 16) is.image_is start.number) (subst (λ (n : ℕ). n ≤ MOST_UNITS) is.units_are start.most) start.texts (sym (is_full j old units_are at) ∙ has.room) grammatical;
         before = before;
         began = rw (journal, has.same.units ∙ units_are ∙ is.units_are, has.same.image ∙ image_is ∙ is.image_is) (record { applies = applied.0; base = refl; room = refl });
-        disk = subst (λ i. IsSomeAnd new (JournalAt i (before ++ (log ++ own_group (stand base log) ∷ [])))) (sym journal)
-            (subst (λ (gs : List Group). IsSomeAnd new (JournalAt k gs)) (append_assoc before log (own_group (stand base log) ∷ []))
-            (subst (λ (s : Durable). IsSomeAnd new (JournalAt k ((before ++ log) ++ own_group s ∷ []))) is.is (has.adds (before ++ log) at)));
+        disk = subst (λ i. IsSomeAnd new (JournalAt i empty_snapshot (before ++ (log ++ own_group (stand base log) ∷ [])))) (sym journal)
+            (subst (λ (gs : List Group). IsSomeAnd new (JournalAt k empty_snapshot gs)) (append_assoc before log (own_group (stand base log) ∷ []))
+            (subst (λ (s : Durable). IsSomeAnd new (JournalAt k empty_snapshot ((before ++ log) ++ own_group s ∷ []))) is.is (has.adds (before ++ log) at)));
       };
       events_are = count_is ∙ ap (λ (s : Durable). s.events) is.is;
       in_doubt_are = doubts_are ∙ ap (λ (s : Durable). length (in_doubt s)) is.is;
     }
 
-    pub cut_off : ((gs : List Group) → IsSomeAnd old (JournalAt j gs) → IsSomeAnd new (LeavesGroupOrNot j gs (own_group state))) → IsSomeAnd new (LeavesOwnOrNot units image before log)
+    pub cut_off : ((gs : List Group) → IsSomeAnd old (JournalAt j empty_snapshot gs) → IsSomeAnd new (LeavesGroupOrNot j empty_snapshot gs (own_group state))) → IsSomeAnd new (LeavesOwnOrNot units image before log)
     cut_off left = IsSomeAnd-map new _ (LeavesOwnOrNot units image before log) (left (before ++ log) at) (λ s either bytes may_be. elim (either bytes may_be) [
       | inl without ↦ inl (record { is = same (before ++ log) bytes without; applies = is.applies })
-      | inr with_it ↦ inr (record { is = same _ bytes (subst (λ (gs : List Group). IsImage j.units j.image gs bytes) both with_it); applies = both_apply })
+      | inr with_it ↦ inr (record { is = same _ bytes (subst (λ (gs : List Group). IsImage j.units j.image empty_snapshot gs bytes) both with_it); applies = both_apply })
     ])
       where
-        same : (gs : List Group) (bytes : List ℕ) → IsImage j.units j.image gs bytes → IsImage units image gs bytes
-        same gs bytes image_of = subst (λ u. IsImage u image gs bytes) (units_are ∙ is.units_are) (subst (λ i. IsImage j.units i gs bytes) (image_is ∙ is.image_is) image_of)
+        same : (gs : List Group) (bytes : List ℕ) → IsImage j.units j.image empty_snapshot gs bytes → IsImage units image empty_snapshot gs bytes
+        same gs bytes image_of = subst (λ u. IsImage u image empty_snapshot gs bytes) (units_are ∙ is.units_are) (subst (λ i. IsImage j.units i empty_snapshot gs bytes) (image_is ∙ is.image_is) image_of)
 
         both : (before ++ log) ++ own_group state ∷ [] ≡ before ++ (log ++ own_group (stand base log) ∷ [])
         both = append_assoc before log (own_group state ∷ []) ∙ ap (λ (s : Durable). before ++ (log ++ own_group s ∷ [])) is.is
@@ -293,9 +293,9 @@ roomy_begun loaded events m may is begun =
     subst (λ (j : JournalState). HasRoom j events) (sym begun.journal) (record { most = omega (arith, is.units, may.most); room = omega (arith, begun.lists.room) })
 
 -- the disk has the image of its journal
-pub formatted_begun : (loaded : Loaded) (events : EventsState) (m : MemoryState) (told : Option DiskState) → Begun loaded events m → IfSome told (λ s. IsFormatted loaded.journal.units loaded.journal.image s.seen)
-    → IfSome told (λ s. IsFormatted m.journal.units m.journal.image s.seen)
-formatted_begun loaded events m told begun formatted = subst (λ (j : JournalState). IfSome told (λ s. IsFormatted j.units j.image s.seen)) (sym begun.journal) formatted
+pub headed_begun : (loaded : Loaded) (events : EventsState) (m : MemoryState) (told : Option DiskState) → Begun loaded events m → IfSome told (λ s. IsHeaded loaded.journal.units loaded.journal.image loaded.journal.selector s.seen)
+    → IfSome told (λ s. IsHeaded m.journal.units m.journal.image m.journal.selector s.seen)
+headed_begun loaded events m told begun headed = subst (λ (j : JournalState). IfSome told (λ s. IsHeaded j.units j.image j.selector s.seen)) (sym begun.journal) headed
 
 -- a journal that recorded a list has as many units, so the list has room for whatever it has room for
 pub roomy_then : (events : EventsState) (old new : OnDisk MemoryState) (group : Group) → Holds events group → HasRoom old.it.journal events → AreRecorded events old new → HasRoom new.it.journal events
@@ -319,7 +319,7 @@ module _ {Z : Type 0} (most : ℕ) (old mid : OnDisk (Vec ℕ Z)) (loaded : Load
     found_here : IsFound units image before log loaded.state
     found_here = found units image before log loaded.state old.told is.stands holds
 
-    at_loaded : IsSomeAnd mid.told (JournalAt loaded.journal (before ++ log))
+    at_loaded : IsSomeAnd mid.told (JournalAt loaded.journal empty_snapshot (before ++ log))
     at_loaded = journal_at units image before log loaded.state found_here loaded.journal old.told mid.told is.knows.at holds
 
     full_here : has_no_room loaded.journal (own_group loaded.state) ≡ true → is_full_for_own units image before log ≡ true
@@ -378,14 +378,14 @@ module _ {Z : Type 0} (most : ℕ) (old mid : OnDisk (Vec ℕ Z)) (loaded : Load
             starts = λ units image before log holds.
                 let here = found_here units image before log holds in
                 started units image before log loaded.state here (may owns) m.journal n.journal its.units its.image mid.told new.told
-                (subst (λ j. IsSomeAnd mid.told (JournalAt j (before ++ log))) (sym begun.journal) (at_loaded units image before log holds)) good law begins
+                (subst (λ j. IsSomeAnd mid.told (JournalAt j empty_snapshot (before ++ log))) (sym begun.journal) (at_loaded units image before log holds)) good law begins
                 (found_grammatical units image before log loaded.state here grammar old.told is.knows.spelled holds) is.state
                 r.kernel left r.events r.in_doubt (ap (λ (k : KernelState). k.journal) kernel) now refl count_is doubts_are mid.status new.status has;
             ready = record {
               powered = record {
                 power = λ up. recorded.synced.up;
                 settled = λ up. recorded.synced.pending;
-                image = λ up. subst (λ (k : KernelState). IfSome new.told (λ s. IsFormatted k.journal.units k.journal.image s.seen)) (sym kernel) recorded.formatted;
+                image = λ up. subst (λ (k : KernelState). IfSome new.told (λ s. IsHeaded k.journal.units k.journal.image k.journal.selector s.seen)) (sym kernel) recorded.headed;
               };
               standing = λ up. subst IsStandingNow (sym now) (stands_here begins);
               slots = λ up. subst (λ (k : KernelState). owed_slots k.now ≤ k.slots) (sym kernel) (slots_here begins contents);
@@ -398,8 +398,8 @@ module _ {Z : Type 0} (most : ℕ) (old mid : OnDisk (Vec ℕ Z)) (loaded : Load
     cut_here : OwnGroupLaw → (new : OnDisk MemoryState) → AreCutOff events begun_at new → (units image : ℕ) (before log : List Group) → IsSomeAnd old.told (HoldsBoth units image before log) → IsSomeAnd new.told (LeavesOwnOrNot units image before log)
     cut_here owns new left units image before log holds =
         cut_off units image before log loaded.state (found_here units image before log holds) (may owns) m.journal new.it.journal its.units its.image mid.told new.told
-        (subst (λ j. IsSomeAnd mid.told (JournalAt j (before ++ log))) (sym begun.journal) (at_loaded units image before log holds))
-        (λ gs at. left.either gs (own_group loaded.state) begun.lists.holds at)
+        (subst (λ j. IsSomeAnd mid.told (JournalAt j empty_snapshot (before ++ log))) (sym begun.journal) (at_loaded units image before log holds))
+        (λ gs at. left.either empty_snapshot gs (own_group loaded.state) begun.lists.holds at)
 
     never_full : (new : OnDisk MemoryState) → HaveNoRoom events begun_at new → ⊥
     never_full new full = both_ways _ room_there (full.room (own_group loaded.state) begun.lists.holds)

@@ -166,13 +166,13 @@ found_is_good k (Some s) offset bad w at =
     not_bad (stand w.base log) s.seen offset (stands_for k.journal at.before w at.began log s.seen holds) bad
 
 -- it takes as many device calls as the units of the run's image ask for
-pub found_few : (k : KernelState) (told : Option DiskState) (a b : ℕ) → ((units image : ℕ) → IsSomeAnd told (λ s. IsHeaded units image s.seen) → b ≤ a + (8 * units + 68))
+pub found_few : (k : KernelState) (told : Option DiskState) (a b : ℕ) → ((units image selector : ℕ) → IsSomeAnd told (λ s. IsHeaded units image selector s.seen) → b ≤ a + (8 * units + 68))
     → (w : World) → FoundAt k told w → b ≤ a + (8 * w.base.units + 68)
 found_few k None a b few w at = absurd at.disk
 found_few k (Some s) a b few w at =
     let (safe, held) = at.disk in
     let (log, possible, holds) = held in
-    let most = few k.journal.units k.journal.image holds.is.formatted.headed in
+    let most = few k.journal.units k.journal.image holds.is.selector holds.is.formatted.headed in
     let units = ap (λ (d : Durable). d.units) at.began.base ∙ stand-units (empty_state k.journal.units k.journal.image) at.before in
     omega arith
 

@@ -7,7 +7,7 @@ use Rattle.ktm_base.specs.declared.id.Pid.{Pid}
 use Rattle.ktm_base.specs.declared.refusal.Refusal.TheVariants.{MachineDown}
 use Rattle.ktm_base.specs.Disk.{DiskState}
 use Rattle.ktm_base.proofs.offered.ToldSteps.{IsSomeAnd-map}
-use Rattle.ktm_journal.specs.Image.{JournalState, JournalAt, IsImage}
+use Rattle.ktm_journal.specs.Image.{JournalState, JournalAt, IsImage, empty_snapshot}
 use Rattle.ktm_restart.specs.Logs.{HoldsLog}
 use Rattle.ktm_journal.proofs.offered.Images.{what_is_left}
 use Rattle.ktm_types.specs.declared.command.Command.{Command}
@@ -105,7 +105,7 @@ module _ (old new : KernelState) (o : Outcome) (reply : Reply) (before now : Opt
   now_then : IsDone old o reply new before now → new.now ≡ present (extend w o)
   now_then done = done.state ∙ ap (λ x. apply x o) stands.now ∙ sym (step_law.0 w o stands.standing.running.openings)
 
-  log_then : IsDone old o reply new before now → IsSomeAnd now (JournalAt new.journal ((stands.before ++ w.log) ++ groups))
+  log_then : IsDone old o reply new before now → IsSomeAnd now (JournalAt new.journal empty_snapshot ((stands.before ++ w.log) ++ groups))
   unfolding groups
   log_then done = done.log (stands.before ++ w.log) stands.disk
 
@@ -116,7 +116,7 @@ module _ (old new : KernelState) (o : Outcome) (reply : Reply) (before now : Opt
     standing = keeps.stands;
     before = stands.before;
     began = began_on old.journal new.journal stands.before w (extend w o) done.units done.image refl refl stands.began;
-    disk = subst (λ (l : List Group). IsSomeAnd now (JournalAt new.journal l)) (append_assoc stands.before w.log groups) (log_then done);
+    disk = subst (λ (l : List Group). IsSomeAnd now (JournalAt new.journal empty_snapshot l)) (append_assoc stands.before w.log groups) (log_then done);
   }
 
   done_stopped : IsDone old o reply new before now → o.stops ≡ true → HasFallen new now (extend w o)
@@ -126,11 +126,11 @@ module _ (old new : KernelState) (o : Outcome) (reply : Reply) (before now : Opt
     standing = keeps.stands;
     before = stands.before;
     began = began_on old.journal new.journal stands.before w (extend w o) done.units done.image refl refl stands.began;
-    disk = IsSomeAnd-map now (JournalAt new.journal ((stands.before ++ w.log) ++ groups)) (LeavesPossible new.journal stands.before (extend w o)) (log_then done) (λ s at image left. (
+    disk = IsSomeAnd-map now (JournalAt new.journal empty_snapshot ((stands.before ++ w.log) ++ groups)) (LeavesPossible new.journal stands.before (extend w o)) (log_then done) (λ s at image left. (
       w.log,
       subst (λ b. Contains (possible_by (power_after b w) (extend w o).kept (extend w o).log) w.log) (sym stops) (log_is_possible w on stands.standing.running.kept),
       record {
-        is = subst (λ (l : List Group). IsImage new.journal.units new.journal.image l image) same (what_is_left new.journal ((stands.before ++ w.log) ++ groups) s image at left);
+        is = subst (λ (l : List Group). IsImage new.journal.units new.journal.image empty_snapshot l image) same (what_is_left new.journal empty_snapshot ((stands.before ++ w.log) ++ groups) s image at left);
         applies = both_apply new.journal stands.before w began w.log stands.standing.running.applies;
       },
     ));
@@ -158,7 +158,7 @@ module _ (old new : KernelState) (o : Outcome) (reply : Reply) (before now : Opt
           w.log ++ groups,
           kept (groups_possible w.log o.events),
           same (record {
-            is = subst (λ (l : List Group). IsImage old.journal.units old.journal.image l image) (append_assoc stands.before w.log groups) with_it;
+            is = subst (λ (l : List Group). IsImage old.journal.units old.journal.image empty_snapshot l image) (append_assoc stands.before w.log groups) with_it;
             applies = both_apply old.journal stands.before w stands.began (w.log ++ groups) keeps.stands.running.applies;
           }),
         )

@@ -3,7 +3,7 @@ use Rattle.std.specs.Prelude.{◌≡◌, ◌≢◌, ◌⊎◌, Bool, true, false
 use Rattle.ktm_base.specs.declared.refusal.Refusal.{Refusal}
 use Rattle.ktm_base.specs.declared.refusal.Refusal.TheVariants.{MachineDown}
 use Rattle.ktm_base.specs.Disk.{DiskState}
-use Rattle.ktm_journal.specs.Image.{JournalAt}
+use Rattle.ktm_journal.specs.Image.{JournalAt, empty_snapshot}
 use Rattle.ktm_types.specs.declared.reply.Reply.{Reply}
 use Rattle.ktm_types.specs.declared.reply.Reply.TheVariants.{Refused}
 use Rattle.ktm_world.specs.Present.{Present}
@@ -18,7 +18,7 @@ pub record IsDone (old : KernelState) (o : Outcome) (reply : Reply) (new : Kerne
   pub state : new.now ≡ apply old.now o
   pub units : new.journal.units ≡ old.journal.units
   pub image : new.journal.image ≡ old.journal.image
-  pub log : (log : List Group) → IsSomeAnd before (JournalAt old.journal log) → IsSomeAnd now (JournalAt new.journal (log ++ as_groups o.events))
+  pub log : (log : List Group) → IsSomeAnd before (JournalAt old.journal empty_snapshot log) → IsSomeAnd now (JournalAt new.journal empty_snapshot (log ++ as_groups o.events))
 
 -- what is so once the machine is down
 abbrev pub fallen : Present → Present
@@ -29,7 +29,7 @@ pub record IsCutOff (old : KernelState) (o : Outcome) (reply : Reply) (new : Ker
   pub says : reply ≡ Refused MachineDown
   pub state : new.now ≡ fallen old.now
   pub journal : new.journal ≡ old.journal
-  pub log : (log : List Group) → IsSomeAnd before (JournalAt old.journal log) → IsSomeAnd now (LeavesWithOr old.journal log (as_groups o.events))
+  pub log : (log : List Group) → IsSomeAnd before (JournalAt old.journal empty_snapshot log) → IsSomeAnd now (LeavesWithOr old.journal empty_snapshot log (as_groups o.events))
 
 -- by whether the disk is down then
 abbrev pub Ends : Bool → KernelState → Outcome → Reply → KernelState → Option DiskState → Option DiskState → Type 0

@@ -3,7 +3,7 @@ use Rattle.std.specs.Prelude.{◌≡◌, ℕ, ◌≤◌, Bool, true, false, List
 use Rattle.ktm_base.specs.Disk.{DiskState, DiskStatus, MayLeave, IsSafe}
 use Rattle.ktm_base.specs.Power.{Restored, NotRestored}
 use Rattle.ktm_base.specs.Told.{Goes}
-use Rattle.ktm_journal.specs.Image.{JournalState, JournalAt, IsFormatted, left_after}
+use Rattle.ktm_journal.specs.Image.{JournalState, JournalAt, IsHeaded, empty_snapshot, left_after}
 use Rattle.ktm_restart.specs.Logs.{HoldsLog, StandsFor}
 use Rattle.ktm_types.specs.declared.command.Line.{Line}
 use Rattle.ktm_types.specs.declared.reply.Reply.{Reply}
@@ -38,7 +38,7 @@ pub record Stands (k : KernelState) (told : Option DiskState) (w : World) : Type
   pub standing : IsStanding w
   pub before : List Group
   pub began : Began k.journal before w
-  pub disk : IsSomeAnd told (JournalAt k.journal (before ++ w.log))
+  pub disk : IsSomeAnd told (JournalAt k.journal empty_snapshot (before ++ w.log))
 
 -- each image that a loss of power may leave holds what the run began with and one of the possible logs
 abbrev pub LeavesPossible : JournalState → List Group → World → DiskState → Type 0
@@ -69,7 +69,7 @@ DoesLine w line reply k told = (step : Step) × (new : World) × Does w line ste
 pub record IsPowered (k : KernelState) (told : Option DiskState) (status : DiskStatus) : Type 0 where
   pub power : k.now.machine.is_up ≡ true → status.is_down ≡ false
   pub settled : k.now.machine.is_up ≡ true → status.pending ≡ 0
-  pub image : k.now.machine.is_up ≡ true → IfSome told (λ s. IsFormatted k.journal.units k.journal.image s.seen)
+  pub image : k.now.machine.is_up ≡ true → IfSome told (λ s. IsHeaded k.journal.units k.journal.image k.journal.selector s.seen)
 
 -- a machine is ready for a line: its disk is as `IsPowered` says, and it keeps what it is to keep of what is so now
 pub record IsReady (k : KernelState) (told : Option DiskState) (status : DiskStatus) : Type 0 where

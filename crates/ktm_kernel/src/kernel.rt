@@ -5,6 +5,7 @@ ghost use Rattle.ktm_base.specs.declared.refusal.Refusal.TheVariants.{MachineDow
 ghost use Rattle.ktm_types.specs.declared.command.Line.TheVariants.{Crash, Tick};
 ghost use Rattle.ktm_types.specs.declared.reply.Reply.TheVariants.{Refused, Done};
 ghost use Rattle.ktm_types.specs.Values.{IsCommand};
+ghost use Rattle.ktm_world.specs.Durable.{stand};
 ghost use Rattle.ktm_world.specs.Labels.{is_bound};
 ghost use Rattle.ktm_world.specs.World.{World, decide_tick};
 ghost use Rattle.ktm_kernel.specs.Answers.{AnswerLeaves, CallLeaves, IsAsItWas, IsLineAnswered};
@@ -60,6 +61,14 @@ impl Kernel {
         ensures { result ≡ is_bound self.now.now process label }
     {
         self.memory.handles().get(process, label).is_some()
+    }
+
+    /// How many events were ever recorded, also of a machine that is down: what was appended when it went down does not count.
+    pub fn events(&self) -> u64
+        ensures now { result ≡ self.now.now.recorded.events }
+        ensures world { (told : Option DiskState) (w : World) → KernelAt self.now told w → result ≡ (stand w.base w.log).events }
+    {
+        self.memory.journal().events()
     }
 
     /// The power is gone: the machine is down until it is started again from its disk.

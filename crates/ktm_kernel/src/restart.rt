@@ -5,7 +5,7 @@ ghost use Rattle.ktm_event.specs.Kept.{Holds};
 ghost use Rattle.ktm_base.specs.Disk.{DeviceCalls};
 ghost use Rattle.ktm_standing.specs.Standing.{fresh};
 ghost use Rattle.ktm_journal.specs.Append.{has_no_room};
-ghost use Rattle.ktm_journal.specs.Image.{IsFormatted, IsHeaded};
+ghost use Rattle.ktm_journal.specs.Image.{IsHeaded};
 ghost use Rattle.ktm_types.specs.Sizes.{area_len, frame_size};
 ghost use Rattle.ktm_slots.specs.Owed.{owed_slots};
 ghost use Rattle.ktm_states.specs.GoodState.{IsGoodState};
@@ -14,7 +14,6 @@ ghost use Rattle.ktm_world.specs.World.{World, in_doubt as all_in_doubt, own_gro
 ghost use Rattle.ktm_memory.specs.Memory.{IsRoomy, Shows};
 ghost use Rattle.ktm_restart.specs.Loads.{IsJournalOf, MayStart};
 ghost use Rattle.ktm_kernel.specs.Starting.{Begun, IsNotRecorded, IsRecorded, NothingBegins};
-ghost use Rattle.ktm_memory.specs.Recorded.{RecordingLeaves};
 ghost use Rattle.ktm_kernel.specs.Restarts.{ListsStart, RestartLeaves, answer_of, restart_went_down, unrecorded};
 ghost use Rattle.ktm_kernel.specs.Answers.{StartAgainLeaves};
 ghost use Rattle.ktm_log.specs.OnDisk.{on};
@@ -261,7 +260,7 @@ fn record_start<D: Disk>(
 ) -> Result<Kernel, RestartFault>
     requires up { (D.status disk.old).is_down ≡ false }
     requires pending { (D.status disk.old).pending ≡ 0 }
-    requires formatted { IfSome (D.told disk.old) (λ s. IsFormatted starting.memory.journal.units starting.memory.journal.image s.seen) }
+    requires headed { IfSome (D.told disk.old) (λ s. IsHeaded starting.memory.journal.units starting.memory.journal.image starting.memory.journal.selector s.seen) }
     requires roomy { IsRoomy starting.memory.journal starting.events }
     requires listed { (group : Group) × Holds starting.events group }
     ensures ok { IfOk result (λ kernel. IsRecorded starting.events (on starting.memory (D.told disk.old) (D.status disk.old)) (D.told disk.new) (D.status disk.new) kernel) }
@@ -291,7 +290,7 @@ impl Kernel {
         requires pending { (D.status disk.old).pending ≡ 0 }
         ensures leaves { RestartLeaves (on buffer.old (D.told disk.old) (D.status disk.old)) (on buffer.new (D.told disk.new) (D.status disk.new)) result }
         ensures calls { DeviceCalls (8 * MOST_UNITS + 68) (D.status disk.old) (D.status disk.new) (restart_went_down result) }
-        ensures few { (units image : ℕ) → IsSomeAnd (D.told disk.old) (λ s. IsHeaded units image s.seen) → (D.status disk.new).calls ≤ (D.status disk.old).calls + (8 * units + 68) }
+        ensures few { (units image selector : ℕ) → IsSomeAnd (D.told disk.old) (λ s. IsHeaded units image selector s.seen) → (D.status disk.new).calls ≤ (D.status disk.old).calls + (8 * units + 68) }
     {
         law_of_fresh();
         law_of_standing();

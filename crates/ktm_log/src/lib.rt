@@ -9,10 +9,11 @@ mod frame;
 mod laws;
 mod load;
 mod log;
-mod settle;
+mod settling;
 
 pub use area::Area;
 pub use fault::{AppendFault, LogFault};
 pub use frame::{first_payload, frame_len};
 pub use laws::{law_of_bad_logs, law_of_logs, law_of_one_kind, law_of_some_kind};
 pub use log::Log;
+pub use settling::settle;

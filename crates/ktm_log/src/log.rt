@@ -7,7 +7,7 @@ ghost use Rattle.ktm_log.specs.Scan.{ScanLeaves};
 
 use crate::fault::FrameFault;
 use crate::load::next_frame;
-use crate::settle::settle;
+use crate::settling::settle;
 use crate::{AppendFault, Area, LogFault};
 use ktm_base::{Disk, Down};
 use std::marker::Model;
@@ -31,6 +31,15 @@ impl Model for Log {
 }
 
 impl Log {
+    /// The log of an area that begins with a closed gate. The disk is not looked at.
+    pub fn empty(area: Area) -> Log
+        requires there { 0 < area.len }
+        requires small { area.at + area.len < 2 ^ 63 }
+        ensures { result ≡ record { area = area; end = 0 } }
+    {
+        Log { area, end: 0 }
+    }
+
     /// Reads a log from its begin into the buffer, no further than it needs to find the closed gate. The payloads stay in
     /// the buffer, where `first_payload` finds them. It takes memory only where the buffer has less than the area's length.
     pub fn scan<D: Disk>(disk: &mut D, area: Area, buffer: &mut Vec<u8>) -> Result<Log, LogFault>

@@ -6,7 +6,7 @@ use Rattle.std.specs.Prelude.{IsTrue, IfSome, IsSomeAnd}
 use Rattle.ktm_base.specs.Disk.{DiskState, DiskStatus}
 use Rattle.ktm_event.specs.Kept.{EventsState, Holds}
 use Rattle.ktm_journal.specs.Append.{RecordLeaves, has_no_room, with_group}
-use Rattle.ktm_journal.specs.Image.{IsFormatted, JournalState, JournalAt}
+use Rattle.ktm_journal.specs.Image.{IsHeaded, JournalState, JournalAt}
 use Rattle.ktm_log.specs.declared.fault.AppendFault.{AppendFault}
 use Rattle.ktm_log.specs.declared.fault.AppendFault.TheVariants.{Down, Full}
 use Rattle.ktm_log.specs.OnDisk.{AllSynced, OnDisk, on}
@@ -35,16 +35,16 @@ no_calls status up pending = record {
 
 -- nothing is done for it
 pub nothing_recorded : (events : EventsState) (m : MemoryState) (told : Option DiskState) (status : DiskStatus) (empty : Bool) → empty ≡ true → (IsTrue empty → events.count ≡ 0)
-    → IfSome told (λ s. IsFormatted m.journal.units m.journal.image s.seen) → status.is_down ≡ false → status.pending ≡ 0 → AreRecorded events (on m told status) (on m told status)
-nothing_recorded events m told status empty is tells formatted up pending =
+    → IfSome told (λ s. IsHeaded m.journal.units m.journal.image m.journal.selector s.seen) → status.is_down ≡ false → status.pending ≡ 0 → AreRecorded events (on m told status) (on m told status)
+nothing_recorded events m told status empty is tells headed up pending =
     let none = tells is in
     record {
       room = λ group holds. subst (λ (g : Group). has_no_room m.journal g ≡ false) (none_held events group none holds) refl;
       grows = λ group holds. subst (λ (g : Group). m ≡ record m { journal = appended m.journal g }) (none_held events group none holds) (ap (λ (j : JournalState). record m { journal = j }) (nothing_appended m.journal));
-      adds = λ log group holds at. subst (λ (g : Group). IsSomeAnd told (JournalAt m.journal (log ++ as_groups g))) (none_held events group none holds)
-          (subst (λ (l : List Group). IsSomeAnd told (JournalAt m.journal l)) (sym (append-nil log)) at);
+      adds = λ snapshot log group holds at. subst (λ (g : Group). IsSomeAnd told (JournalAt m.journal snapshot (log ++ as_groups g))) (none_held events group none holds)
+          (subst (λ (l : List Group). IsSomeAnd told (JournalAt m.journal snapshot l)) (sym (append-nil log)) at);
       none = λ holds. record { told = refl; status = refl };
-      formatted = formatted;
+      headed = headed;
       synced = no_calls status up pending;
     }
 
@@ -75,16 +75,16 @@ pub recorded : (events : EventsState) (m : MemoryState) (k : JournalState) (o n 
 recorded events m k o n s t (Ok done) some leaves = record {
   room = leaves.room;
   grows = λ group holds. ap (λ (j : JournalState). record m { journal = j }) (leaves.grows group holds ∙ appended_one events group m.journal some holds);
-  adds = λ log group holds at. as_one (λ gs. IsSomeAnd n (JournalAt k (log ++ gs))) events group some holds (leaves.adds log group holds at);
+  adds = λ snapshot log group holds at. as_one (λ gs. IsSomeAnd n (JournalAt k snapshot (log ++ gs))) events group some holds (leaves.adds snapshot log group holds at);
   none = λ holds. absurd (not_none events some holds);
-  formatted = leaves.formatted;
+  headed = leaves.headed;
   synced = leaves.synced;
 }
 recorded events m k o n s t (Err Down) some leaves = record {
   same = ap (λ (j : JournalState). record m { journal = j }) leaves.same;
   some = not_none events some;
   room = leaves.room;
-  either = λ log group holds at. as_one (λ gs. IsSomeAnd n (LeavesWithOr m.journal log gs)) events group some holds (leaves.either log group holds at);
+  either = λ snapshot log group holds at. as_one (λ gs. IsSomeAnd n (LeavesWithOr m.journal snapshot log gs)) events group some holds (leaves.either snapshot log group holds at);
   calls = leaves.calls;
 }
 recorded events m k o n s t (Err Full) some leaves = record {

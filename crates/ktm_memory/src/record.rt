@@ -1,6 +1,6 @@
 // Recording what a command has to record.
 ghost use Rattle.std.specs.Prelude.{◌≡◌, false, IfSome};
-ghost use Rattle.ktm_journal.specs.Image.{IsFormatted};
+ghost use Rattle.ktm_journal.specs.Image.{IsHeaded};
 ghost use Rattle.ktm_log.specs.OnDisk.{on};
 ghost use Rattle.ktm_memory.specs.Recorded.{RecordingLeaves};
 
@@ -14,7 +14,7 @@ impl Memory {
     pub fn record<D: Disk>(&mut self, disk: &mut D, events: &Events) -> Result<(), AppendFault>
         requires up { (D.status disk.old).is_down ≡ false }
         requires pending { (D.status disk.old).pending ≡ 0 }
-        requires formatted { IfSome (D.told disk.old) (λ s. IsFormatted self.old.journal.units self.old.journal.image s.seen) }
+        requires headed { IfSome (D.told disk.old) (λ s. IsHeaded self.old.journal.units self.old.journal.image self.old.journal.selector s.seen) }
         ensures { RecordingLeaves events.now (on self.old (D.told disk.old) (D.status disk.old)) (on self.new (D.told disk.new) (D.status disk.new)) result }
     {
         if events.is_empty() {

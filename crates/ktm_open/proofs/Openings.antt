@@ -126,7 +126,7 @@ module _ (base : Durable) (room : ℕ) where
       subst (λ (l : List ℕ). BeginsAs base room l) (sym ((safe_law s image begins.0).0 left)) begins.1)
 
   few_calls : (old new : DiskState) (a b c : DiskStatus) (x y : Bool) → Begins base room old → Prepared old new → DeviceCalls (8 * MOST_UNITS + 65) a b x → DeviceCalls (8 * MOST_UNITS + 68) b c y
-      → (0 < length old.seen → b.calls ≤ a.calls + 1) → ((units image : ℕ) → IsHeaded units image new.seen → c.calls ≤ b.calls + (8 * units + 68))
+      → (0 < length old.seen → b.calls ≤ a.calls + 1) → ((units image selector : ℕ) → IsHeaded units image selector new.seen → c.calls ≤ b.calls + (8 * units + 68))
       → c.calls ≤ a.calls + (16 * base.units + 133)
   few_calls old new a b c x y begins prepared first second one few = elim prepared [
     | inl (none, all, holds) ↦
@@ -135,13 +135,13 @@ module _ (base : Durable) (room : ℕ) where
         omega (arith, first.few, second.few)
     | inr (some, same) ↦
         let is = prepared_base base room old new begins (inr (some, same)) in
-        let calls : c.calls ≤ b.calls + (8 * base.units + 68) = few base.units base.image is.holds.1.is.formatted.headed in
+        let calls : c.calls ≤ b.calls + (8 * base.units + 68) = few base.units base.image is.holds.1.is.selector is.holds.1.is.formatted.headed in
         let before : b.calls ≤ a.calls + 1 = one some in
         omega arith
   ]
 
   pub opening_counts : (old new : Option DiskState) (a b c : DiskStatus) (x y : Bool) → IsSomeAnd old (Begins base room) → Goes Prepared old new → DeviceCalls (8 * MOST_UNITS + 65) a b x → DeviceCalls (8 * MOST_UNITS + 68) b c y
-      → (IsSomeAnd old (λ s. 0 < length s.seen) → b.calls ≤ a.calls + 1) → ((units image : ℕ) → IsSomeAnd new (λ s. IsHeaded units image s.seen) → c.calls ≤ b.calls + (8 * units + 68))
+      → (IsSomeAnd old (λ s. 0 < length s.seen) → b.calls ≤ a.calls + 1) → ((units image selector : ℕ) → IsSomeAnd new (λ s. IsHeaded units image selector s.seen) → c.calls ≤ b.calls + (8 * units + 68))
       → OpeningCounts base.units a c
   opening_counts None new a b c x y tells goes first second one few = absurd tells
   opening_counts (Some old) None a b c x y tells goes first second one few = absurd goes
@@ -253,7 +253,7 @@ module _ (base : Durable) (room : ℕ) where
 
 module _ {Z : Type 0} (old mid new : Option DiskState) (s u t : DiskStatus) (b d : Vec ℕ Z) (goes : Goes Prepared old mid) (prepared : DeviceCalls (8 * MOST_UNITS + 65) s u false) where
   pub opens : (r : Restarted) → IsStarted (on b mid u) (on d new t) r → DeviceCalls (8 * MOST_UNITS + 68) u t false → (IsSomeAnd old (λ s. 0 < length s.seen) → u.calls ≤ s.calls + 1)
-      → ((units image : ℕ) → IsSomeAnd mid (λ s. IsHeaded units image s.seen) → t.calls ≤ u.calls + (8 * units + 68)) → IsOpened r old new s t
+      → ((units image selector : ℕ) → IsSomeAnd mid (λ s. IsHeaded units image selector s.seen) → t.calls ≤ u.calls + (8 * units + 68)) → IsOpened r old new s t
   opens r is calls one few = record {
     stands = λ base room tells. stands_opened base room mid new r.kernel r.events r.in_doubt (tells_base base room old mid tells goes) is.starts;
     found = λ base room tells. found_opened base room mid new r.kernel r.events r.in_doubt (tells_base base room old mid tells goes) is.starts;

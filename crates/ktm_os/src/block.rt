@@ -35,6 +35,18 @@ impl<R: Files<File = File>> FileBlock<LateFile<R>> {
     {
         FileBlock::over(LateFile::new(rt, path, Access::Change))
     }
+
+    /// In the file of this path, which is opened at the first call, and for reading alone: it is neither made nor locked, and
+    /// a call that changes it fails.
+    pub fn reading(rt: R, path: String) -> FileBlock<LateFile<R>>
+        ensures faults { result.faults ≡ 0 }
+        ensures rt { result.image.file.rt ≡ rt }
+        ensures path { path_of_block result ≡ string_bytes path }
+        ensures access { result.image.file.access ≡ Access.Read }
+        ensures waits { result.image.waits ≡ true }
+    {
+        FileBlock::over(LateFile::new(rt, path, Access::Read))
+    }
 }
 
 impl<F: ImageFile> FileBlock<F> {

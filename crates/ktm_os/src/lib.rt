@@ -1,6 +1,6 @@
 //! The outside of the program: a source over a file, a block device over a file, a disk over that, and a sink over
-//! standard output. Each failure is counted, and nothing else is. No contract can say what a file of the system holds;
-//! but what a block asks of its file, and what it makes of the answers, is proved over any file.
+//! standard output. Source, sink and block count each failure, and nothing else. No contract can say what a file of the
+//! system holds; but what a block asks of its file, and what it makes of the answers, is proved over any file.
 #![tactic(auto)]
 
 mod access;

@@ -1,5 +1,5 @@
 -- How many entries there are in each bucket of transactions.
-use Rattle.std.specs.Prelude.{◌≡◌, ℕ, ◌%◌, ◌==◌, Bool, List, count_by, slice_index}
+use Rattle.std.specs.Prelude.{◌≡◌, ℕ, ◌%◌, ◌≤◌, ◌==◌, ◌&&◌, Bool, true, List, count_by, slice_index}
 use Rattle.ktm_base.specs.declared.id.Id.{Id}
 use Rattle.ktm_places.specs.declared.places.Places.{Places}
 use Rattle.ktm_places.specs.declared.places.TheConstants.{BUCKETS}
@@ -12,6 +12,15 @@ bucket_of id = id.number % BUCKETS
 abbrev pub is_in : ℕ → Id → Bool
 is_in bucket id = bucket_of id == bucket
 
--- each count is that of the transactions in its bucket, of those of the entries
+-- is it the transaction's
+abbrev pub is_its : Id → Id → Bool
+is_its transaction id = (id.boot == transaction.boot) && (id.number == transaction.number)
+
+-- each count is that of the transactions in its bucket
+pub record AreInBuckets (ids : List Id) (counts : List ℕ) : Type 0 where
+  pub counted : (bucket : ℕ) → slice_index counts bucket ≡ count_by (is_in bucket) ids
+
+-- these are the places of entries of these transactions, of which none has two where it is said so
 pub record AreCounted (ids : List Id) (places : Places) : Type 0 where
-  pub counted : (bucket : ℕ) → slice_index places.counts bucket ≡ count_by (is_in bucket) ids
+  pub buckets : AreInBuckets ids places.counts
+  pub once : places.is_once ≡ true → (transaction : Id) → count_by (is_its transaction) ids ≤ 1

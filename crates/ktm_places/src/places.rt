@@ -1,8 +1,9 @@
 // Where entries are, by counts of their transactions.
 ghost use Rattle.std.specs.Prelude.{◌≡◌, ℕ, ◌+◌, ◌%◌, ◌<◌, List, [], ◌∷◌, ◌++◌, length, false, map, position, remove, slice_get, slice_index_or};
-ghost use Rattle.std.specs.Option.{option_map_or};
+ghost use Rattle.std.specs.Option.{option_map};
 ghost use Rattle.ktm_base.specs.declared.id.Id.{Id};
-ghost use Rattle.ktm_places.specs.Places.{bucket_of, AreCounted};
+ghost use Rattle.std.specs.List.{list_any};
+ghost use Rattle.ktm_places.specs.Places.{bucket_of, is_its, AreCounted, AreInBuckets};
 
 use ktm_base::Id;
 
@@ -28,10 +29,14 @@ pub trait Entry {
 pub struct Places {
     // How many entries a bucket has.
     counts: [usize; BUCKETS],
-    // The stamp of the last entry that came into a bucket. It is a hint: what is found by it is looked at.
+    // The stamp of the last entry that came into a bucket, and of the one before it. They are hints: what is found by one is
+    // looked at.
     stamps: [u64; BUCKETS],
+    earlier: [u64; BUCKETS],
     // The stamp of the entry that comes next. Stamps rise along the list.
     next: u64,
+    // No transaction has two entries, as far as it is known.
+    is_once: bool,
 }
 
 // The bucket of a transaction.
@@ -47,13 +52,13 @@ fn stamped<T: Entry>(entries: &[T], stamp: u64) -> usize {
     entries.partition_point(|entry| entry.stamp() < stamp)
 }
 
-// Is the entry at this place the transaction's.
-fn is_at<T: Entry>(entries: &[T], place: usize, transaction: Id) -> bool
-    ensures { result ≡ option_map_or (λ entry. ⟦<Id as PartialEq>⟧.eq (T.owner entry) transaction) (slice_get entries.now place) false }
+// Whose the entry at this place is.
+fn owner_at<T: Entry>(entries: &[T], place: usize) -> Option<Id>
+    ensures { result ≡ option_map T.owner (slice_get entries.now place) }
 {
     match entries.get(place) {
-        Some(entry) => entry.transaction() == transaction,
-        None => false,
+        Some(entry) => Some(entry.transaction()),
+        None => None,
     }
 }
 
@@ -74,27 +79,34 @@ impl Places {
         Places {
             counts: [0; BUCKETS],
             stamps: [0; BUCKETS],
+            earlier: [0; BUCKETS],
             next: 0,
+            is_once: true,
         }
     }
 
-    /// Where the first entry of the transaction is. It looks at few of them, unless several transactions of its bucket have one.
+    /// Where the first entry of the transaction is. It may walk the list.
     pub fn place_of<T: Entry>(&self, entries: &[T], transaction: Id) -> Option<usize>
         requires { AreCounted (map T.owner entries.now) self.now }
         ensures { result ≡ position (λ entry. ⟦<Id as PartialEq>⟧.eq (T.owner entry) transaction) entries.now }
     {
         let bucket = bucket_of(transaction);
-        match self.counts[bucket] {
-            0 => None,
-            1 => {
-                let place = stamped(entries, self.stamps[bucket]);
-                if is_at(entries, place, transaction) {
-                    return Some(place);
-                }
-                walked(entries, transaction)
-            }
-            _ => walked(entries, transaction),
+        let count = self.counts[bucket];
+        if count == 0 {
+            return None;
         }
+        let place = stamped(entries, self.stamps[bucket]);
+        let Some(owner) = owner_at(entries, place) else {
+            return walked(entries, transaction);
+        };
+        let is_its = owner == transaction;
+        if is_its && (count == 1 || self.is_once) {
+            return Some(place);
+        }
+        if !is_its && count == 1 && bucket_of(owner) == bucket {
+            return None;
+        }
+        walked(entries, transaction)
     }
 
     /// The stamp of the entry that comes next.
@@ -102,21 +114,45 @@ impl Places {
         self.next
     }
 
-    /// An entry of the transaction's has come, behind the others, with the next stamp.
-    pub fn add(&mut self, transaction: Id)
-        ensures { (ids : List Id) → length ids < usize.MAX → AreCounted ids self.old → AreCounted (ids ++ transaction ∷ []) self.new }
+    // One entry more is counted, which has the next stamp.
+    fn count(&mut self, transaction: Id)
+        ensures counted { (ids : List Id) → length ids < usize.MAX → AreInBuckets ids self.old.counts → AreInBuckets (ids ++ transaction ∷ []) self.new.counts }
+        ensures is_once { self.new.is_once ≡ self.old.is_once }
     {
         let bucket = bucket_of(transaction);
         self.counts[bucket] = self.counts[bucket].saturating_add(1);
+        self.earlier[bucket] = self.stamps[bucket];
         self.stamps[bucket] = self.next;
         self.next = self.next.wrapping_add(1);
     }
 
-    /// The entry of the transaction's at some place has gone.
-    pub fn remove(&mut self, transaction: Id)
-        ensures { (ids : List Id) (place : ℕ) → place < length ids → slice_index_or ids place transaction ≡ transaction → AreCounted ids self.old → AreCounted (remove ids place) self.new }
+    // One entry less is counted, which had this stamp.
+    fn uncount(&mut self, transaction: Id, stamp: u64)
+        ensures counted { (ids : List Id) (place : ℕ) → place < length ids → slice_index_or ids place transaction ≡ transaction → AreInBuckets ids self.old.counts → AreInBuckets (remove ids place) self.new.counts }
+        ensures is_once { self.new.is_once ≡ self.old.is_once }
     {
         let bucket = bucket_of(transaction);
         self.counts[bucket] = self.counts[bucket].saturating_sub(1);
+        if self.stamps[bucket] == stamp {
+            self.stamps[bucket] = self.earlier[bucket];
+        }
+    }
+
+    /// An entry of the transaction's has come, behind the others, with the next stamp, and the transaction may have had one. Where
+    /// it may, looking up takes longer from now on.
+    pub fn add(&mut self, transaction: Id, had: bool)
+        ensures { (ids : List Id) → length ids < usize.MAX → (had ≡ false → list_any (is_its transaction) ids ≡ false) → AreCounted ids self.old → AreCounted (ids ++ transaction ∷ []) self.new }
+    {
+        if had {
+            self.is_once = false;
+        }
+        self.count(transaction);
+    }
+
+    /// The entry of the transaction's at some place has gone, which had this stamp.
+    pub fn remove(&mut self, transaction: Id, stamp: u64)
+        ensures { (ids : List Id) (place : ℕ) → place < length ids → slice_index_or ids place transaction ≡ transaction → AreCounted ids self.old → AreCounted (remove ids place) self.new }
+    {
+        self.uncount(transaction, stamp);
     }
 }

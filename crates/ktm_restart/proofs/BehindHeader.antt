@@ -1,61 +1,85 @@
--- What the loading of a log says of a load, which reads the header before it.
+-- What the loading of a log says of a load, which reads the header and the snapshot before it.
 use Rattle.std.specs.Prelude.{IfSome}
 use Rattle.std.proofs.Common.{◌≡◌, ℕ, ◌+◌, ◌≤◌, Bool, false, true, Result, Ok, Err, Option, Vec, refl, ◌∙◌, subst, arith}
 use Rattle.ktm_base.specs.Disk.{DiskState, DiskStatus, OnlyReads}
 use Rattle.ktm_base.proofs.offered.Images.{calls_law}
-use Rattle.ktm_journal.specs.Bad.{IsUnformattedAt, load_went_down}
+use Rattle.ktm_journal.specs.Bad.{HasNoHeader, load_went_down}
+use Rattle.ktm_journal.specs.Image.{IsHeaded, empty_snapshot, half_of, snapshot_area}
+use Rattle.ktm_journal.specs.Snapshot.{IsSnapshotRead, SnapshotLeaves}
 use Rattle.ktm_journal.specs.declared.fault.LoadFault.{LoadFault}
 use Rattle.ktm_journal.specs.declared.fault.LoadFault.TheVariants.{Down, Bad, NoMemory}
+use Rattle.ktm_journal.specs.declared.header.Header.{Header}
 use Rattle.ktm_log.specs.OnDisk.{OnDisk, ReadsInto, WasRead, on}
 use Rattle.ktm_log.proofs.Reading.{reads_most}
 use Rattle.ktm_restart.specs.declared.replay.Loaded.{Loaded}
-use Rattle.ktm_restart.specs.Loads.{FaultLeaves, IsLoaded, KnowsLog, LoadLeaves}
+use Rattle.ktm_restart.specs.Loads.{FaultLeaves, IsAtStart, IsLoaded, KnowsLog, LoadLeaves}
 use Rattle.ktm_restart.specs.Bad.{IsBadAt}
 use Rattle.ktm_restart.specs.Logs.{StandsFor}
-use Rattle.ktm_restart.proofs.LogLoads.{unformatted_told}
+use Rattle.ktm_restart.proofs.LogLoads.{bad_start, good_start, headless_told, no_start, other_start}
+
+-- something was read before, and the disk is still up
+module _ {Z : Type 0} (old mid new : OnDisk (Vec ℕ Z)) (first then most : ℕ) (before : WasRead first old mid) (few : first + then ≤ most) where
+  reads_behind : (refused : Bool) → ReadsInto then mid new refused → ReadsInto most old new refused
+  reads_behind refused read = reads_most (first + then) most old new few refused (record {
+    kept = omega (arith, before.reads.kept, read.kept);
+    reads = record {
+      same = read.reads.same ∙ before.reads.reads.same;
+      pending = read.reads.pending ∙ before.reads.reads.pending;
+      calls = calls_law old.status mid.status new.status first then refused before.reads.reads.calls read.reads.calls;
+    };
+  })
+
+  read_behind : WasRead then mid new → WasRead most old new
+  read_behind read = record { reads = reads_behind false read.reads; up = read.up }
+
+  loaded_behind : (loaded : Loaded) → IsLoaded then mid new loaded → IsLoaded most old new loaded
+  loaded_behind loaded is = record {
+    state = is.state;
+    journal = is.journal;
+    room = is.room;
+    stands = subst (λ x. IfSome x (λ s. StandsFor loaded.state s.seen)) before.reads.reads.same is.stands;
+    headed = is.headed;
+    knows = subst (λ x. KnowsLog loaded.state.units loaded.state.image x new.told loaded.journal) before.reads.reads.same is.knows;
+    read = read_behind is.read;
+  }
+
+  pub fault_behind : (fault : LoadFault) → FaultLeaves then mid new fault → FaultLeaves most old new fault
+  fault_behind Down read = reads_behind true read
+  fault_behind (Bad offset) is = record { bad = subst (λ x. IfSome x (λ s. IsBadAt s.seen offset)) before.reads.reads.same is.bad; read = read_behind is.read }
+  fault_behind NoMemory read = reads_behind false read
+
+  pub loads_behind : (result : Result Loaded LoadFault) → LoadLeaves then mid new result → LoadLeaves most old new result
+  loads_behind (Ok loaded) is = loaded_behind loaded is
+  loads_behind (Err fault) is = fault_behind fault is
+
+-- a fault came, after fewer calls than there may be
+pub fault_most : {Z : Type 0} (m n : ℕ) (old new : OnDisk (Vec ℕ Z)) (fault : LoadFault) → m ≤ n → FaultLeaves m old new fault → FaultLeaves n old new fault
+fault_most m n old new Down few read = reads_most m n old new few true read
+fault_most m n old new (Bad offset) few is = record { bad = is.bad; read = record { reads = reads_most m n old new few false is.read.reads; up = is.read.up } }
+fault_most m n old new NoMemory few read = reads_most m n old new few false read
 
 module _ {Z : Type 0} (buffer : Vec ℕ Z) (o m : Option DiskState) (s t : DiskStatus) (first : ℕ) where
-  -- the header was read, and the disk is still up
-  module _ (header : OnlyReads first o m s t false) (new : OnDisk (Vec ℕ Z)) (then most : ℕ) (few : first + then ≤ most) where
-    reads_behind : (refused : Bool) → ReadsInto then (on buffer m t) new refused → ReadsInto most (on buffer o s) new refused
-    reads_behind refused read = reads_most (first + then) most (on buffer o s) new few refused (record {
-      kept = read.kept;
-      reads = record {
-        same = read.reads.same ∙ header.same;
-        pending = read.reads.pending ∙ header.pending;
-        calls = calls_law s t new.status first then refused header.calls read.reads.calls;
-      };
-    })
-
-    read_behind : WasRead then (on buffer m t) new → WasRead most (on buffer o s) new
-    read_behind read = record { reads = reads_behind false read.reads; up = read.up }
-
-    loaded_behind : (loaded : Loaded) → IsLoaded then (on buffer m t) new loaded → IsLoaded most (on buffer o s) new loaded
-    loaded_behind loaded is = record {
-      state = is.state;
-      journal = is.journal;
-      room = is.room;
-      stands = subst (λ x. IfSome x (λ s. StandsFor loaded.state s.seen)) header.same is.stands;
-      formatted = is.formatted;
-      knows = subst (λ x. KnowsLog loaded.state.units loaded.state.image x new.told loaded.journal) header.same is.knows;
-      read = read_behind is.read;
-    }
-
-    fault_behind : (fault : LoadFault) → FaultLeaves then (on buffer m t) new fault → FaultLeaves most (on buffer o s) new fault
-    fault_behind Down read = reads_behind true read
-    fault_behind (Bad offset) is = record { bad = subst (λ x. IfSome x (λ s. IsBadAt s.seen offset)) header.same is.bad; read = read_behind is.read }
-    fault_behind NoMemory read = reads_behind false read
-
-    pub behind_header : (result : Result Loaded LoadFault) → LoadLeaves then (on buffer m t) new result → LoadLeaves most (on buffer o s) new result
-    behind_header (Ok loaded) is = loaded_behind loaded is
-    behind_header (Err fault) is = fault_behind fault is
-
   reads_header : (most : ℕ) (refused : Bool) → first ≤ most → OnlyReads first o m s t refused → ReadsInto most (on buffer o s) (on buffer m t) refused
   reads_header most refused few reads = reads_most first most (on buffer o s) (on buffer m t) few refused (record { kept = omega arith; reads = reads })
 
-  -- no header, or no snapshot
-  pub no_header : (most : ℕ) (fault : LoadFault) → first ≤ most → (let r : Result Loaded LoadFault = Err fault in OnlyReads first o m s t (load_went_down r)) → ((offset : ℕ) → fault ≡ Bad offset → IfSome o (λ s. IsUnformattedAt s.seen offset))
-      → ((offset : ℕ) → fault ≡ Bad offset → t.is_down ≡ false) → FaultLeaves most (on buffer o s) (on buffer m t) fault
+  pub header_read : OnlyReads first o m s t false → t.is_down ≡ false → WasRead first (on buffer o s) (on buffer m t)
+  header_read reads up = record { reads = reads_header first false (omega arith) reads; up = up }
+
+  pub no_header : (most : ℕ) (fault : LoadFault) → first ≤ most → (let r : Result Loaded LoadFault = Err fault in OnlyReads first o m s t (load_went_down r))
+      → ((offset : ℕ) → fault ≡ Bad offset → IfSome o (λ s. HasNoHeader s.seen) × (offset ≡ 0)) → ((offset : ℕ) → fault ≡ Bad offset → t.is_down ≡ false) → FaultLeaves most (on buffer o s) (on buffer m t) fault
   no_header most Down few reads bad up = reads_header most true few reads
-  no_header most (Bad offset) few reads bad up = record { bad = unformatted_told o offset (bad offset refl); read = record { reads = reads_header most false few reads; up = up offset refl } }
+  no_header most (Bad offset) few reads bad up = record { bad = headless_told o offset (bad offset refl); read = record { reads = reads_header most false few reads; up = up offset refl } }
   no_header most NoMemory few reads bad up = reads_header most false few reads
+
+-- the snapshot was read behind this header, or was not
+module _ {Z : Type 0} (header : Header) (old new : OnDisk (Vec ℕ Z)) (headed : IfSome old.told (λ s. IsHeaded header.units header.image header.selector s.seen)) where
+  pub started : IsSnapshotRead header old new → new.it.items ≡ empty_snapshot → IsAtStart header old new
+  started is empty = record { formatted = good_start header old.told new.it.items empty headed is.snapshot; read = is.read }
+
+  pub not_started : (offset : ℕ) → IsSnapshotRead header old new → (new.it.items ≡ empty_snapshot → ⊥) → offset ≡ (snapshot_area header.units (half_of header.selector)).at → FaultLeaves 2 old new (Bad offset)
+  not_started offset is other at = record { bad = bad_start header old.told offset headed (other_start header old.told new.it.items other is.snapshot) at; read = is.read }
+
+  pub unread : (fault : LoadFault) → SnapshotLeaves header old new (Err fault) → FaultLeaves 2 old new fault
+  unread Down read = read
+  unread (Bad offset) is = record { bad = bad_start header old.told offset headed (no_start header old.told is.none) is.at; read = is.read }
+  unread NoMemory short = reads_most 0 2 old new (omega arith) false short.reads

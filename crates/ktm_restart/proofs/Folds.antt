@@ -9,7 +9,6 @@ use Rattle.ktm_world.specs.Logs.{Group}
 use Rattle.ktm_world.specs.Durable.{Durable, empty_state, after_events, events_apply}
 use Rattle.ktm_types.specs.EventGrammar.{IsGroupOf}
 use Rattle.ktm_world.proofs.offered.Durables.{stand-append, log_applies-append}
-use Rattle.ktm_journal.specs.Image.{log_area}
 use Rattle.ktm_restart.specs.Bad.{IsBadPayload}
 use Rattle.ktm_restart.specs.Payloads.{ComesTo, IsFirstBad}
 use Rattle.ktm_journal.proofs.offered.Images.{groups-push}
@@ -54,8 +53,8 @@ module _ (units image : ℕ) (bytes : List ℕ) (at : ℕ) (state : Durable) (fo
           end = omega (arith, folded.end, end_of-push folded.before payload);
         }
 
-    pub first_bad : IsBadPayload state payload → IsFirstBad units image (payloads_in bytes) ((log_area units).at + at)
-    first_bad bad = record {
+    pub first_bad : (begin : ℕ) → IsBadPayload state payload → IsFirstBad units image begin (payloads_in bytes) (begin + at)
+    first_bad begin bad = record {
       before = folded.before;
       payload = payload;
       rest = payloads_in (drop (at + (length payload + 5)) bytes);
@@ -63,7 +62,7 @@ module _ (units image : ℕ) (bytes : List ℕ) (at : ℕ) (state : Durable) (fo
       state = state;
       good = folded.good;
       bad = bad;
-      at = ap (λ n. (log_area units).at + n) folded.end;
+      at = ap (λ n. begin + n) folded.end;
     }
 
   pub folded_all : first_payload (drop at bytes) ≡ None → ComesTo units image (payloads_in bytes) state

@@ -6,7 +6,7 @@ use Rattle.ktm_base.specs.Bytes.{AreBytes}
 use Rattle.ktm_base.specs.Disk.{DiskState}
 use Rattle.ktm_log.specs.Log.{IsLog, area_bytes, followed, payloads_in, payloads_up_to, size_at}
 use Rattle.ktm_world.specs.Logs.{Group}
-use Rattle.ktm_journal.specs.Image.{HoldGroups, log_area}
+use Rattle.ktm_journal.specs.Image.{HoldGroups, IsHeaded, empty_snapshot, half_of, log_area}
 use Rattle.ktm_journal.proofs.offered.OneImage.{image_payloads}
 use Rattle.ktm_restart.specs.Logs.{AreSpelled, HoldsLog}
 
@@ -43,8 +43,9 @@ groups_spelled (group ∷ log) [] hold all = absurd hold
 groups_spelled (group ∷ log) (p ∷ ps) hold all = ((p, all.0, hold.0), groups_spelled log ps hold.1 all.1)
 
 -- whichever log the image holds, where the buffer has what was read of it
-pub spelled_told : (units image : ℕ) (buffer : List ℕ) → AreBytes buffer → (o : Option DiskState) → IfSome o (λ s. IsLog (payloads_in buffer) (area_bytes (log_area units) s.seen))
+pub spelled_told : (units image selector : ℕ) (buffer : List ℕ) → AreBytes buffer → (o : Option DiskState) → IfSome o (λ s. IsHeaded units image selector s.seen)
+    → IfSome o (λ s. IsLog (payloads_in buffer) (area_bytes (log_area units (half_of selector)) s.seen))
     → (log : List Group) → IsSomeAnd o (λ s. HoldsLog units image log s.seen) → AreSpelled log
-spelled_told units image buffer all None read log holds = absurd holds
-spelled_told units image buffer all (Some s) read log holds =
-    groups_spelled log (payloads_in buffer) (image_payloads units image log (payloads_in buffer) s.seen holds.is read) (payload_bytes buffer all)
+spelled_told units image selector buffer all None headed read log holds = absurd holds
+spelled_told units image selector buffer all (Some s) headed read log holds =
+    groups_spelled log (payloads_in buffer) (image_payloads units image selector empty_snapshot log (payloads_in buffer) s.seen headed holds.is read) (payload_bytes buffer all)

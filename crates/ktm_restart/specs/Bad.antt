@@ -5,24 +5,31 @@ use Rattle.ktm_world.specs.Logs.{Group}
 use Rattle.ktm_world.specs.Durable.{Durable, empty_state, stand, events_apply, log_applies}
 use Rattle.ktm_types.specs.EventGrammar.{IsGroupOf}
 use Rattle.ktm_types.specs.Sizes.{log_size}
-use Rattle.ktm_journal.specs.Image.{IsFormatted, HoldGroups, log_area}
-use Rattle.ktm_journal.specs.Bad.{IsUnformattedAt}
+use Rattle.ktm_journal.specs.Image.{HasSnapshot, HoldGroups, IsFormatted, IsHeaded, empty_snapshot, half_of, log_area, snapshot_area}
+use Rattle.ktm_journal.specs.Bad.{HasNoHeader}
 
 -- a payload that is no group that applies to the state
 abbrev pub IsBadPayload : Durable → List ℕ → Type 0
 IsBadPayload state payload = (events : Group) → IsGroupOf events payload → events_apply state events ≡ false
 
+-- behind a header the half that counts has another snapshot than that of a new image, or none
+pub record IsBadStart (units image selector : ℕ) (bytes : List ℕ) : Type 0 where
+  pub headed : IsHeaded units image selector bytes
+  pub other : ¬ HasSnapshot units (half_of selector) empty_snapshot bytes
+
 -- behind these groups, which apply, stands an open gate whose frame is cut short, or whose payload is bad
-pub record IsBadFrame (units image : ℕ) (log : List Group) (bytes : List ℕ) : Type 0 where
-  pub formatted : IsFormatted units image bytes
+pub record IsBadFrame (units image selector : ℕ) (log : List Group) (bytes : List ℕ) : Type 0 where
+  pub formatted : IsFormatted units image selector empty_snapshot bytes
   pub payloads : List (List ℕ)
   pub groups : HoldGroups log payloads
   pub applies : IsTrue (log_applies (empty_state units image) log)
-  pub frames : BeginsWith payloads (area_bytes (log_area units) bytes)
-  pub bad : IsTorn (drop (end_of payloads) (area_bytes (log_area units) bytes))
-      ⊎ ((payload : List ℕ) × IsFrame payload (drop (end_of payloads) (area_bytes (log_area units) bytes)) × IsBadPayload (stand (empty_state units image) log) payload)
+  pub frames : BeginsWith payloads (area_bytes (log_area units (half_of selector)) bytes)
+  pub bad : IsTorn (drop (end_of payloads) (area_bytes (log_area units (half_of selector)) bytes))
+      ⊎ ((payload : List ℕ) × IsFrame payload (drop (end_of payloads) (area_bytes (log_area units (half_of selector)) bytes)) × IsBadPayload (stand (empty_state units image) log) payload)
 
--- the bytes are bad at this offset: where no image begins, or else at the gate of the first bad frame
+-- the bytes are bad at this offset: at 0 without a header, at the area of a bad snapshot, or else at the gate of the first bad frame
 abbrev pub IsBadAt : List ℕ → ℕ → Type 0
 IsBadAt bytes offset =
-    IsUnformattedAt bytes offset ⊎ ((units : ℕ) × (image : ℕ) × (log : List Group) × IsBadFrame units image log bytes × (offset ≡ (log_area units).at + log_size log))
+    (HasNoHeader bytes × (offset ≡ 0))
+    ⊎ ((units : ℕ) × (image : ℕ) × (selector : ℕ) × IsBadStart units image selector bytes × (offset ≡ (snapshot_area units (half_of selector)).at))
+    ⊎ ((units : ℕ) × (image : ℕ) × (selector : ℕ) × (log : List Group) × IsBadFrame units image selector log bytes × (offset ≡ (log_area units (half_of selector)).at + log_size log))

@@ -5,7 +5,7 @@ use Rattle.ktm_base.specs.Disk.{DiskState, IsSafe}
 use Rattle.ktm_journal.specs.declared.fault.LoadFault.{LoadFault}
 use Rattle.ktm_journal.specs.declared.fault.LoadFault.TheVariants.{Down, Bad, NoMemory}
 use Rattle.ktm_journal.specs.declared.header.Header.{Header}
-use Rattle.ktm_journal.specs.Image.{IsFormatted, JournalAt, JournalState, log_area}
+use Rattle.ktm_journal.specs.Image.{IsFormatted, IsHeaded, JournalAt, JournalState, empty_snapshot, half_of, log_area}
 use Rattle.ktm_journal.specs.Open.{IsOfImage, log_reads}
 use Rattle.ktm_log.specs.Log.{end_of, payloads_in}
 use Rattle.ktm_log.specs.OnDisk.{OnDisk, ReadsInto, WasRead}
@@ -20,7 +20,7 @@ use Rattle.ktm_restart.specs.Logs.{AreInLog, AreSpelled, HoldsLog, StandsFor}
 
 -- whatever log an image of this size and number holds on the disk is this journal's, and is spelled
 pub record KnowsLog (units image : ℕ) (old new : Option DiskState) (journal : JournalState) : Type 0 where
-  pub at : (log : List Group) → IsSomeAnd old (λ s. IsSafe s × HoldsLog units image log s.seen) → IsSomeAnd new (JournalAt journal log)
+  pub at : (log : List Group) → IsSomeAnd old (λ s. IsSafe s × HoldsLog units image log s.seen) → IsSomeAnd new (JournalAt journal empty_snapshot log)
   pub spelled : (log : List Group) → IsSomeAnd old (λ s. HoldsLog units image log s.seen) → AreSpelled log
 
 -- the image with this header has this journal, whose payloads are in the buffer and come to this state
@@ -47,7 +47,7 @@ pub record MayStart (state : Durable) : Type 0 where
 pub record IsJournalOf (state : Durable) (journal : JournalState) : Type 0 where
   pub units : journal.units ≡ state.units
   pub image : journal.image ≡ state.image
-  pub area : journal.log.area ≡ log_area state.units
+  pub area : journal.log.area ≡ log_area state.units (half_of journal.selector)
   pub inside : journal.log.end < journal.log.area.len
   pub events : AreInLog state journal.log.end
   pub counted : journal.events ≡ state.events
@@ -58,7 +58,7 @@ pub record IsLoaded {Z : Type 0} (most : ℕ) (old new : OnDisk (Vec ℕ Z)) (lo
   pub journal : IsJournalOf loaded.state loaded.journal
   pub room : loaded.journal.log.area.len ≤ vec_capacity new.it
   pub stands : IfSome old.told (λ s. StandsFor loaded.state s.seen)
-  pub formatted : IfSome new.told (λ s. IsFormatted loaded.journal.units loaded.journal.image s.seen)
+  pub headed : IfSome new.told (λ s. IsHeaded loaded.journal.units loaded.journal.image loaded.journal.selector s.seen)
   pub knows : KnowsLog loaded.state.units loaded.state.image old.told new.told loaded.journal
   pub read : WasRead most old new
 
@@ -72,6 +72,16 @@ abbrev pub FaultLeaves : {Z : Type 0} → ℕ → OnDisk (Vec ℕ Z) → OnDisk 
 FaultLeaves most old new Down = ReadsInto most old new true
 FaultLeaves most old new (Bad offset) = IsBadImage most old new offset
 FaultLeaves most old new NoMemory = ReadsInto most old new false
+
+-- the header's half has the snapshot of a new image
+pub record IsAtStart {Z : Type 0} (header : Header) (old new : OnDisk (Vec ℕ Z)) : Type 0 where
+  pub formatted : IfSome old.told (λ s. IsFormatted header.units header.image header.selector empty_snapshot s.seen)
+  pub read : WasRead 2 old new
+
+-- what the reading of that snapshot leaves
+abbrev pub StartLeaves : {Z : Type 0} → Header → OnDisk (Vec ℕ Z) → OnDisk (Vec ℕ Z) → Result (Unit {0}) LoadFault → Type 0
+StartLeaves header old new (Ok done) = IsAtStart header old new
+StartLeaves header old new (Err fault) = FaultLeaves 2 old new fault
 
 -- what the replay of a log leaves
 abbrev pub ReplayLeaves : {Z : Type 0} → Header → Durable → OnDisk (Vec ℕ Z) → OnDisk (Vec ℕ Z) → Result JournalState LoadFault → Type 0

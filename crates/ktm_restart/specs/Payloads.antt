@@ -3,7 +3,7 @@ use Rattle.std.specs.Prelude.{◌≡◌, ℕ, ◌+◌, IsTrue, List, ◌∷◌, 
 use Rattle.ktm_log.specs.Log.{end_of}
 use Rattle.ktm_world.specs.Logs.{Group}
 use Rattle.ktm_world.specs.Durable.{Durable, empty_state, stand, log_applies}
-use Rattle.ktm_journal.specs.Image.{HoldGroups, log_area}
+use Rattle.ktm_journal.specs.Image.{HoldGroups}
 use Rattle.ktm_restart.specs.Bad.{IsBadPayload}
 
 -- the payloads are groups that apply one after another, and they come to this state
@@ -13,8 +13,8 @@ pub record ComesTo (units image : ℕ) (payloads : List (List ℕ)) (state : Dur
   pub applies : IsTrue (log_applies (empty_state units image) log)
   pub is : state ≡ stand (empty_state units image) log
 
--- of the payloads the first bad one is that of the frame at this offset of the image
-pub record IsFirstBad (units image : ℕ) (payloads : List (List ℕ)) (offset : ℕ) : Type 0 where
+-- of the payloads of a log that begins here the first bad one is that of the frame at this offset of the image
+pub record IsFirstBad (units image begin : ℕ) (payloads : List (List ℕ)) (offset : ℕ) : Type 0 where
   pub before : List (List ℕ)
   pub payload : List ℕ
   pub rest : List (List ℕ)
@@ -22,4 +22,4 @@ pub record IsFirstBad (units image : ℕ) (payloads : List (List ℕ)) (offset :
   pub state : Durable
   pub good : ComesTo units image before state
   pub bad : IsBadPayload state payload
-  pub at : offset ≡ (log_area units).at + end_of before
+  pub at : offset ≡ begin + end_of before

@@ -1,5 +1,5 @@
 // Reading an image, and what its log comes to.
-ghost use Rattle.std.specs.Prelude.{IsErrOf, ◌≡◌, ℕ, ◌+◌, ◌*◌, ◌≤◌, Ok, IfOk, IfSome, IsSomeAnd, OnOk, IsTrue, false, true};
+ghost use Rattle.std.specs.Prelude.{IsErrOf, ◌≡◌, ◌↔◌, ℕ, ◌+◌, ◌*◌, ◌≤◌, Ok, IfOk, IfSome, IsSomeAnd, OnOk, IsTrue, false, true};
 ghost use Rattle.ktm_base.specs.declared.limits.TheConstants.{LEAST_UNITS, MOST_UNITS};
 ghost use Rattle.ktm_base.specs.Bytes.{AreBytes};
 ghost use Rattle.ktm_log.specs.Log.{payloads_in};
@@ -9,17 +9,17 @@ ghost use Rattle.ktm_world.specs.Logs.{Group};
 ghost use Rattle.ktm_records.specs.Spelling.{AreRecordedTexts};
 ghost use Rattle.ktm_states.specs.GoodState.{IsGoodState};
 ghost use Rattle.ktm_types.specs.EventGrammar.{IsGroupOf};
-ghost use Rattle.ktm_journal.specs.Image.{IsFormatted, IsHeaded};
+ghost use Rattle.ktm_journal.specs.Image.{IsFormatted, IsHeaded, empty_snapshot, half_of, log_area};
 ghost use Rattle.ktm_journal.specs.Bad.{load_went_down};
 ghost use Rattle.ktm_journal.specs.Open.{log_reads};
 ghost use Rattle.ktm_restart.specs.Bad.{IsBadPayload};
 ghost use Rattle.ktm_restart.specs.Payloads.{ComesTo, IsFirstBad};
-ghost use Rattle.ktm_restart.specs.Loads.{LoadLeaves, ReplayLeaves};
+ghost use Rattle.ktm_restart.specs.Loads.{LoadLeaves, ReplayLeaves, StartLeaves};
 
 use crate::durable::Durable;
 use ktm_base::{Disk, NoMemory};
 use ktm_event::{EventFault, read_group};
-use ktm_journal::{Header, Journal, LoadFault};
+use ktm_journal::{Header, Journal, LoadFault, empty_snapshot, read_snapshot};
 use ktm_log::{first_payload, frame_len};
 use ktm_records::law_of_spelling;
 use ktm_states::{law_of_good_states, law_of_grammar};
@@ -53,7 +53,7 @@ fn replay(alloc: Global, header: Header, bytes: &[u8], state: &mut Durable) -> R
     ensures sound { OnOk result (IsGoodState state.new) }
     ensures texts { OnOk result (AreRecordedTexts state.new) }
     ensures read { AreBytes bytes.now }
-    ensures bad { (offset : ℕ) → IsErrOf result (LoadFault.Bad offset) → IsFirstBad header.units header.image (payloads_in bytes.now) offset }
+    ensures bad { (offset : ℕ) → IsErrOf result (LoadFault.Bad offset) → IsFirstBad header.units header.image (log_area header.units (half_of header.selector)).at (payloads_in bytes.now) offset }
     ensures up { load_went_down result ≡ false }
 {
     let mut at = 0;
@@ -80,7 +80,7 @@ fn replay_log<D: Disk>(
 ) -> Result<Journal, LoadFault>
     requires least { LEAST_UNITS ≤ header.units }
     requires most { header.units ≤ MOST_UNITS }
-    requires formatted { IfSome (D.told disk.old) (λ s. IsFormatted header.units header.image s.seen) }
+    requires formatted { IfSome (D.told disk.old) (λ s. IsFormatted header.units header.image header.selector empty_snapshot s.seen) }
     requires empty { state.old ≡ empty_state header.units header.image }
     ensures { ReplayLeaves header state.new (on buffer.old (D.told disk.old) (D.status disk.old)) (on buffer.new (D.told disk.new) (D.status disk.new)) result }
 {
@@ -109,7 +109,7 @@ fn load_log<D: Disk>(
 ) -> Result<Loaded, LoadFault>
     requires least { LEAST_UNITS ≤ header.units }
     requires most { header.units ≤ MOST_UNITS }
-    requires formatted { IfSome (D.told disk.old) (λ s. IsFormatted header.units header.image s.seen) }
+    requires formatted { IfSome (D.told disk.old) (λ s. IsFormatted header.units header.image header.selector empty_snapshot s.seen) }
     ensures leaves { LoadLeaves (log_reads header.units) (on buffer.old (D.told disk.old) (D.status disk.old)) (on buffer.new (D.told disk.new) (D.status disk.new)) result }
     ensures header { IfOk result (λ loaded. (loaded.state.units ≡ header.units) × (loaded.state.image ≡ header.image)) }
 {
@@ -126,15 +126,56 @@ fn load_log<D: Disk>(
     }
 }
 
+// Is this the snapshot of a new image?
+fn is_empty(snapshot: &[u8]) -> bool
+    ensures { IsTrue result ↔ (snapshot.now ≡ empty_snapshot) }
+{
+    snapshot[..] == empty_snapshot()[..]
+}
+
+// Reads the snapshot behind this header, which has to be that of a new image.
+fn read_start<D: Disk>(disk: &mut D, header: Header, buffer: &mut Vec<u8>) -> Result<(), LoadFault>
+    requires most { header.units ≤ MOST_UNITS }
+    requires headed { IfSome (D.told disk.old) (λ s. IsHeaded header.units header.image header.selector s.seen) }
+    ensures { StartLeaves header (on buffer.old (D.told disk.old) (D.status disk.old)) (on buffer.new (D.told disk.new) (D.status disk.new)) result }
+{
+    if let Err(fault) = read_snapshot(disk, header, buffer) {
+        return Err(fault);
+    }
+    if !is_empty(buffer.as_slice()) {
+        return Err(LoadFault::Bad(header.snapshot_at()));
+    }
+    Ok(())
+}
+
+// Reads the snapshot and the log behind this header, and gives the journal with the state that they come to.
+fn load_half<D: Disk>(
+    alloc: Global,
+    disk: &mut D,
+    header: Header,
+    buffer: &mut Vec<u8>,
+) -> Result<Loaded, LoadFault>
+    requires least { LEAST_UNITS ≤ header.units }
+    requires most { header.units ≤ MOST_UNITS }
+    requires headed { IfSome (D.told disk.old) (λ s. IsHeaded header.units header.image header.selector s.seen) }
+    ensures leaves { LoadLeaves (log_reads header.units + 2) (on buffer.old (D.told disk.old) (D.status disk.old)) (on buffer.new (D.told disk.new) (D.status disk.new)) result }
+    ensures header { IfOk result (λ loaded. (loaded.state.units ≡ header.units) × (loaded.state.image ≡ header.image)) }
+{
+    if let Err(fault) = read_start(disk, header, buffer) {
+        return Err(fault);
+    }
+    load_log(alloc, disk, header, buffer)
+}
+
 /// Reads the image of a disk, and gives its journal with the state that it stands for. It writes nothing. The log is read
 /// into the buffer, which is made as long as the log's area, and afterwards has room for whatever can be appended.
 pub fn load<D: Disk>(alloc: Global, disk: &mut D, buffer: &mut Vec<u8>) -> Result<Loaded, LoadFault>
     ensures leaves { LoadLeaves (8 * MOST_UNITS + 64) (on buffer.old (D.told disk.old) (D.status disk.old)) (on buffer.new (D.told disk.new) (D.status disk.new)) result }
-    ensures few { (units image : ℕ) → IsSomeAnd (D.told disk.old) (λ s. IsHeaded units image s.seen) → (D.status disk.new).calls ≤ (D.status disk.old).calls + (8 * units + 64) }
+    ensures few { (units image selector : ℕ) → IsSomeAnd (D.told disk.old) (λ s. IsHeaded units image selector s.seen) → (D.status disk.new).calls ≤ (D.status disk.old).calls + (8 * units + 64) }
 {
     let header = match Header::read(disk) {
         Ok(header) => header,
         Err(fault) => return Err(fault),
     };
-    load_log(alloc, disk, header, buffer)
+    load_half(alloc, disk, header, buffer)
 }

@@ -1,17 +1,16 @@
 -- Where a run ends early at a line, and a plan that got room.
-use Rattle.std.proofs.Common.{◌≡◌, inl, inr, ℕ, List, [], ◌++◌, Option, Some, refl, sym, ◌∙◌, ap, subst, arith, append_assoc, take, drop}
-use Rattle.std.proofs.lemmas.List.{append-nil, take-append-drop}
-use Rattle.std.specs.Io.KnownBytes.{Appends}
+use Rattle.std.proofs.Common.{◌≡◌, inl, inr, ℕ, List, [], ◌++◌, Option, Some, sym, ◌∙◌, ap, subst, arith}
+use Rattle.std.proofs.lemmas.List.{append-nil}
 use Rattle.ktm_base.specs.declared.power.PowerCall.{PowerCall}
 use Rattle.ktm_base.specs.Disk.{DiskState, DiskStatus}
 use Rattle.ktm_kernel.specs.Stands.{KernelState, KernelAt}
 use Rattle.ktm_kernel.proofs.Left.{left_law}
-use Rattle.ktm_run.proofs.Known.{Appends-none, Appends-trans}
 use Rattle.ktm_run.proofs.Counting.{RoseBy-none}
 use Rattle.ktm_run.proofs.Lines.{Means-kept}
 use Rattle.ktm_log.specs.OnDisk.{OnDisk, on}
 use Rattle.ktm_run.specs.Progress.{Counts, Did, Answers, Unanswered, HalfWritten}
-use Rattle.ktm_run.specs.Script.{AppendsPart, Means, kept_of, reply_line}
+use Rattle.ktm_dump.specs.Written.{AppendsPart}
+use Rattle.ktm_run.specs.Script.{Means, kept_of, reply_line}
 use Rattle.ktm_types.specs.declared.command.Line.{Line}
 use Rattle.ktm_types.specs.declared.command.Line.TheVariants.{Restart}
 use Rattle.ktm_types.specs.declared.reply.Reply.{Reply}
@@ -68,23 +67,8 @@ module _ (machine : KernelState) (disk mid_disk : Option DiskState) (same : mid_
         ];
       }
 
-  -- a line whose reply was not written whole
-  pub half_written : (w : World) (taken now : Option (List ℕ)) (line : List ℕ) (meant : Option Line) (reply : Reply) → Means line meant → Answers roomy new meant reply → AppendsPart taken now (reply_line reply) → KernelAt machine disk w
-      → HalfWritten w (record { scene = before; taken = taken }) (record { scene = new; taken = now }) line
-  half_written w taken now line meant reply means answers wrote stands =
-      let did = did_planned w meant reply answers stands in
-      record { meant = meant; mean = means; reply = reply; did = did; wrote = wrote; leaves = left_law new.it new.told did.world did.stands }
-
-pub AppendsPart-none : (o : Option (List ℕ)) (bytes : List ℕ) → AppendsPart o o bytes
-AppendsPart-none o bytes = ([], bytes, refl, Appends-none o)
-
--- a whole, and then a part of what is behind it
-pub AppendsPart-then : (a b c : Option (List ℕ)) (xs ys : List ℕ) → Appends a b xs → AppendsPart b c ys → AppendsPart a c (xs ++ ys)
-AppendsPart-then a b c xs ys whole (part, rest, split, took) = (xs ++ part, rest, ap (λ (l : List ℕ). xs ++ l) split ∙ sym (append_assoc xs part rest), Appends-trans a b c xs part whole took)
-
-pub AppendsPart-more : (a b : Option (List ℕ)) (xs ys : List ℕ) → AppendsPart a b xs → AppendsPart a b (xs ++ ys)
-AppendsPart-more a b xs ys (part, rest, split, took) = (part, rest ++ ys, ap (λ (l : List ℕ). l ++ ys) split ∙ append_assoc part rest ys, took)
-
--- the first bytes
-pub AppendsPart-take : (a b : Option (List ℕ)) (n : ℕ) (xs : List ℕ) → Appends a b (take n xs) → AppendsPart a b xs
-AppendsPart-take a b n xs took = (take n xs, drop n xs, sym (take-append-drop n xs), took)
+-- a line whose reply was not written whole
+pub half_written : (old new : OnDisk KernelState) (w : World) (taken now : Option (List ℕ)) (line : List ℕ) (meant : Option Line) (reply : Reply) → Means line meant → Answers old new meant reply
+    → AppendsPart taken now (reply_line reply) → KernelAt old.it old.told w → HalfWritten w (record { scene = old; taken = taken }) (record { scene = new; taken = now }) line
+half_written old new w taken now line meant reply means answers wrote stands =
+    let did = answers w stands in record { meant = meant; mean = means; reply = reply; did = did; wrote = wrote; leaves = left_law new.it new.told did.world did.stands }

@@ -1,8 +1,7 @@
 -- Bytes that are known piece by piece, and counts that never fall.
 use Rattle.std.specs.Prelude.{IfSome}
-use Rattle.std.proofs.Common.{◌≡◌, ℕ, ◌+◌, ◌-◌, ◌<◌, ◌≤◌, List, [], ◌++◌, length, take, drop, Option, None, Some, refl, sym, ◌∙◌, ap, subst, append_assoc, arith, length-append}
-use Rattle.std.proofs.lemmas.List.{append-nil, take_rest}
-use Rattle.std.proofs.Math.Seq.{take-add}
+use Rattle.std.proofs.Common.{◌≡◌, ℕ, ◌+◌, ◌-◌, ◌<◌, ◌≤◌, List, [], ◌++◌, length, take, Option, None, Some, refl, sym, ◌∙◌, ap, subst, append_assoc, arith, length-append}
+use Rattle.std.proofs.lemmas.List.{append-nil}
 use Rattle.std.specs.Io.KnownBytes.{Appends, Consumes, Keeps}
 use Rattle.ktm_base.specs.Count.{Rose}
 
@@ -27,11 +26,6 @@ Consumes-kept None b c xs h k = tt
 Consumes-kept (Some a) None c xs h k = absurd h
 Consumes-kept (Some a) (Some b) None xs h k = absurd k
 Consumes-kept (Some a) (Some b) (Some c) xs h k = h ∙ ap (λ (l : List ℕ). xs ++ l) (sym k)
-
--- the next n bytes behind the first i
-pub Appends-more : (a b c : Option (List ℕ)) (xs : List ℕ) (i n : ℕ) → Appends a b (take i xs) → Appends b c (take n (take (length xs - i) (drop i xs))) → Appends a c (take (i + n) xs)
-Appends-more a b c xs i n h k =
-    rw take-add (Appends-trans a b c (take i xs) (take n (drop i xs)) h (subst (λ (l : List ℕ). Appends b c (take n l)) (take_rest xs i) k))
 
 pub Consumes-none : (o : Option (List ℕ)) → Consumes o o []
 Consumes-none None = tt

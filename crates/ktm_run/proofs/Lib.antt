@@ -2,8 +2,12 @@ pub mod Known
 pub mod Lines
 pub mod Counting
 pub mod Runs
+pub mod Generating
 pub mod Breaks
 pub mod Answering
 pub mod Theorems
+pub mod Summarized
 pub mod Lawful
 pub mod Probed
+pub mod Dumping
+pub mod Forms

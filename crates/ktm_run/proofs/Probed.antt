@@ -5,7 +5,7 @@ use Rattle.std.proofs.lemmas.List.{append-nil, take_all}
 use Rattle.std.specs.Io.KnownBytes.{Appends, Keeps}
 use Rattle.ktm_base.specs.Disk.{DiskState, DiskStatus}
 use Rattle.ktm_run.specs.Early.{Outside, NotRun, FoundBad, EndsAs}
-use Rattle.ktm_run.specs.Script.{AppendsPart}
+use Rattle.ktm_dump.specs.Written.{AppendsPart}
 use Rattle.ktm_run.specs.Theorem.{Moment, moment_of, Replied, EndedBetween, EndedWithin, EndedEarly}
 use Rattle.ktm_run.specs.declared.status.Status.{Status}
 use Rattle.ktm_run.specs.declared.status.Status.TheVariants.{Done, Usage, SourceFault, SinkFault, NoMemory, BadImage, DiskFault, ScriptTooLong, LogFull}
@@ -70,20 +70,7 @@ module _ (left : Option (List ℕ)) (a b : Option (List ℕ)) (disk : Option Dis
 
   module _ (base : Durable) (room : ℕ) where
     abbrev replied : (at : Moment) (lines : List (List ℕ)) → Replied base room (moment_of behind) at lines → Replied base room (moment_of before) at lines
-    replied at lines h = record {
-      meant = h.meant;
-      steps = h.steps;
-      replies = h.replies;
-      world = h.world;
-      mean = h.mean;
-      transcript = h.transcript;
-      lawful = h.lawful;
-      lawful_before = h.lawful_before;
-      one_outcome = h.one_outcome;
-      wrote = Appends-after a b at.taken _ keeps h.wrote;
-      counts = h.counts;
-      holds = h.holds;
-    }
+    replied at lines h = record { executed = h.executed; wrote = Appends-after a b at.taken _ keeps h.wrote }
 
     between : (new : Outside) (script lines : List ℕ) → EndedBetween base room behind new script lines → EndedBetween base room before new script lines
     between new script lines h = record { was_read = h.was_read; room_left = h.room_left; replied = replied (moment_of new) _ h.replied }

@@ -3,7 +3,7 @@ use Rattle.std.specs.Prelude.{IfSome, IsSomeAnd}
 use Rattle.std.proofs.Common.{◌≡◌, ◌≢◌, ◌⊎◌, inl, inr, ℕ, ◌+◌, ◌*◌, ◌<◌, ◌≤◌, true, false, List, [], ◌∷◌, ◌++◌, length, take, Option, Some, None, refl, sym, ◌∙◌, ap, subst, arith}
 use Rattle.std.proofs.lemmas.List.{append-nil}
 use Rattle.std.proofs.KnownBytes.{Keeps-refl}
-use Rattle.std.specs.Io.KnownBytes.{Consumes, Keeps}
+use Rattle.std.specs.Io.KnownBytes.{Appends, Consumes, Keeps}
 use Rattle.ktm_base.specs.declared.limits.TheConstants.{MOST_SCRIPT_BYTES}
 use Rattle.ktm_base.specs.declared.power.PowerCall.{PowerCall}
 use Rattle.ktm_base.specs.declared.power.PowerCall.TheVariants.{Power}
@@ -18,12 +18,12 @@ use Rattle.ktm_open.specs.Opening.{OpeningCounts}
 use Rattle.ktm_run.specs.Lawful.{RunIsLawful}
 use Rattle.ktm_run.specs.Executed.{IsStopped, Position, ScriptLeaves, position}
 use Rattle.ktm_log.specs.OnDisk.{OnDisk, on}
-use Rattle.ktm_run.specs.Progress.{Now, Counts, Ran, Progress, Broke}
+use Rattle.ktm_run.specs.Progress.{Now, Counts, Went, Ran, Progress, Broke, Unanswered as Undone}
 use Rattle.ktm_run.specs.Script.{Means, cut_lines, lines_from}
 use Rattle.ktm_open.specs.declared.fault.OpenFault.{OpenFault}
 use Rattle.ktm_open.specs.declared.fault.OpenFault.TheVariants as opening
 use Rattle.ktm_run.specs.Early.{Outside, SaysWhy, EndsAs, FoundBad, FoundDown, FoundFull, FoundNoMemory}
-use Rattle.ktm_run.specs.Theorem.{HoldsStates, Moment, moment_of, RunCounts, LineCounts, Replied, EndedBetween, Unanswered, HalfWritten, EndedWithin, NotOpened, CutOpening, EndedEarly}
+use Rattle.ktm_run.specs.Theorem.{HoldsStates, Moment, moment_of, RunCounts, LineCounts, Executed, Replied, EndedBetween, Unanswered, HalfWritten, EndedWithin, NotOpened, CutOpening, EndedEarly}
 use Rattle.ktm_types.specs.declared.command.Line.TheVariants.{Restart}
 use Rattle.ktm_world.specs.Durable.{Durable}
 use Rattle.ktm_world.specs.Logs.{is_up}
@@ -43,11 +43,11 @@ all_counts base room old first last n plan fell opening counts = record {
 }
 
 -- what is read is one of the images that may be left
-holds_of : (told : Option DiskState) (w : World) → IfSome told HasLengths → IsSomeAnd told (LeavesStates w) → IsSomeAnd told (HoldsStates w)
+pub holds_of : (told : Option DiskState) (w : World) → IfSome told HasLengths → IsSomeAnd told (LeavesStates w) → IsSomeAnd told (HoldsStates w)
 holds_of None w lengths leaves = absurd leaves
 holds_of (Some s) w lengths leaves = record { seen = leaves s.seen (seen_law s lengths); left = leaves }
 
-abbrev moment_at : Now → Moment
+abbrev pub moment_at : Now → Moment
 moment_at now = record { taken = now.taken; disk = now.scene.told; status = now.scene.status }
 
 -- ---- a line at which a run ended
@@ -62,12 +62,11 @@ module _ (w : World) (at new : Now) (line : List ℕ) (lengths : IfSome new.scen
   unanswered_counts (inl none) = inl (line_counts 0 [] 0 none)
   unanswered_counts (inr (pick, mean, off, some)) = inr (pick, mean, off, line_counts (8 * w.base.units + 68) (Power pick ∷ []) 0 some)
 
+  pub unanswered_of : Appends at.taken new.taken [] → Undone w at.scene new.scene line → Unanswered w (moment_at at) (moment_at new) line
+  unanswered_of wrote undone = record { wrote = wrote; holds = holds_of new.scene.told w lengths undone.leaves; counts = unanswered_counts undone.counts }
+
   broke_of : Broke w at new line → Unanswered w (moment_at at) (moment_at new) line ⊎ HalfWritten w (moment_at at) (moment_at new) line
-  broke_of (inl (wrote, unanswered)) = inl (record {
-    wrote = wrote;
-    holds = holds_of new.scene.told w lengths unanswered.leaves;
-    counts = unanswered_counts unanswered.counts;
-  })
+  broke_of (inl (wrote, undone)) = inl (unanswered_of wrote undone)
   broke_of (inr half) =
       let did = half.did in inr (record {
         meant = half.meant;
@@ -91,21 +90,23 @@ module _ (base : Durable) (room : ℕ) (old new : Outside) (first : OnDisk Kerne
   ended = record { scene = on machine new.disk new.status; taken = new.taken }
 
   module _ (stands : KernelAt first.it first.told (opened base room [])) (fits : is_full room (own_group base) ≡ false) (opening : RunCounts base.units old.status first.status 0 [] 0) (law : RunIsLawful base room) where
-    abbrev replied : (at : Now) (lines : List (List ℕ)) → IfSome at.scene.told HasLengths → Ran (opened base room []) begun at lines → Replied base room (moment_of old) (moment_at at) lines
-    replied at lines long ran = record {
-      meant = ran.meant;
-      steps = ran.steps;
-      replies = ran.replies;
-      world = ran.world;
-      mean = ran.mean;
-      transcript = ran.run;
-      lawful = law.lawful ran.meant ran.steps ran.replies ran.world ran.run;
+    abbrev pub executed : (at : OnDisk KernelState) (lines : List (List ℕ)) → IfSome at.told HasLengths → Went (opened base room []) first at lines → Executed base room old.status at.status at.told lines
+    executed at lines long went = record {
+      meant = went.meant;
+      steps = went.steps;
+      replies = went.replies;
+      world = went.world;
+      mean = went.mean;
+      transcript = went.run;
+      lawful = law.lawful went.meant went.steps went.replies went.world went.run;
       lawful_before = λ n mid run. law.lawful _ _ _ mid run;
-      one_outcome = law.one_outcome ran.meant ran.steps ran.replies ran.world ran.run;
-      wrote = ran.wrote;
-      counts = all_counts base room old.status first at.scene _ _ _ opening ran.counts;
-      holds = holds_of at.scene.told ran.world long (left_law at.scene.it at.scene.told ran.world ran.stands);
+      one_outcome = law.one_outcome went.meant went.steps went.replies went.world went.run;
+      counts = all_counts base room old.status first at _ _ _ opening went.counts;
+      holds = holds_of at.told went.world long (left_law at.it at.told went.world went.stands);
     }
+
+    abbrev replied : (at : Now) (lines : List (List ℕ)) → IfSome at.scene.told HasLengths → Ran (opened base room []) begun at lines → Replied base room (moment_of old) (moment_at at) lines
+    replied at lines long ran = record { executed = executed at.scene lines long ran.went; wrote = ran.wrote }
 
     all_replied : (lines : List (List ℕ)) → Progress begun ended lines → Replied base room (moment_of old) (moment_of new) lines
     all_replied lines progress = replied ended lines lengths (progress (opened base room []) stands)
@@ -136,7 +137,7 @@ module _ (base : Durable) (room : ℕ) (old new : Outside) (first : OnDisk Kerne
           wants_reply = stopped.wants_reply;
           at = moment_at stopped.at;
           replied = replied stopped.at stopped.before stopped.lengths stopped.ran;
-          broke = broke_of stopped.ran.world stopped.at ended stopped.line lengths stopped.broke;
+          broke = broke_of stopped.ran.went.world stopped.at ended stopped.line lengths stopped.broke;
         }
 
     pub run_ended : (result : Status) → ScriptLeaves result start end → EndedEarly result base room old new
@@ -192,7 +193,7 @@ module _ (old new : Position) where
 
 -- ---- a machine that was not started
 
-said_nothing : (old new : Option (List ℕ)) → new ≡ old → Keeps old new
+pub said_nothing : (old new : Option (List ℕ)) → new ≡ old → Keeps old new
 said_nothing old new same = subst (λ (o : Option (List ℕ)). Keeps old o) (sym same) (Keeps-refl old)
 
 module _ (result : Status) (Opened : Type 0) (old new : Outside) where

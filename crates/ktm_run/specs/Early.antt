@@ -6,7 +6,7 @@ use Rattle.ktm_base.specs.Told.{Goes}
 use Rattle.ktm_restart.specs.Bad.{IsBadAt}
 use Rattle.ktm_run.specs.Form.{usage_line, bad_image_line}
 use Rattle.ktm_open.specs.Opening.{Prepared, WentDown}
-use Rattle.ktm_run.specs.Script.{AppendsPart}
+use Rattle.ktm_dump.specs.Written.{AppendsPart}
 use Rattle.ktm_open.specs.declared.fault.OpenFault.{OpenFault}
 use Rattle.ktm_open.specs.declared.fault.OpenFault.TheVariants as opening
 use Rattle.ktm_run.specs.declared.status.Status.{Status}
@@ -64,17 +64,21 @@ pub record FoundNoMemory (old new : Outside) : Type 0 where
   pub not_written : Keeps old.taken new.taken
   pub disk : (new.disk ≡ old.disk) ⊎ Goes Prepared old.disk new.disk
 
--- words that are no run: their usage was said, or a part of it where the sink failed, and nothing else was touched
-abbrev pub NoRun : Status → Outside → Outside → Type 0
-NoRun Usage old new = LeftAlone old new × Appends old.taken new.taken usage_line
-NoRun SinkFault old new = LeftAlone old new × AppendsPart old.taken new.taken usage_line
-NoRun Done old new = ⊥
-NoRun SourceFault old new = ⊥
-NoRun NoMemory old new = ⊥
-NoRun BadImage old new = ⊥
-NoRun DiskFault old new = ⊥
-NoRun ScriptTooLong old new = ⊥
-NoRun LogFull old new = ⊥
+-- the usage is said, or a part of it where the sink failed
+abbrev pub SaysUsage : Status → Option (List ℕ) → Option (List ℕ) → Type 0
+SaysUsage result old new = ((result ≡ Usage) × Appends old new usage_line) ⊎ ((result ≡ SinkFault) × AppendsPart old new usage_line)
+
+-- words of no form: their usage was said, or a part of it where the sink failed, and nothing else was touched
+abbrev pub NoForm : Status → Outside → Outside → Type 0
+NoForm Usage old new = LeftAlone old new × Appends old.taken new.taken usage_line
+NoForm SinkFault old new = LeftAlone old new × AppendsPart old.taken new.taken usage_line
+NoForm Done old new = ⊥
+NoForm SourceFault old new = ⊥
+NoForm NoMemory old new = ⊥
+NoForm BadImage old new = ⊥
+NoForm DiskFault old new = ⊥
+NoForm ScriptTooLong old new = ⊥
+NoForm LogFull old new = ⊥
 
 -- how a run ends whose machine was not started, and what it says: of a bad image its line, or a part of it where the sink failed, and
 -- else nothing

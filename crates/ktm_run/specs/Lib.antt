@@ -7,4 +7,10 @@ pub mod Executed
 pub mod Early
 pub mod Theorem
 pub mod Ended
+pub mod Formatted
+pub mod Dumped
+pub mod Forms
 pub mod Lawful
+pub mod Summary
+pub mod Tallied
+pub mod Generated

@@ -8,7 +8,8 @@ use Rattle.ktm_base.specs.Disk.{DiskState, DiskStatus, HasLengths}
 use Rattle.ktm_kernel.specs.Stands.{KernelState, KernelAt, LeavesStates}
 use Rattle.ktm_log.specs.OnDisk.{OnDisk, on}
 use Rattle.ktm_run.specs.Plan.{plan_of, plans, falls_of, falls, RoseBy, calls_of, calls}
-use Rattle.ktm_run.specs.Script.{has_reply, Means, MeanAll, AppendsPart, reply_line, written_replies}
+use Rattle.ktm_dump.specs.Written.{AppendsPart}
+use Rattle.ktm_run.specs.Script.{has_reply, Means, MeanAll, reply_line, written_replies}
 use Rattle.ktm_types.specs.declared.command.Line.{Line}
 use Rattle.ktm_types.specs.declared.command.Line.TheVariants.{Restart}
 use Rattle.ktm_types.specs.declared.reply.Reply.{Reply}
@@ -49,17 +50,21 @@ pub record Unanswered (w : World) (old new : OnDisk KernelState) (line : List �
   pub counts : Counts old new 0 [] 0
       ⊎ ((pick : ℕ) × Means line (Some (Restart pick)) × (is_up w.power ≡ false) × Counts old new (calls_of w.base.units (Some (Restart pick))) (Power pick ∷ []) 0)
 
--- the lines came by a transcript to a world for which the machine then stands, and their replies were written
-pub record Ran (w : World) (old new : Now) (lines : List (List ℕ)) : Type 0 where
+-- the lines came by a transcript to a world for which the machine then stands
+pub record Went (w : World) (old new : OnDisk KernelState) (lines : List (List ℕ)) : Type 0 where
   pub meant : List (Option Line)
   pub steps : List Step
   pub replies : List Reply
   pub world : World
   pub mean : MeanAll (filter has_reply lines) meant
   pub run : Transcript w meant steps replies world
-  pub wrote : Appends old.taken new.taken (written_replies replies)
-  pub stands : KernelAt new.scene.it new.scene.told world
-  pub counts : Counts old.scene new.scene (calls w.base.units meant) (plans meant replies) (falls meant steps replies)
+  pub stands : KernelAt new.it new.told world
+  pub counts : Counts old new (calls w.base.units meant) (plans meant replies) (falls meant steps replies)
+
+-- the lines were executed, and their replies were written
+pub record Ran (w : World) (old new : Now) (lines : List (List ℕ)) : Type 0 where
+  pub went : Went w old.scene new.scene lines
+  pub wrote : Appends old.taken new.taken (written_replies went.replies)
 
 -- so many lines went on from one moment to the next, for every world that the machine stands for
 abbrev pub Progress : Now → Now → List (List ℕ) → Type 0
@@ -90,7 +95,7 @@ pub record Stopped (w : World) (old new : Now) (lines : List (List ℕ)) : Type 
   -- what the disk reads there is as long as an image that may be left
   pub lengths : IfSome at.scene.told HasLengths
   pub ran : Ran w old at before
-  pub broke : Broke ran.world at new line
+  pub broke : Broke ran.went.world at new line
 
 -- among these lines the run ended early, for every world that the machine stands for
 abbrev pub Stops : Now → Now → List (List ℕ) → Type 0

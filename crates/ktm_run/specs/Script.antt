@@ -1,16 +1,13 @@
 -- The lines of a script, what they mean, and how replies are written.
-use Rattle.std.specs.Prelude.{◌≡◌, ◌⊎◌, ℕ, ◌+◌, ◌==◌, Bool, true, false, not, List, [], ◌∷◌, ◌++◌, Option, Some, None, take, if◌then◌else◌}
+use Rattle.std.specs.Prelude.{◌≡◌, ◌⊎◌, ℕ, ◌+◌, ◌==◌, Bool, false, not, List, [], ◌∷◌, ◌++◌, Option, Some, None, take, if◌then◌else◌}
 use Rattle.std.specs.List.{flat_map}
-use Rattle.std.specs.Io.KnownBytes.{Appends, IsAtEnd}
+use Rattle.std.specs.Io.KnownBytes.{IsAtEnd}
 use Rattle.ktm_base.specs.declared.limits.TheConstants.{MOST_LINE_BYTES}
+use Rattle.ktm_dump.specs.Written.{newline}
 use Rattle.ktm_reply.specs.Spelling.{reply_spelling}
 use Rattle.ktm_script.specs.Spelling.{IsLine, spelling}
 use Rattle.ktm_types.specs.declared.command.Line.{Line}
 use Rattle.ktm_types.specs.declared.reply.Reply.{Reply}
-
--- what ends a line
-abbrev pub newline : ℕ
-newline = 10
 
 -- the lines that end in a newline, of these bytes behind a part of a line
 abbrev pub lines_from : List ℕ → List ℕ → List (List ℕ)
@@ -64,10 +61,6 @@ reply_line reply = reply_spelling reply ++ newline ∷ []
 -- all replies, one after another
 abbrev pub written_replies : List Reply → List ℕ
 written_replies replies = flat_map reply_line replies
-
--- a sink took a part of the bytes, from their front
-abbrev pub AppendsPart : Option (List ℕ) → Option (List ℕ) → List ℕ → Type 0
-AppendsPart old new bytes = (part : List ℕ) × (rest : List ℕ) × (bytes ≡ part ++ rest) × Appends old new part
 
 -- at most so many bytes of a line are kept: one more than any line of the grammar has
 abbrev pub kept_of : List ℕ → List ℕ

@@ -1,15 +1,14 @@
 -- What a run of a script comes to, and what stands where one ended early.
-use Rattle.std.specs.Prelude.{◌≡◌, ◌⊎◌, ℕ, ◌+◌, ◌-◌, ◌≤◌, true, false, List, [], ◌∷◌, ◌++◌, length, take, Option, Some, Contains, IsSomeAnd}
+use Rattle.std.specs.Prelude.{◌≡◌, ◌⊎◌, ℕ, ◌+◌, ◌≤◌, true, false, List, [], ◌∷◌, ◌++◌, length, take, Option, Some, Contains, IsSomeAnd}
 use Rattle.std.specs.List.{filter}
 use Rattle.std.specs.Io.KnownBytes.{Appends, Consumes, IsAtEnd, Keeps}
-use Rattle.ktm_base.specs.declared.limits.TheConstants.{NEW_UNITS, MOST_SCRIPT_BYTES}
+use Rattle.ktm_base.specs.declared.limits.TheConstants.{MOST_SCRIPT_BYTES}
 use Rattle.ktm_base.specs.declared.power.PowerCall.{PowerCall}
 use Rattle.ktm_base.specs.declared.power.PowerCall.TheVariants.{Power}
-use Rattle.ktm_base.specs.Disk.{DiskState, DiskStatus, MayLeave, IsSafe}
-use Rattle.ktm_restart.specs.Logs.{HoldsLog, StandsFor}
-use Rattle.ktm_journal.specs.Image.{left_after}
+use Rattle.ktm_base.specs.Disk.{DiskState, DiskStatus, MayLeave}
+use Rattle.ktm_restart.specs.Logs.{StandsFor}
 use Rattle.ktm_kernel.specs.Stands.{LeavesStates}
-use Rattle.ktm_world.specs.Durable.{Durable, empty_state, stand}
+use Rattle.ktm_world.specs.Durable.{Durable, stand}
 use Rattle.ktm_world.specs.Lawful.{IsLawful}
 use Rattle.ktm_world.specs.OneOutcome.{HasOneOutcome, tellings}
 use Rattle.ktm_world.specs.Transcript.{Does, Transcript, Step}
@@ -18,14 +17,14 @@ use Rattle.ktm_open.specs.Begins.{BeginsAs, LeavesOpening}
 use Rattle.ktm_open.specs.Opening.{opening_calls}
 use Rattle.ktm_run.specs.Early.{Outside, Untouched}
 use Rattle.ktm_run.specs.Plan.{plan_of, plans, falls_of, falls, RoseBy, calls_of, calls}
-use Rattle.ktm_run.specs.Script.{has_reply, cut_lines, lines_from, MayExecute, Means, MeanAll, AppendsPart, reply_line, written_replies}
+use Rattle.ktm_dump.specs.Written.{AppendsPart}
+use Rattle.ktm_run.specs.Script.{has_reply, cut_lines, lines_from, MayExecute, Means, MeanAll, reply_line, written_replies}
 use Rattle.ktm_run.specs.declared.status.Status.{Status}
 use Rattle.ktm_run.specs.declared.status.Status.TheVariants.{Done, Usage, SourceFault, SinkFault, NoMemory, BadImage, DiskFault, ScriptTooLong, LogFull}
 use Rattle.ktm_types.specs.declared.command.Line.{Line}
 use Rattle.ktm_types.specs.declared.command.Line.TheVariants.{Restart}
 use Rattle.ktm_types.specs.declared.reply.Reply.{Reply}
 use Rattle.ktm_world.specs.Outcome.{is_full}
-use Rattle.ktm_types.specs.Sizes.{log_size}
 use Rattle.ktm_world.specs.Logs.{Group, is_up}
 
 -- ---- what a disk may leave
@@ -59,9 +58,9 @@ pub record LineCounts (old new : DiskStatus) (most : ℕ) (plan : List PowerCall
   pub plan_is : new.plan ≡ old.plan ++ plan
   pub few : new.calls ≤ old.calls + most
 
--- lines of a script were answered by a run that began so: their replies are those of a transcript, and were written, each in a
--- line of its own
-pub record Replied (base : Durable) (room : ℕ) (old new : Moment) (lines : List (List ℕ)) : Type 0 where
+-- lines of a script were executed by a run that began so, over a disk with such counts before and now: their replies are those of a
+-- transcript
+pub record Executed (base : Durable) (room : ℕ) (old new : DiskStatus) (disk : Option DiskState) (lines : List (List ℕ)) : Type 0 where
   pub meant : List (Option Line)
   pub steps : List Step
   pub replies : List Reply
@@ -75,12 +74,16 @@ pub record Replied (base : Durable) (room : ℕ) (old new : Moment) (lines : Lis
   pub lawful_before : (n : ℕ) (mid : World) → Transcript (opened base room []) (take n meant) (take n steps) (take n replies) mid → IsLawful mid
   -- over all its restarts no transaction is told to have committed and to have rolled back
   pub one_outcome : HasOneOutcome (tellings (opened base room []) meant steps replies)
-  pub wrote : Appends old.taken new.taken (written_replies replies)
   -- the interrupted lines and the crashes that were answered are at most as many as the disk went down, the plan grew by that of
   -- the lines, and there were so few device calls
-  pub counts : RunCounts base.units old.status new.status (calls base.units meant) (plans meant replies) (falls meant steps replies)
+  pub counts : RunCounts base.units old new (calls base.units meant) (plans meant replies) (falls meant steps replies)
   -- the disk holds the state of a possible log of the world
-  pub holds : IsSomeAnd new.disk (HoldsStates world)
+  pub holds : IsSomeAnd disk (HoldsStates world)
+
+-- they were executed, and their replies were written, each in a line of its own
+pub record Replied (base : Durable) (room : ℕ) (old new : Moment) (lines : List (List ℕ)) : Type 0 where
+  pub executed : Executed base room old.status new.status new.disk lines
+  pub wrote : Appends old.taken new.taken (written_replies executed.replies)
 
 -- the run of a whole script
 pub record RunTheorem (base : Durable) (room : ℕ) (old new : Outside) : Type 0 where
@@ -139,7 +142,7 @@ pub record EndedWithin (base : Durable) (room : ℕ) (old new : Outside) : Type 
   -- the moment before that line
   pub at : Moment
   pub replied : Replied base room (moment_of old) at before
-  pub broke : Unanswered replied.world at (moment_of new) line ⊎ HalfWritten replied.world at (moment_of new) line
+  pub broke : Unanswered replied.executed.world at (moment_of new) line ⊎ HalfWritten replied.executed.world at (moment_of new) line
 
 -- the machine was not started, no line was read, and what the disk holds may begin the same run
 pub record NotOpened (base : Durable) (room : ℕ) (old new : Outside) : Type 0 where

@@ -1,5 +1,5 @@
 // What the machine answers to a line.
-ghost use Rattle.std.specs.Prelude.{◌≡◌, ◌<◌, true, List, Some, None, ℕ, Option, Err, IfOk, OnOk, OnErr};
+ghost use Rattle.std.specs.Prelude.{◌<◌, List, Some, ℕ, Option, Err, IfOk, OnOk, OnErr};
 ghost use Rattle.ktm_kernel.specs.Stands.{KernelAt, IsReady};
 ghost use Rattle.ktm_log.specs.OnDisk.{on};
 ghost use Rattle.ktm_run.specs.Progress.{Answers, Unanswered};
@@ -90,8 +90,8 @@ fn restart<D: PowerDisk>(kernel: &mut Kernel, disk: &mut D, pick: u64) -> Result
     }
 }
 
-/// What the machine answers to a line, executed on a disk that has room for a plan.
-pub fn answer<D: PowerDisk>(
+// What the machine answers to a line, executed on a disk that has room for a plan.
+fn answer<D: PowerDisk>(
     alloc: Global,
     kernel: &mut Kernel,
     disk: &mut D,
@@ -114,5 +114,26 @@ pub fn answer<D: PowerDisk>(
         Line::Cut(calls) => Ok(cut(kernel, disk, calls)),
         Line::Crash => Ok(crash(kernel, disk)),
         Line::Restart(pick) => restart(kernel, disk, pick),
+    }
+}
+
+/// What the machine answers to a line, which is executed. Out of memory it was not executed, or it was a restart.
+pub fn execute<D: PowerDisk>(
+    alloc: Global,
+    kernel: &mut Kernel,
+    disk: &mut D,
+    line: &[u8],
+) -> Result<Reply, NoMemory>
+    requires { IsReady kernel.old (D.told disk.old) (D.status disk.old) }
+    ensures does { IfOk result (λ reply. (meant : Option Line) × Means line.now meant × Answers (on kernel.old (D.told disk.old) (D.status disk.old)) (on kernel.new (D.told disk.new) (D.status disk.new)) meant reply) }
+    ensures ready { OnOk result (IsReady kernel.new (D.told disk.new) (D.status disk.new)) }
+    ensures no_memory { OnErr result ((w : World) → KernelAt kernel.old (D.told disk.old) w → Unanswered w (on kernel.old (D.told disk.old) (D.status disk.old)) (on kernel.new (D.told disk.new) (D.status disk.new)) line.now) }
+{
+    if let Err(NoMemory) = disk.plan_room(alloc) {
+        return Err(NoMemory);
+    }
+    match answer(alloc, kernel, disk, line) {
+        Ok(reply) => Ok(reply),
+        Err(NoMemory) => Err(NoMemory),
     }
 }

@@ -6,19 +6,19 @@ ghost use Rattle.ktm_base.specs.Stream.{Faults};
 ghost use Rattle.ktm_run.specs.Form.{bad_image_line};
 ghost use Rattle.ktm_run.specs.Ended.{RunLeaves};
 ghost use Rattle.ktm_run.specs.Early.{SaysWhy, outside};
-ghost use Rattle.ktm_run.specs.Script.{AppendsPart};
+ghost use Rattle.ktm_dump.specs.Written.{AppendsPart};
 
 use crate::laws::law_of_runs;
 use crate::line::MOST_KEPT;
 use crate::script::{PIECE, run_script};
 use crate::status::Status;
-use crate::write::{write_all, write_line};
 use ktm_base::{Failed, PowerDisk, Sink, Source};
+use ktm_dump::{write_all, write_line};
 use ktm_open::{OpenFault, open_kernel};
 use std::alloc::Global;
 
-// Says at which offset the image is bad.
-fn write_bad_image<K: Sink>(sink: &mut K, offset: u64) -> Result<(), Failed>
+/// Says at which offset the image is bad.
+pub fn write_bad_image<K: Sink>(sink: &mut K, offset: u64) -> Result<(), Failed>
     ensures ok { OnOk result (Appends (K.taken sink.old) (K.taken sink.new) (bad_image_line offset)) }
     ensures err { OnErr result (AppendsPart (K.taken sink.old) (K.taken sink.new) (bad_image_line offset)) }
     ensures faults { Faults (K.faults sink.old) (K.faults sink.new) result }
@@ -33,8 +33,8 @@ fn write_bad_image<K: Sink>(sink: &mut K, offset: u64) -> Result<(), Failed>
     Ok(())
 }
 
-// How the run ends, where no machine was started. Of a bad image it says so.
-fn not_started<K: Sink>(sink: &mut K, why: OpenFault) -> Status
+/// How a run ends, where no machine was started. Of a bad image it says so.
+pub fn not_started<K: Sink>(sink: &mut K, why: OpenFault) -> Status
     ensures says { SaysWhy result why (K.taken sink.old) (K.taken sink.new) }
     ensures fault { result ≡ Status.SinkFault → Rose (K.faults sink.old) (K.faults sink.new) }
 {

@@ -6,10 +6,10 @@ ghost use Rattle.ktm_run.specs.Executed.{FeedLeaves, LineLeaves};
 ghost use Rattle.ktm_run.specs.Progress.{point};
 ghost use Rattle.ktm_run.specs.Script.{has_reply, kept_of, reply_line};
 
-use crate::answer::answer;
+use crate::answer::execute;
 use crate::fault::RunFault;
-use crate::write::write_all;
 use ktm_base::{Failed, MOST_LINE_BYTES, NoMemory, PowerDisk, Sink};
+use ktm_dump::write_all;
 use ktm_kernel::Kernel;
 use ktm_reply::put_reply;
 use ktm_types::Reply;
@@ -56,10 +56,7 @@ pub fn do_line<K: Sink, D: PowerDisk>(
     if !is_answered(kept) {
         return Ok(());
     }
-    if let Err(NoMemory) = disk.plan_room(alloc) {
-        return Err(RunFault::NoMemory);
-    }
-    let Ok(reply) = answer(alloc, kernel, disk, kept) else {
+    let Ok(reply) = execute(alloc, kernel, disk, kept) else {
         return Err(RunFault::NoMemory);
     };
     if let Err(NoMemory) = make_reply_line(made, &reply) {

@@ -5,12 +5,14 @@
 //! - `bytes`: the bytes of an image that a script leaves.
 //! - `images`: what is read of an image that a script leaves, where some of its bytes are changed.
 //! - `faults`: a script that is run with the first, the second, and so on to the last call of a device failing.
+//! - `forms`: command lines of every form one after another on one image, which has no byte at first, and what each writes.
 //!
 //! A row is `LINE => REPLY`, or a line without a reply. A table has parts, with an empty line between them.
 #![tactic(auto)]
 
 mod cuts;
 mod faults;
+mod forms;
 mod images;
 mod run;
 mod transcript;
@@ -30,6 +32,7 @@ pub fn found(alloc: Global, kind: &str, table: &str) -> Result<Option<String>, N
         "bytes" => images::bytes_found(alloc, table),
         "images" => images::found(alloc, table),
         "faults" => faults::found(alloc, table),
+        "forms" => forms::found(alloc, table),
         _ => Ok(Some(String::from_str(alloc, "a table of no kind")?)),
     }
 }

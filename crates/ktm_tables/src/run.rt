@@ -72,18 +72,19 @@ fn sink_of(alloc: Global, fail: u64) -> Result<MemSink, NoMemory> {
     MemSink::new(alloc, REPLIES, calls(alloc, fail)?)
 }
 
-// The words that the program is started with.
-fn started_with(alloc: Global) -> Result<Vec<String>, NoMemory> {
+// The words of a command line, with a blank between each two.
+fn words_of(alloc: Global, line: &str) -> Result<Vec<String>, NoMemory> {
     let mut words = Vec::new(alloc);
-    for word in ["run", "image", "script"] {
+    for word in line.split(' ') {
         words.push(String::from_str(alloc, word)?)?;
     }
     Ok(words)
 }
 
-// Runs a script on a disk, where a call of the source fails.
+// Runs a command line on a disk, where a call of the source fails.
 fn run_on<K: Sink, D: PowerDisk>(
     alloc: Global,
+    line: &str,
     script: &[u8],
     fail: u64,
     sink: &mut K,
@@ -91,9 +92,27 @@ fn run_on<K: Sink, D: PowerDisk>(
 ) -> Result<Status, NoMemory>
     requires { (D.status disk.old).pending ≡ 0 }
 {
-    let words = started_with(alloc)?;
+    let words = words_of(alloc, line)?;
     let mut source = source_of(alloc, script, fail)?;
     Ok(ktm(alloc, &words, &mut source, sink, disk))
+}
+
+/// Runs a command line on a block with this script, where a call of the source and one of the sink fail.
+pub fn run_line(
+    alloc: Global,
+    line: &str,
+    script: &[u8],
+    block: MemBlock,
+    fails: Fails,
+) -> Result<Outcome, NoMemory> {
+    let mut disk = CutDisk::new(alloc, block)?;
+    let mut sink = sink_of(alloc, fails.sink)?;
+    let status = run_on(alloc, line, script, fails.source, &mut sink, &mut disk)?;
+    Ok(Outcome {
+        status,
+        sink,
+        block: disk.into_block(),
+    })
 }
 
 /// Runs a script on a block, where a call of the source and one of the sink fail.
@@ -103,14 +122,7 @@ pub fn run(
     block: MemBlock,
     fails: Fails,
 ) -> Result<Outcome, NoMemory> {
-    let mut disk = CutDisk::new(alloc, block)?;
-    let mut sink = sink_of(alloc, fails.sink)?;
-    let status = run_on(alloc, script, fails.source, &mut sink, &mut disk)?;
-    Ok(Outcome {
-        status,
-        sink,
-        block: disk.into_block(),
-    })
+    run_line(alloc, "run image script", script, block, fails)
 }
 
 /// Runs a script on a new image of 16 units.
@@ -139,8 +151,8 @@ pub fn first_difference(alloc: Global, replies: &[u8], wanted: &[u8]) -> Result<
     Ok(String::from_str(alloc, "more replies than are wanted")?)
 }
 
-// What is not as it is wanted of a run.
-fn difference(
+/// What is not as it is wanted of a run.
+pub fn difference(
     alloc: Global,
     outcome: &Outcome,
     wanted: &Transcript,

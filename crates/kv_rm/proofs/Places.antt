@@ -1,14 +1,16 @@
 -- Where a transaction's own settings stand, and whose settings there are once one of them has changed or gone.
-use Rattle.std.proofs.Common.{◌≡◌, ℕ, ◌<◌, ◌==◌, true, false, List, [], ◌∷◌, ◌++◌, length, map, suc, position, get_or, set, take, drop, refl, sym, ◌∙◌, ap, arith}
+use Rattle.std.proofs.Common.{◌≡◌, ℕ, ◌<◌, ◌==◌, ◌||◌, true, false, List, [], ◌∷◌, ◌++◌, length, map, suc, position, get_or, set, take, drop, refl, sym, ◌∙◌, ap, arith}
 use Rattle.std.specs.Prelude.{MatchOption}
-use Rattle.std.specs.List.{remove}
+use Rattle.std.specs.List.{list_any, remove}
 use Rattle.std.proofs.lemmas.Bool.{and_parts, eqb-true}
 use Rattle.std.proofs.Math.Seq.{map-set_same}
 use Rattle.std.proofs.lemmas.List.{take-map, drop-map, map-append, get_or-map, length-map}
 use Rattle.ktm_base.specs.declared.id.Id.{Id}
+use Rattle.ktm_places.specs.Places.{is_its}
 use Rattle.ktm_places.proofs.offered.Positions.{by_position}
 use Rattle.ktm_world.specs.Keys.{Own}
 use Rattle.ktm_world.specs.Transactions.{same_id}
+use Rattle.kv_rm.specs.Participant.{has_own}
 use Rattle.kv_rm.specs.Place.{IsPlace, IsAbsent}
 
 same_id-equal : (a b : Id) → same_id a b ≡ true → a ≡ b
@@ -69,3 +71,7 @@ pub owner_at : (own : List Own) (id : Id) (i : ℕ) → IsPlace own id i → (i 
 owner_at own id i at =
     let d : Own = record { transaction = id; settings = [] } in
     (rw (length-map own (λ (o : Own). o.transaction)) at.within, get_or-map (λ (o : Own). o.transaction) own i d id at.within ∙ at.owner d)
+
+pub owners-any : (own : List Own) (id : Id) → list_any (is_its id) (owners own) ≡ has_own own id
+owners-any [] id = refl
+owners-any (o ∷ os) id = ap (λ any. is_its id o.transaction || any) (owners-any os id)

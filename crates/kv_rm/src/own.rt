@@ -1,5 +1,5 @@
 // What each undecided transaction has set.
-ghost use Rattle.std.specs.Prelude.{◌≡◌, ◌++◌, ◌∷◌, ℕ, List, [], MatchOption, IfOk, OnOk, OnErr, true};
+ghost use Rattle.std.specs.Prelude.{◌≡◌, ◌++◌, ◌∷◌, ℕ, List, [], MatchOption, IfOk, OnOk, OnErr, true, false};
 ghost use Rattle.std.specs.Option.{option_copied, option_map};
 ghost use Rattle.ktm_keyed.specs.Keyed.{is_rising, value_at, put};
 ghost use Rattle.ktm_world.specs.KeyCalls.{with_setting};
@@ -248,8 +248,14 @@ impl OwnList {
         is_held(&self.entries, transaction, key)
     }
 
-    /// The transaction has these settings of its own from now on, behind those of the others.
-    pub fn push(&mut self, transaction: Id, settings: SettingList) -> Result<(), NoMemory>
+    /// The transaction has these settings of its own from now on, behind those of the others. It may have had some.
+    pub fn push(
+        &mut self,
+        transaction: Id,
+        settings: SettingList,
+        had: bool,
+    ) -> Result<(), NoMemory>
+        requires { had ≡ false → has_own self.old transaction ≡ false }
         ensures ok { OnOk result (self.new ≡ self.old ++ record { transaction = transaction; settings = settings } ∷ []) }
         ensures err { OnErr result (self.new ≡ self.old) }
     {
@@ -259,7 +265,7 @@ impl OwnList {
             settings,
             stamp,
         })?;
-        self.places.add(transaction);
+        self.places.add(transaction, had);
         Ok(())
     }
 
@@ -281,7 +287,7 @@ impl OwnList {
                 let own = &mut self.entries[place];
                 own.set_in(alloc, seat.slot, key, value)
             }
-            None => self.push(transaction, one_setting(alloc, key, value)?),
+            None => self.push(transaction, one_setting(alloc, key, value)?, false),
         }
     }
 
@@ -311,8 +317,9 @@ impl OwnList {
     {
         match self.place_of(transaction) {
             Some(place) => {
-                self.places.remove(transaction);
-                self.entries.remove(place).into_settings()
+                let own = self.entries.remove(place);
+                self.places.remove(transaction, own.stamp());
+                own.into_settings()
             }
             None => Vec::new(alloc),
         }

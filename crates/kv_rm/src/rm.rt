@@ -45,7 +45,7 @@ pub struct KvRm {
     own: OwnList,
     // Of what the transactions have set. The store has room for as many more entries.
     counts: Counts,
-    // The same, by the hashes of keys.
+    // How many settings have each hash of a key.
     held: HeldKeys,
 }
 
@@ -121,7 +121,8 @@ fn push_own(
     ensures held { AreHeld own.new held.new.counts.items }
 {
     held.reserve()?;
-    own.push(transaction, SettingList::from_vec(settings))?;
+    let had = own.has(transaction);
+    own.push(transaction, SettingList::from_vec(settings), had)?;
     held.add_all(own.last_settings());
     Ok(())
 }
@@ -167,7 +168,7 @@ impl KvRm {
     }
 
     /// The transaction has these settings of its own from now on, behind those of the others: it is brought back by a restart.
-    /// The store has room for them then. At want of memory nothing has changed.
+    /// The store has room for them then. Out of memory nothing has changed.
     pub fn restore(&mut self, transaction: Id, settings: Vec<Setting>) -> Result<(), NoMemory>
         requires rising { is_rising settings.items ≡ true }
         requires few_values { keys_used (keys_restored self.old transaction settings.items) < 2 ^ 32 }
@@ -183,7 +184,7 @@ impl KvRm {
     }
 
     /// Makes a call for a transaction, or for none: it is refused, or answered. What is set or unset has room in the store then.
-    /// At want of memory nothing has changed; a call that is refused takes none.
+    /// Out of memory nothing has changed; a call that is refused takes none.
     pub fn call(&mut self, who: Option<Id>, call: KvCall, room: Room) -> Result<Reply, NoMemory>
         ensures reply { IfOk result (λ reply. reply ≡ (key_outcome self.old room who call).reply) }
         ensures keys { OnOk result (self.new ≡ record self.old { own = (key_outcome self.old room who call).own }) }

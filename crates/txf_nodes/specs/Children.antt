@@ -16,7 +16,7 @@ pub record Shown : Type 0 where
 abbrev pub shown : Node → Shown
 shown node = record { name = node.name; is_directory = not (is_some node.content) }
 
--- the same of a node with any content
+-- the node, with any content, as an entry of its directory
 abbrev pub shown_of : {V : Type 0} → NodeOf V → Shown
 shown_of n = record { name = n.name; is_directory = not (is_some n.content) }
 

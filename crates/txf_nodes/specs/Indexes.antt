@@ -79,7 +79,7 @@ module _ {V : Type 0} where
     pub few : length n.name ≤ MOST_NAME_BYTES
     pub under : under names (name_of n) ≡ Some n.number
 
-  -- the same of each node
+  -- the number of each node stands under its name
   abbrev pub AreNamed : List (NamedItem ℕ) → List (NodeOf V) → Type 0
   AreNamed names [] = Unit {0}
   AreNamed names (n ∷ ns) = IsNamedAt names n × AreNamed names ns

@@ -34,6 +34,6 @@ module _ (V : RattleType) where
   abbrev pub lends_in : MutBor (NodesState V.Denot) → ℕ → ℕ → Option (MutBor V.Denot) → Fml
   lends_in s file changes r = LendsIf (nodes_row V) V s r (with_content_at s.now file changes) s.now
 
-  -- the same of a table
+  -- the table ends with the last content written through r, and where there is none all stays as it is
   abbrev pub lends_of : MutBor (NodesState V.Denot) → ℕ → ℕ → Option (MutBor V.Denot) → Fml
   lends_of s file changes r = LendsIf (table_row V) V s r (with_content_at s.now file changes) s.now

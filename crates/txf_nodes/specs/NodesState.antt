@@ -53,7 +53,7 @@ module _ {V : Type 0} where
   abbrev pub tree_in : (V → List ℕ) → List (NodeOf V) → Tree
   tree_in bytes nodes = map (node_by bytes) nodes
 
-  -- the same of a table
+  -- a table as a tree, where this says what bytes a content has
   abbrev pub tree_by : (V → List ℕ) → NodesState V → Tree
   tree_by bytes s = tree_in bytes s.nodes
 
@@ -62,7 +62,7 @@ module _ {V : Type 0} where
   versions_in [] = []
   versions_in (n ∷ ns) = if nat_lt 0 n.version then record { file = n.number; count = n.version } ∷ versions_in ns else versions_in ns
 
-  -- the same of a table
+  -- the versions of a table's files
   abbrev pub versions_of : NodesState V → List Version
   versions_of s = versions_in s.nodes
 

@@ -3,6 +3,7 @@
 #![tactic(auto)]
 
 mod applies;
+mod by_number;
 mod children;
 mod entry;
 mod listed;
@@ -12,6 +13,7 @@ mod stored;
 mod table;
 
 pub use applies::{is_name, is_node_number};
+pub use by_number::ByNumber;
 pub use children::Children;
 pub use entry::{Entries, Entry};
 pub use listed::listed_names;

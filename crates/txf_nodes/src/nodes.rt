@@ -9,6 +9,7 @@ ghost use Rattle.txf_nodes.specs.Lends.{lends_item};
 ghost use Rattle.txf_nodes.specs.NodesState.{NodeOf, content_in, now_at};
 ghost use Rattle.txf_nodes.specs.Places.{number_bytes};
 
+use crate::by_number::ByNumber;
 use crate::name::{NumberName, number_bytes};
 use crate::stored::StoredNode;
 use ktm_base::{NoMemory, Text};
@@ -103,6 +104,13 @@ impl<C> Nodes<C> {
             Some(key) => self.nodes.get(key),
             None => None,
         }
+    }
+
+    /// The nodes, one after another.
+    pub(crate) fn by_number(&self) -> ByNumber<'_, C>
+        ensures { result ≡ self.now.nodes }
+    {
+        ByNumber::new(&self.nodes, self.numbers.walk_from(&[]))
     }
 
     pub(crate) fn reserve(&mut self, n: usize) -> Result<(), NoMemory>

@@ -7,13 +7,14 @@ ghost use Rattle.ktm_types.specs.declared.change.Change.TheVariants.{Make, Move}
 ghost use Rattle.ktm_types.specs.declared.change.NodeKind.{NodeKind};
 ghost use Rattle.ktm_world.specs.Changes.{applies};
 ghost use Rattle.ktm_world.specs.Committed.{version_of, without_version};
-ghost use Rattle.ktm_world.specs.Tree.{bytes_of, child_of, content_of, has_entries, is_at_or_below, is_directory, is_file, node_at, numbers_rise, parent_of, with_changed, with_node, without_node};
+ghost use Rattle.ktm_world.specs.Tree.{bytes_of, child_of, content_of, has_entries, is_at_or_below, is_directory, is_file, node_at, numbers_rise, parent_of, with_changed, without_node};
 ghost use Rattle.txf_nodes.specs.Children.{entries_in, matching};
 ghost use Rattle.txf_nodes.specs.Indexes.{under, with_now};
 ghost use Rattle.txf_nodes.specs.Lends.{with_content_at};
 ghost use Rattle.txf_nodes.specs.NodesState.{content_at, node_by, now_at, tree_by, versions_of, IsInserted, IsRefilled, KeepsContents, SetsContent};
 ghost use Rattle.txf_nodes.specs.Places.{entries_from, number_bytes};
 
+use crate::by_number::ByNumber;
 use crate::children::Children;
 use crate::entry::Entries;
 use crate::name::{ChildName, child_name, number_bytes};
@@ -99,6 +100,13 @@ impl<C> NodeTable<C> {
         ensures node { (bytes : C → Seq ℕ) → option_map (node_by bytes) (option_copied result) ≡ node_at (tree_by bytes self.now) number }
     {
         self.nodes.get(number)
+    }
+
+    /// The nodes but the root, by rising number, one after another.
+    pub fn by_number(&self) -> ByNumber<'_, C>
+        ensures { result ≡ self.now.nodes }
+    {
+        self.nodes.by_number()
     }
 
     pub fn is_file(&self, number: u64) -> bool
@@ -224,8 +232,8 @@ impl<C> NodeTable<C> {
         Ok(())
     }
 
-    /// Puts a node whose number and name are free, and whose content was never changed. It takes no memory.
-    pub fn insert(&mut self, number: u64, parent: u64, name: Text, content: Option<C>)
+    // Puts a node whose number and name are free, and whose content was never changed. It takes no memory.
+    fn insert(&mut self, number: u64, parent: u64, name: Text, content: Option<C>)
         requires spare { 0 < self.old.spare }
         requires few { length name ≤ MOST_NAME_BYTES }
         requires number { (bytes : C → Seq ℕ) × (node_at (tree_by bytes self.old) number ≡ None) }

@@ -1,6 +1,5 @@
 mod Filling
 mod Refilling
-mod Restart
 pub use Rattle.txf_nodes.proofs.Digits
 pub use Rattle.txf_nodes.proofs.Listing
 pub use Rattle.txf_nodes.proofs.Ordered

@@ -37,7 +37,7 @@ tree_of s = tree_by bytes_now s
 abbrev pub versions_in : List NodeNow → List Version
 versions_in nodes = versions_in_nodes nodes
 
--- the same of the tree
+-- the versions of the tree's files
 abbrev pub versions_of : TreeState → List Version
 versions_of s = versions_in s.nodes
 

@@ -1,14 +1,12 @@
 // The tree.
-ghost use Rattle.std.specs.Prelude.{◌≡◌, ◌+◌, ◌-◌, ◌^◌, ◌<◌, ◌≤◌, ℕ, [], None, true, length, OnOk, IsOk, IfOk, All, fold, ◌≢◌};
+ghost use Rattle.std.specs.Prelude.{◌≡◌, ◌+◌, ◌-◌, ◌^◌, ◌<◌, ◌≤◌, ℕ, [], None, true, length, OnOk, IsOk, IfOk, fold, ◌≢◌};
 ghost use Rattle.std.specs.Option.{option_map};
-ghost use Rattle.ktm_base.specs.Names.{IsName};
-ghost use Rattle.ktm_base.specs.declared.limits.TheConstants.{MOST_NAME_BYTES};
 ghost use Rattle.ktm_base.specs.Reading.{IsRead};
 ghost use Rattle.ktm_types.specs.declared.change.Change.TheVariants.{Make, Put, Cut, Move, Drop};
 ghost use Rattle.ktm_links.specs.Mapped.{Begins};
 ghost use Rattle.ktm_world.specs.Changes.{applies, bytes_in, changed, changed_all, new_content, node_of};
 ghost use Rattle.ktm_world.specs.Committed.{final_bytes, version_of, versions_after, without_version};
-ghost use Rattle.ktm_world.specs.Tree.{bytes_of, child_of, content_of, has_entries, is_at_or_below, is_directory, is_file, node_at, numbers_rise, with_node};
+ghost use Rattle.ktm_world.specs.Tree.{bytes_of, child_of, content_of, has_entries, is_at_or_below, is_directory, is_file, node_at, numbers_rise};
 ghost use Rattle.txf_tree.specs.Children.{node_seen, entries_in, matching};
 ghost use Rattle.txf_tree.specs.Places.{entries_from, number_bytes};
 ghost use Rattle.txf_tree.specs.TreeState.{bytes_now, dropped, fits, room_of, has_room, takes, tree_of, versions_of, IsApplied, KeepsRoom, KeepsRooms};
@@ -16,9 +14,10 @@ ghost use Rattle.txf_tree.specs.TreeState.{bytes_now, dropped, fits, room_of, ha
 use crate::change::{bytes_in, changes_bytes, is_whole, node_of};
 use crate::content::Content;
 use crate::node_ref::{NodeRef, node_ref};
+use crate::nodes::Nodes;
 use ktm_base::{Bytes, NoMemory, Text, read_at};
 use ktm_names::Pattern;
-use ktm_types::{Change, Contents, Node, NodeKind};
+use ktm_types::{Change, Contents, NodeKind};
 use std::alloc::Global;
 use std::marker::Model;
 use txf_nodes::{Entries, NodeTable};
@@ -90,24 +89,6 @@ impl Tree {
         }
     }
 
-    /// The tree of these nodes, as a restart finds them, whose bytes were not changed since.
-    pub fn with_nodes(alloc: Global, nodes: Vec<Node>) -> Result<Self, NoMemory>
-        requires names { All (λ node. IsName node.name) nodes.items }
-        requires one_each { All (λ node. child_of nodes.items node.parent node.name ≡ Some node) nodes.items }
-        requires rise { numbers_rise nodes.items ≡ true }
-        ensures tree { IfOk result (λ tree. tree_of tree ≡ nodes.items) }
-        ensures versions { IfOk result (λ tree. versions_of tree ≡ []) }
-    {
-        let mut tree = Tree::new(alloc);
-        if let Err(NoMemory) = tree.reserve(nodes.len()) {
-            return Err(NoMemory);
-        }
-        for node in nodes {
-            tree.push(node);
-        }
-        Ok(tree)
-    }
-
     /// The numbers of its nodes rise.
     pub fn law_of_numbers(&self)
         ensures { numbers_rise (tree_of self.now) ≡ true }
@@ -130,6 +111,13 @@ impl Tree {
             Some(node) => Some(node_ref(node)),
             None => None,
         }
+    }
+
+    /// The nodes but the root, by rising number, one after another.
+    pub fn nodes(&self) -> Nodes<'_>
+        ensures { result ≡ tree_of self.now }
+    {
+        Nodes::new(self.nodes.by_number())
     }
 
     pub fn is_file(&self, number: u64) -> bool
@@ -348,26 +336,6 @@ impl Tree {
         self.nodes
             .replace(file, Content::new(bytes), changes)
             .into_bytes()
-    }
-
-    // Puts a node whose number and name are free, and whose bytes were never changed. It takes no memory.
-    fn push(&mut self, node: Node)
-        requires spare { 0 < self.old.spare }
-        requires few { length node.name ≤ MOST_NAME_BYTES }
-        requires number { node_at (tree_of self.old) node.number ≡ None }
-        requires name { child_of (tree_of self.old) node.parent node.name ≡ None }
-        ensures tree { tree_of self.new ≡ with_node (tree_of self.old) node }
-        ensures versions { versions_of self.new ≡ versions_of self.old }
-        ensures rooms { KeepsRooms self.old self.new }
-        ensures spare { self.new.spare + 1 ≡ self.old.spare }
-    {
-        let Node {
-            number,
-            parent,
-            name,
-            content,
-        } = node;
-        self.nodes.insert(number, parent, name, content_of(content));
     }
 
     // Makes a node, for which the memory is there.

@@ -70,7 +70,7 @@ plain-sum h o c was used added more lost steady is suits was_is used_is added_is
     let l : lost ≡ loss (bytes_of (tree_of h.tree) (node_of c)) c = lost_is ∙ ap (λ b. loss b c) was_is in
     (omega (arith, law, a, l, used_is, more_is), omega (arith, law, a, l, used_is, more_is))
 
--- the same of a change of a transaction
+-- what is used, with what a change of a transaction adds, and without what it takes
 pub own-sum : (h : FilesHeld) (id : Id) (o : FileOutcome) (c : Change) (file used added lost : ℕ) (seen own : List ℕ) → IsSteady (files_of h) → o.change ≡ Some c → opens_file (tree_of h.tree) o.first ≡ true
     → file ≡ node_of c → seen ≡ bytes_seen (files_of h) (Some id) file → own ≡ own_bytes (files_of h) id file → used ≡ units_used (files_of h) → added ≡ gain seen c → lost ≡ loss own c
     → (lost ≤ used + added) × (used + added - lost ≡ units_used (files_after (files_of h) (Some id) o))

@@ -204,7 +204,7 @@ module _ (first : ℕ → List ℕ) (ws : List Written) (ns : List Change) (n : 
       (λ i. named (Drop node) i || is_in (map number_of (without_file ws node)) n)
       ∙ of_drop (is_in (map node_of ns) n) (is_in (map number_of ws) n) (is_in (map number_of (without_file ws node)) n) (node == n) (numbers-without ws node n)
 
--- the same of names, and of directories that are dropped and moved
+-- where no cut and no put lists anything, final bytes list nothing
 finals-silent : {X : Type 0} (f : Tree → Change → List X) → Silent f → (ws : List Written) (tree : Tree) → each_change f tree (flat_map final_of ws) ≡ []
 finals-silent f silent [] tree = refl
 finals-silent f silent (w ∷ ws) tree = go w.bytes (finals-silent f silent ws)

@@ -1,5 +1,5 @@
 -- What one change of a transaction makes of the parts of the files in memory. No public clause cites this module.
-use Rattle.std.specs.Prelude.{◌≡◌, ℕ, ◌+◌, ◌<◌, ◌^◌, true, All, List, [], ◌∷◌, ◌++◌, filter, length, map, Option, Some, None, if◌then◌else◌, slice_index_or, slice_set, drop, take}
+use Rattle.std.specs.Prelude.{◌≡◌, ℕ, ◌<◌, ◌^◌, true, All, List, [], ◌∷◌, ◌++◌, filter, length, map, Option, Some, None, if◌then◌else◌, slice_index_or, slice_set}
 use Rattle.std.specs.List.{list_any}
 use Rattle.ktm_base.specs.declared.id.Id.{Id}
 use Rattle.ktm_types.specs.declared.change.Change.{Change}
@@ -14,7 +14,7 @@ use Rattle.txf_overlay.specs.Written.{total_units}
 use Rattle.txf_reserve.specs.ReserveState.{ReserveState, HoldsToo}
 use Rattle.txf_volume.specs.declared.counts.Counted.{Counted}
 use Rattle.txf_volume.specs.declared.counts.Counts.{Counts}
-use Rattle.txf_volume.specs.Held.{OwnHeld, overlay_in, without_own}
+use Rattle.txf_volume.specs.Held.{OwnHeld, overlay_in}
 use Rattle.txf_volume.specs.Ties.{IsOver}
 
 -- ---- the list of what transactions changed
@@ -28,13 +28,12 @@ abbrev pub with_overlay : List OwnHeld → Id → OverlayState → List OwnHeld
 with_overlay [] id o = record { transaction = id; overlay = o } ∷ []
 with_overlay (p ∷ ps) id o = if same_id p.transaction id then record p { overlay = o } ∷ ps else p ∷ with_overlay ps id o
 
--- what a transaction changed is found at this place, and is changed there or taken out
+-- what a transaction changed is found at this place, and is changed there
 pub record IsPlace (overlays : List OwnHeld) (id : Id) (i : ℕ) : Type 0 where
   pub within : i < length overlays
   pub owner : (d : OwnHeld) → (slice_index_or overlays i d).transaction ≡ id
   pub found : (d : OwnHeld) → overlay_in overlays id ≡ Some (slice_index_or overlays i d).overlay
   pub put : (o : OverlayState) (d : OwnHeld) → with_overlay overlays id o ≡ slice_set overlays i (record (slice_index_or overlays i d) { overlay = o })
-  pub left : without_own overlays id ≡ take i overlays ++ drop (i + 1) overlays
 
 -- a transaction that changed nothing
 abbrev pub unchanged : OverlayState
@@ -49,7 +48,7 @@ or_unchanged (Some o) = o
 abbrev pub bare : OverlayState → OverlayState
 bare o = record o { spare = 0 }
 
--- the same of an entry
+-- a transaction's entry without how much memory there is
 abbrev pub bare_own : OwnHeld → OwnHeld
 bare_own o = record o { overlay = bare o.overlay }
 
@@ -89,7 +88,7 @@ pub record IsChanged (tree : Tree) (fixed : List ℕ) (id : Id) (c : Change) (o 
   pub stands : StandsOver tree o'
   pub holds : HoldsChange (seen tree o) c id r r'
 
--- the same in the list of what transactions changed
+-- a change is made in the list of what transactions changed
 pub record IsChangedIn (tree : Tree) (fixed : List ℕ) (id : Id) (c : Change) (os os' : List OwnHeld) (r r' : ReserveState) : Type 0 where
   pub overlay : OverlayState
   pub list : os' ≡ with_overlay os id overlay

@@ -24,7 +24,7 @@ pub record CanBeRestored (files : FilesNow) (id : Id) (changes : List Change) : 
   pub puts : list_all puts_some changes ≡ true
   -- they apply to what is committed
   pub apply : changes_apply files.tree changes ≡ true
-  -- and the nodes that they make are below the next one
+  -- the nodes that they make are below the next one
   pub made : list_all (is_made_below files.table.next_node) changes ≡ true
   -- what is in use then can be counted, with the nodes too that they make and drop again
   pub counted : CanBeCounted (files_restored files id changes)

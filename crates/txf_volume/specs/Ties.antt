@@ -61,7 +61,7 @@ pub record AreTied (h : FilesHeld) (units : ℕ) (counts : Counts) : Type 0 wher
   pub formed : IsWellFormed (tree_of h.tree)
   -- a transaction has one entry among the changes
   pub once : each_pair held_by_two h.overlays ≡ true
-  -- and it stands over the tree
+  -- each entry's changes stand over the tree
   pub over : All (λ o. IsOver (tree_of h.tree) o.overlay) h.overlays
   -- the bytes of first opens are kept where they have to be
   pub opened : All (IsKeptOpen h.tree h.versions.older) h.versions.opens

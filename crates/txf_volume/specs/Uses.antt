@@ -25,7 +25,7 @@ pub record IsSteady (files : FilesNow) : Type 0 where
   pub final : All (λ o. changes_to_commit o.changes (bytes_seen files (Some o.transaction)) ≡ o.changes) files.table.own
   -- the numbers of committed nodes rise
   pub rise : numbers_rise files.tree ≡ true
-  -- so do those of the files that have versions
+  -- the numbers of the files that have versions rise
   pub versions : each_pair files_rise files.versions ≡ true
   -- a first open is of a version that there was
   pub first_versions : All (λ o. is_file files.tree o.file ≡ true → o.version ≤ version_of files.versions o.file) files.first_opens

@@ -79,7 +79,6 @@ impl Overlays {
 
     /// Where the entry of a transaction is, if it changed anything.
     pub(crate) fn place_of(&self, transaction: Id) -> Option<usize>
-        requires { each_pair held_by_two self.now ≡ true }
         ensures { MatchOption result (overlay_in self.now transaction ≡ None) (IsPlace self.now transaction) }
     {
         self.places.place_of(&self.entries, transaction)
@@ -87,7 +86,6 @@ impl Overlays {
 
     /// What a transaction changed, if it changed anything.
     pub(crate) fn of(&self, transaction: Id) -> Option<&Overlay>
-        requires { each_pair held_by_two self.now ≡ true }
         ensures { option_copied result ≡ overlay_in self.now transaction }
     {
         match self.place_of(transaction) {
@@ -109,8 +107,8 @@ impl Overlays {
     {
         match self.place_of(transaction) {
             Some(place) => {
-                self.places.remove(transaction);
-                let Own { overlay, .. } = self.entries.remove(place);
+                let Own { overlay, stamp, .. } = self.entries.remove(place);
+                self.places.remove(transaction, stamp);
                 *counts = counts.without(Counts::of(&overlay));
                 Some(overlay)
             }

@@ -11,9 +11,7 @@ ghost use Rattle.txf_reserve.specs.Acts.{listed};
 ghost use Rattle.txf_tree.specs.TreeState.{tree_of};
 ghost use Rattle.txf_volume.specs.Held.{overlay_in};
 ghost use Rattle.txf_volume.specs.OwnParts.{bare, bare_own, counts_of, owners, starts, unchanged, written_next, CanChange, IsChanged, IsChangedIn, IsCounted, IsPlace};
-ghost use Rattle.txf_volume.specs.Ties.{held_by_two};
 ghost use Rattle.txf_volume.specs.Transacted.{CanAdd, IsWithin};
-ghost use Rattle.txf_laws.specs.Elements.{each_pair};
 
 use crate::counts::{Counted, Counts};
 use crate::holding::{hold_dropped, hold_file, hold_made, hold_moved};
@@ -301,7 +299,7 @@ impl Overlays {
                     stamp: self.places.next_stamp(),
                     overlay,
                 });
-                self.places.add(transaction);
+                self.places.add(transaction, false);
                 Ok(counted)
             }
             Err(NoMemory) => Err(NoMemory),
@@ -319,7 +317,6 @@ impl Overlays {
         change: Change,
     ) -> Result<Counted, NoMemory>
         requires spare { 0 < reserve.old.spare }
-        requires once { each_pair held_by_two self.old ≡ true }
         requires formed { IsWellFormed (tree_of tree.now) }
         requires can { CanChange (tree_of tree.now) fixed.now transaction change self.old }
         ensures ok { OnOk result (IsChangedIn (tree_of tree.now) fixed.now transaction change self.old self.new reserve.old reserve.new) }

@@ -85,7 +85,7 @@ impl Files {
         }
     }
 
-    // Takes the memory that a call needs, and then the same, if there is a change.
+    // Takes the memory that a call needs. Then a change, if there is one, is the transaction's own and holds what it names.
     fn own_if(&mut self, transaction: Id, change: Option<Change>) -> Result<(), NoMemory>
         requires applies { (c : Made) → change ≡ Some c → applies (tree_seen (files_of self.old) (Some transaction)) c ≡ true }
         requires counted { CanBeCounted (changed_by (files_of self.old) transaction change) }
@@ -131,7 +131,7 @@ impl Files {
         self.versions.pin(transaction, file, version);
     }
 
-    // The same, if it opens one.
+    // Fixes the version of a file that a transaction opens first, if it opens one.
     fn fix_if(&mut self, transaction: Id, file: Option<u64>)
         requires spare { 0 < self.old.versions.spare }
         requires first { (f : ℕ) → file ≡ Some f → IsNotOpened (files_of self.old) transaction f }

@@ -5,7 +5,7 @@ use Rattle.ktm_base.specs.declared.fault.NoMemory.{NoMemory}
 use Rattle.ktm_base.specs.declared.refusal.Refusal.TheVariants.{MachineDown}
 use Rattle.ktm_base.specs.Disk.{DiskState, DiskStatus}
 use Rattle.ktm_forms.specs.Tells.{IsTold, RepliesLaw, Telling, tells}
-use Rattle.ktm_journal.specs.Image.{IsFormatted, JournalState}
+use Rattle.ktm_journal.specs.Image.{IsHeaded, JournalState}
 use Rattle.ktm_kernel.specs.Answers.{CallLeaves, IsAsItWas}
 use Rattle.ktm_kernel.specs.Stands.{IsReady, KernelState}
 use Rattle.ktm_log.specs.OnDisk.{OnDisk}
@@ -35,7 +35,7 @@ ready_with old new told status same ready =
       powered = record {
         power = λ up. ready.powered.power (was up);
         settled = λ up. ready.powered.settled (was up);
-        image = λ up. subst (λ (j : JournalState). IfSome told (λ s. IsFormatted j.units j.image s.seen)) (sym same.journal) (ready.powered.image (was up));
+        image = λ up. subst (λ (j : JournalState). IfSome told (λ s. IsHeaded j.units j.image j.selector s.seen)) (sym same.journal) (ready.powered.image (was up));
       };
       standing = λ up. subst IsStandingNow (sym same.now) (ready.standing (was up));
       slots = λ up. subst (λ (x : Present). owed_slots x ≤ new.slots) (sym same.now) (let before = ready.slots (was up) in omega (arith, before, same.slots));

@@ -17,5 +17,5 @@ groups_size (group ∷ log) [] hold = absurd hold
 groups_size (group ∷ log) (p ∷ ps) hold = omega (arith, length-group group p hold.0, groups_size log ps hold.1, sum_by-cons frame_size group log)
 
 -- what a journal knows to be free is what its groups leave
-pub journal_left : (j : JournalState) (log : List Group) (s : DiskState) → JournalAt j log s → j.log.area.len - j.log.end ≡ left_after j.units log
-journal_left j log s at = omega (arith, ap (λ (a : Area). a.len) at.area, at.rests.gate_at, groups_size log at.payloads at.groups)
+pub journal_left : (j : JournalState) (snapshot : List ℕ) (log : List Group) (s : DiskState) → JournalAt j snapshot log s → j.log.area.len - j.log.end ≡ left_after j.units log
+journal_left j snapshot log s at = omega (arith, ap (λ (a : Area). a.len) at.area, at.rests.gate_at, groups_size log at.payloads at.groups)

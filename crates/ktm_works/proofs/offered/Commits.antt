@@ -74,7 +74,7 @@ own-with (o ∷ os) id key value = go (same_id o.transaction id) refl (own-with 
     go true is rest = ap (λ b. value_at (cond b (put o.settings key value) (own_settings os id)) key) is ∙ value-put o.settings key value
     go false other rest = ap (λ b. value_at (cond b o.settings (own_settings (with_own os id key value) id)) key) other ∙ rest
 
-some-settings : (settings : OwnSettings) (key : List ℕ) (value : Option (List ℕ)) → value_at settings key ≡ Some value → has_settings settings ≡ true
+pub some-settings : (settings : OwnSettings) (key : List ℕ) (value : Option (List ℕ)) → value_at settings key ≡ Some value → has_settings settings ≡ true
 some-settings [] key value is = absurd (none-some value is)
 some-settings (s ∷ ss) key value is = refl
 

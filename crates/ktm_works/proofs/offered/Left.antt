@@ -9,7 +9,7 @@ use Rattle.ktm_base.specs.declared.id.Pid.{Pid}
 use Rattle.ktm_base.specs.declared.refusal.Refusal.{Refusal}
 use Rattle.ktm_base.specs.declared.refusal.Refusal.TheVariants.{LogFull, MachineDown}
 use Rattle.ktm_base.specs.Disk.{DiskState}
-use Rattle.ktm_journal.specs.Image.{JournalState, JournalAt}
+use Rattle.ktm_journal.specs.Image.{JournalState, JournalAt, empty_snapshot}
 use Rattle.ktm_kernel.specs.Answers.{CallLeaves, IsAsItWas}
 use Rattle.ktm_kernel.specs.Stands.{Began, KernelAt, KernelState, LeavesPossible, StandsBy}
 use Rattle.ktm_laws.specs.Running.{IsRunning, LawfulWorldsLaw}
@@ -90,14 +90,14 @@ whole-possible w on all = go w.power refl on
 
 -- ---- what works make of what is committed
 
-abbrev contents_in : Committed → Contents
+abbrev pub contents_in : Committed → Contents
 contents_in c = record { tree = c.tree; keys = c.store }
 
 changes-made : (c : Committed) (changes : List Change) → (fold with_change c changes).tree ≡ changed_all c.tree changes
 changes-made c [] = refl
 changes-made c (change ∷ changes) = changes-made (with_change c change) changes
 
-works-made : (c : Committed) (works : List Work) → contents_in (committed_with c works) ≡ with_works (contents_in c) works
+pub works-made : (c : Committed) (works : List Work) → contents_in (committed_with c works) ≡ with_works (contents_in c) works
 works-made c [] = refl
 works-made c (work ∷ works) = works-made (with_work c work) works ∙ ap (λ (d : Contents). with_works d works) (λ i. record { tree = changes-made c work.changes i; keys = stored_all c.store work.settings })
 
@@ -198,8 +198,8 @@ moved true old new w told same stands = record {
   standing = stands.standing;
   before = stands.before;
   began = subst (λ (j : JournalState). Began j stands.before w) (sym same.journal) stands.began;
-  disk = subst (λ (t : Option DiskState). IsSomeAnd t (JournalAt new.it.journal (stands.before ++ w.log))) (sym told)
-      (subst (λ (j : JournalState). IsSomeAnd old.told (JournalAt j (stands.before ++ w.log))) (sym same.journal) stands.disk);
+  disk = subst (λ (t : Option DiskState). IsSomeAnd t (JournalAt new.it.journal empty_snapshot (stands.before ++ w.log))) (sym told)
+      (subst (λ (j : JournalState). IsSomeAnd old.told (JournalAt j empty_snapshot (stands.before ++ w.log))) (sym same.journal) stands.disk);
 }
 moved false old new w told same fallen = record {
   now = same.now ∙ fallen.now;

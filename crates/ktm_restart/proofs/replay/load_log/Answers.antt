@@ -1,4 +1,5 @@
-use Rattle.std.proofs.Common.{◌∙◌, ap, rules}
+use Rattle.std.proofs.Common.{◌∙◌, ap, arith, rules}
+use Rattle.ktm_log.specs.declared.area.Area.{Area}
 use Rattle.ktm_restart.proofs.LogLoads.{comes_to_events, comes_to_image, comes_to_units}
 use Rattle.ktm_restart.proofs.Replays.{loaded}
 use Rattle.ktm_restart.proofs.replay.load_log.Goals as goal
@@ -6,7 +7,7 @@ use Rattle.ktm_restart.proofs.replay.load_log.Goals as goal
 pub count_from-requires : goal.count_from-requires
 count_from-requires g c =
     let inside = comes_to_events _ _ _ _ c.in-Ok.ensures.comes _ c.in-Ok.ensures.end_is in
-    rw c.events.ensures inside.events
+    omega (arith, c.events.ensures, inside.events, c.in-Ok.ensures.of_image.inside, ap (λ (a : Area). a.len) c.in-Ok.ensures.of_image.area)
 
 pub returns-in-Ok-clause-leaves : goal.returns-in-Ok-clause-leaves
 returns-in-Ok-clause-leaves g c =

@@ -1,5 +1,6 @@
 use Rattle.std.proofs.Common.{◌≡◌, ◌+◌, Ok, Some, drop, ap, sym, subst, ◌∙◌, arith, rules}
 use Rattle.std.proofs.lemmas.List.{take_rest}
+use Rattle.ktm_journal.specs.Image.{half_of, log_area}
 use Rattle.ktm_restart.specs.Payloads.{IsFirstBad}
 use Rattle.ktm_log.specs.Log.{first_payload, payloads_in}
 use Rattle.ktm_restart.proofs.Folds.{folded_none, folded_more, folded_all, first_bad}
@@ -24,10 +25,10 @@ returns-in-Ok-false-clause-bad c offset is =
     let rest = take_rest c.args.bytes.now at in
     let next : first_payload (drop at c.args.bytes.now) ≡ Some c.in-Some.payload.now = ap first_payload (sym rest) ∙ c.in-Some.ensures.is in
     let here : c.log_at.result + at ≡ offset = cc in
-    let bad : IsFirstBad c.args.header.units c.args.header.image (payloads_in c.args.bytes.now) (c.log_at.result + at) =
-    rw c.log_at.ensures
-    (first_bad c.args.header.units c.args.header.image c.args.bytes.now at c.loop-payload.state c.loop-payload.invariant c.in-Some.payload.now next (c.in-Ok-false.ensures.bad (ap Ok c.in-Ok-false.field-0-test))) in
-    subst (λ n. IsFirstBad c.args.header.units c.args.header.image (payloads_in c.args.bytes.now) n) here bad
+    let begin = (log_area c.args.header.units (half_of c.args.header.selector)).at in
+    let bad : IsFirstBad c.args.header.units c.args.header.image begin (payloads_in c.args.bytes.now) (begin + at) =
+    first_bad c.args.header.units c.args.header.image c.args.bytes.now at c.loop-payload.state c.loop-payload.invariant c.in-Some.payload.now next begin (c.in-Ok-false.ensures.bad (ap Ok c.in-Ok-false.field-0-test)) in
+    subst (λ n. IsFirstBad c.args.header.units c.args.header.image begin (payloads_in c.args.bytes.now) n) (ap (λ n. n + at) (sym c.log_at.ensures) ∙ here) bad
 
 pub returns-clause-good : goal.returns-clause-good
 returns-clause-good c =

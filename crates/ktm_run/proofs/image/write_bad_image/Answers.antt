@@ -1,9 +1,9 @@
 use Rattle.std.proofs.Common.{ℕ, List, [], ◌∷◌, ◌++◌, ◌∙◌, subst}
 use Rattle.std.specs.Prelude.{codes, decimal}
 use Rattle.std.specs.Io.KnownBytes.{Appends}
-use Rattle.ktm_run.proofs.Breaks.{AppendsPart-then, AppendsPart-more}
+use Rattle.ktm_dump.proofs.offered.Written.{AppendsPart-then, AppendsPart-more}
 use Rattle.ktm_run.proofs.Known.{Appends-trans}
-use Rattle.ktm_run.specs.Script.{AppendsPart}
+use Rattle.ktm_dump.specs.Written.{AppendsPart}
 use Rattle.ktm_run.proofs.image.write_bad_image.Goals as goal
 
 pub returns-clause-ok : goal.returns-clause-ok

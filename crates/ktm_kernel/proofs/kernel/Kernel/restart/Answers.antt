@@ -3,7 +3,7 @@ use Rattle.ktm_base.specs.declared.limits.TheConstants.{MOST_UNITS}
 use Rattle.ktm_base.proofs.offered.Images.{calls_law}
 use Rattle.ktm_log.specs.OnDisk.{on}
 use Rattle.ktm_world.specs.World.{own_group}
-use Rattle.ktm_kernel.proofs.Restarts.{formatted_begun, not_begun, not_begun_calls, reserved, restarted, roomy_begun, start_calls, unloaded, unstarted, unwritten}
+use Rattle.ktm_kernel.proofs.Restarts.{headed_begun, not_begun, not_begun_calls, reserved, restarted, roomy_begun, start_calls, unloaded, unstarted, unwritten}
 use Rattle.ktm_kernel.proofs.kernel.Kernel.restart.Goals as goal
 
 pub returns-in-Err-Down-clause-leaves : goal.returns-in-Err-Down-clause-leaves
@@ -12,8 +12,8 @@ returns-in-Err-Down-clause-leaves g c = unloaded _ _ _ (rw c.in-Err-Down.field-0
 pub prepare-requires-clause-reserved : goal.prepare-requires-clause-reserved
 prepare-requires-clause-reserved g c = reserved _ _ _ c.in-Ok.loaded c.in-Ok.ensures.leaves
 
-pub record_start-requires-clause-formatted : goal.record_start-requires-clause-formatted
-record_start-requires-clause-formatted g c = formatted_begun c.in-Ok.loaded c.in-Ok-prepare.starting.events c.in-Ok-prepare.starting.memory (g.D.Disk.told c.load.new.disk) c.in-Ok-prepare.ensures.begun c.in-Ok.ensures.leaves.formatted
+pub record_start-requires-clause-headed : goal.record_start-requires-clause-headed
+record_start-requires-clause-headed g c = headed_begun c.in-Ok.loaded c.in-Ok-prepare.starting.events c.in-Ok-prepare.starting.memory (g.D.Disk.told c.load.new.disk) c.in-Ok-prepare.ensures.begun c.in-Ok.ensures.leaves.headed
 
 pub record_start-requires-clause-roomy : goal.record_start-requires-clause-roomy
 record_start-requires-clause-roomy g c = roomy_begun c.in-Ok.loaded c.in-Ok-prepare.starting.events c.in-Ok-prepare.starting.memory c.in-Ok.ensures.leaves.state c.in-Ok.ensures.leaves.journal c.in-Ok-prepare.ensures.begun
@@ -46,7 +46,7 @@ pub returns-in-Ok-record_start-clause-calls : goal.returns-in-Ok-record_start-cl
 returns-in-Ok-record_start-clause-calls g c = calls_law _ _ _ (8 * MOST_UNITS + 64) 4 false c.in-Ok.ensures.leaves.read.reads.reads.calls c.in-Ok-record_start.ensures.ok.leaves.synced.calls
 
 pub returns-in-Ok-record_start-clause-few : goal.returns-in-Ok-record_start-clause-few
-returns-in-Ok-record_start-clause-few g c = λ units image headed. omega (arith, c.in-Ok.ensures.few units image headed, c.in-Ok-record_start.ensures.ok.leaves.synced.calls.few)
+returns-in-Ok-record_start-clause-few g c = λ units image selector headed. omega (arith, c.in-Ok.ensures.few units image selector headed, c.in-Ok-record_start.ensures.ok.leaves.synced.calls.few)
 
 pub returns-in-Err-clause-calls : goal.returns-in-Err-clause-calls
 returns-in-Err-clause-calls g c = not_begun_calls c.in-Ok.loaded _ _ c.in-Err.fault c.in-Err.ensures.fault c.in-Ok.ensures.leaves.read.reads.reads.calls
@@ -59,8 +59,8 @@ returns-in-Err-record_start-clause-calls g c =
     c.in-Ok-prepare.starting.events c.in-Ok-prepare.starting.memory c.in-Ok-prepare.ensures.begun (on is.memory (g.D.Disk.told c.record_start.new.disk) (g.D.Disk.status c.record_start.new.disk)) is.why is.leaves))
 
 pub returns-in-Err-record_start-clause-few : goal.returns-in-Err-record_start-clause-few
-returns-in-Err-record_start-clause-few g c = λ units image headed.
+returns-in-Err-record_start-clause-few g c = λ units image selector headed.
     let is = c.in-Err-record_start.ensures.err in
     let starts = start_calls _ (on c.args.buffer.now (g.D.Disk.told c.args.disk.now) (g.D.Disk.status c.args.disk.now)) (on c.load.new.buffer (g.D.Disk.told c.load.new.disk) (g.D.Disk.status c.load.new.disk)) c.in-Ok.loaded c.in-Ok.ensures.leaves
     c.in-Ok-prepare.starting.events c.in-Ok-prepare.starting.memory c.in-Ok-prepare.ensures.begun (on is.memory (g.D.Disk.told c.record_start.new.disk) (g.D.Disk.status c.record_start.new.disk)) is.why is.leaves in
-    omega (arith, c.in-Ok.ensures.few units image headed, starts.few)
+    omega (arith, c.in-Ok.ensures.few units image selector headed, starts.few)

@@ -42,7 +42,7 @@ without-requires-clause-nodes c = nodes-part _ c.args.transaction c.self.inside.
 pub without-requires-clause-names : goal.without-requires-clause-names
 without-requires-clause-names c = names-part _ c.args.transaction c.self.inside.counts c.self.invariant.counted c.in-Ok.counted.before c.in-Ok.ensures.counted.before
 
--- and so can what transactions changed
+-- what transactions changed can be counted
 fit : (c : After-without) → (c.without.result.units + c.in-Ok.counted.after.units < 2 ^ 64) × (c.without.result.nodes + c.in-Ok.counted.after.nodes < 2 ^ 64) × (c.without.result.names + c.in-Ok.counted.after.names < 2 ^ 64)
 fit c =
     counts-fit (the_view c.self.inside) c.self.inside.units c.self.inside.counts c.self.invariant c.law_of_own_forms.ensures c.args.transaction c.args.change c.fixed_bytes-fixed.result.now

@@ -1,8 +1,10 @@
-use Rattle.std.proofs.Common.{◌≡◌, ◌++◌, ◌∷◌, [], List, true, sym, ◌∙◌, ap, subst}
+use Rattle.std.proofs.Common.{◌≡◌, ◌-◌, ◌^◌, ◌<◌, ◌++◌, ◌∷◌, [], List, None, true, length, sym, ◌∙◌, ap, subst, arith}
+use Rattle.std.proofs.lemmas.Grind.{common_steps}
 use Rattle.ktm_types.specs.declared.change.Change.{Change}
 use Rattle.ktm_world.specs.Changes.{applies, changed_all}
-use Rattle.txf_volume.specs.Held.{OwnHeld}
+use Rattle.txf_volume.specs.Held.{OwnHeld, overlay_in}
 use Rattle.txf_tree.specs.TreeState.{tree_of}
+use Rattle.txf_volume.proofs.OwnPlaces.{counted-pushed}
 use Rattle.txf_volume.proofs.TransactedParts.{changed-first, counted-first, few-new, stands-new}
 use Rattle.txf_volume.proofs.own.Overlays.change_first.Goals as goal
 use Rattle.txf_volume.proofs.own.Overlays.change_first.Goals.{After-push_reserved}
@@ -32,3 +34,12 @@ pub returns-in-Ok-clause-counted : goal.returns-in-Ok-clause-counted
 returns-in-Ok-clause-counted c =
     counted-first c.args.self.now _ c.args.transaction c.new-overlay.result c.make_room_and_change.new.overlay c.in-Ok.counted c.requires.first
     (pushed (goal.at.returns-in-Ok-clause-counted c).After-push_reserved) c.new-overlay.ensures.names c.new-overlay.ensures.written c.in-Ok.ensures.before c.in-Ok.ensures.after
+
+pub invariant_of-self-in-Ok : goal.invariant_of-self-in-Ok
+invariant_of-self-in-Ok c =
+    let os = c.self.inside.entries.items in
+    let own : OwnHeld = record { transaction = c.args.transaction; overlay = c.make_room_and_change.new.overlay } in
+    let few : length os < 2 ^ 64 - 1 = grind (arith, common_steps) in
+    counted-pushed os c.push_reserved.new.self.items own c.self.inside.places c.add.new.self
+    (c.push_reserved.ensures.items ∙ ap (λ (os : List OwnHeld). os ++ own ∷ []) c.reserve.ensures.items)
+    (subst (λ (os : List OwnHeld). overlay_in os c.args.transaction ≡ None) (sym c.self.view_is) c.requires.first) c.self.invariant few c.add.ensures

@@ -1,13 +1,10 @@
-use Rattle.std.proofs.Common.{◌≡◌, List, MatchOption, None, true, sym, subst}
-use Rattle.txf_laws.specs.Elements.{each_pair}
+use Rattle.std.proofs.Common.{◌≡◌, List, MatchOption, None, subst}
 use Rattle.txf_volume.specs.Held.{OwnHeld, overlay_in}
 use Rattle.txf_volume.specs.OwnParts.{IsPlace}
-use Rattle.txf_volume.specs.Ties.{held_by_two}
 use Rattle.txf_volume.proofs.OwnPlaces.{place_is}
 use Rattle.txf_volume.proofs.own.Overlays.place_of.Goals as goal
 
 pub returns : goal.returns
 returns c =
     subst (λ (os : List OwnHeld). MatchOption c.place_of.result (overlay_in os c.args.transaction ≡ None) (IsPlace os c.args.transaction)) c.self.view_is
-    (place_is c.self.inside.entries.items c.args.transaction c.place_of.result (subst (λ (os : List OwnHeld). each_pair held_by_two os ≡ true) (sym c.self.view_is) c.requires)
-    (rw c.deref.ensures.value at c.place_of.ensures))
+    (place_is c.self.inside.entries.items c.args.transaction c.place_of.result (rw c.deref.ensures.value at c.place_of.ensures))

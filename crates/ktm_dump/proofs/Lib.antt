@@ -1,0 +1,4 @@
+mod Puts
+mod Paths
+mod Stages
+pub mod offered

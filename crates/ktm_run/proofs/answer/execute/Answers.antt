@@ -1,0 +1,14 @@
+use Rattle.ktm_run.proofs.Breaks.{unanswered_here, did_planned, unanswered_planned}
+use Rattle.ktm_run.proofs.answer.execute.Goals as goal
+
+pub returns-in-Err-clause-no_memory : goal.returns-in-Err-clause-no_memory
+returns-in-Err-clause-no_memory g c = λ w stands. rw (c.in-Err.ensures.err, c.in-Err.ensures.same) (unanswered_here w _ c.args.line.now stands)
+
+pub returns-in-Ok-clause-does : goal.returns-in-Ok-clause-does
+returns-in-Ok-clause-does g c =
+    let (meant, means, answers) = c.in-Ok.ensures.does in
+    (meant, means, λ w stands. did_planned c.args.kernel.now _ _ c.plan_room.ensures.same _ _ _ c.plan_room.ensures.others w meant c.in-Ok.reply answers stands)
+
+pub returns-in-Err-answer-clause-no_memory : goal.returns-in-Err-answer-clause-no_memory
+returns-in-Err-answer-clause-no_memory g c = λ w stands.
+    unanswered_planned c.args.kernel.now _ _ c.plan_room.ensures.same _ _ _ c.plan_room.ensures.others w c.args.line.now c.in-Err-answer.ensures.no_memory stands

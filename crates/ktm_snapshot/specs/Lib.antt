@@ -1,0 +1,6 @@
+pub mod StateGrammar
+pub mod Sizes
+pub mod Shown
+pub mod Pieces
+pub mod Laws
+pub mod Examples
