@@ -17,7 +17,7 @@ use Rattle.ktm_snapshot.specs.StateGrammar.{IsHeadOf, IsRisingListOf, AreNodesOf
 
 module _ {X : Type 0} (rises : List X → Bool) (Item : X → List ℕ → Type 0) (one : Unambiguous Item) (fronts : FrontsRise rises) (bytes : List ℕ) where
   -- the things that were read are the first of any list that stands there
-  row_front : (xs ys : List X) (at here end : ℕ) → Spans (IsRow Item xs) bytes at here → Spans (IsRow Item ys) bytes at end → length xs ≤ length ys → (zs : List X) × (ys ≡ xs ++ zs)
+  pub row_front : (xs ys : List X) (at here end : ℕ) → Spans (IsRow Item xs) bytes at here → Spans (IsRow Item ys) bytes at end → length xs ≤ length ys → (zs : List X) × (ys ≡ xs ++ zs)
   row_front [] ys at here end read row no_more = (ys, refl)
   row_front (x ∷ xs) [] at here end read row no_more = absurd (omega arith)
   row_front (x ∷ xs) (y ∷ ys) at here end read row no_more =
@@ -72,7 +72,7 @@ module _ (bytes : List ℕ) where
   whole = between_from_start bytes (length bytes) ∙ take_all (length bytes) bytes (omega arith)
 
   -- where the pieces of a state end that stands in the bytes
-  record Places (s : Durable) : Type 0 where
+  pub record Places (s : Durable) : Type 0 where
     pub nodes : ℕ
     pub entries : ℕ
     pub managers : ℕ
@@ -81,7 +81,7 @@ module _ (bytes : List ℕ) where
     pub to_managers : Spans (IsUpToManagersOf s) bytes 0 managers
     pub all : Spans (Then (IsUpToManagersOf s) (AreTransactionsOf s.transactions)) bytes 0 (length bytes)
 
-  places_of : (s : Durable) → IsStateOf s bytes → Places s
+  pub places_of : (s : Durable) → IsStateOf s bytes → Places s
   places_of s is =
       let all : Spans (Then (IsUpToManagersOf s) (AreTransactionsOf s.transactions)) bytes 0 (length bytes) = record {
         forward = omega arith;

@@ -199,6 +199,15 @@ impl DurableFiles {
         self.next_node = next_after_all(self.next_node, changes);
     }
 
+    /// The next node comes behind numbers that were given before, too: its number is this one, which is not below the present one.
+    pub fn raise_next(&mut self, next: u64)
+        requires { self.old.next_node ≤ next }
+        ensures tree { self.new.tree ≡ self.old.tree }
+        ensures next_node { self.new.next_node ≡ next }
+    {
+        self.next_node = next;
+    }
+
     /// Hands out what the log came to. The bytes of no file were changed since.
     pub fn into_parts(self) -> FilesRead
         ensures tree { tree_of result.tree ≡ tree_of self.tree }
