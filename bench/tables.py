@@ -2,6 +2,7 @@
 
 import dataclasses
 import platform
+import shutil
 import statistics
 import subprocess
 
@@ -194,6 +195,63 @@ def of_start(side, lines):
         return side.measured(measuring.instructions, [], state)
 
 
+# The byte of an image that is raised by each compaction.
+SELECTOR = 2048
+# A commit of which a log of 16 units holds about 200, and about how many bytes it takes there.
+COMMIT = sets(["changing"], 900)
+COMMIT_BYTES = 940
+
+
+def of_compactions(sides, _):
+    """What it costs that the log begins anew, on small and large images, with few and many things in them."""
+    held = {
+        "10 keys": key_lines(10),
+        "1,000 keys": key_lines(1_000),
+        "10 files": file_lines(10),
+        "1,000 files": file_lines(1_000),
+    }
+    rows = [[units, name, *compaction(sides.wattorju, units, lines)] for units in (16, 1_024) for name, lines in held.items()]
+    columns = ["units", "in the image", "commits between two", "a commit", "a compaction", "of it for each commit"]
+    return Table("compactions", "instructions of a commit of 900 bytes and of a compaction", columns, rows)
+
+
+def key_lines(count):
+    """Returns a script that sets so many keys."""
+    keys = [key(it) for it in range(count)]
+    return workloads.script([it for at in range(0, count, 100) for it in sets(keys[at : at + 100], 16)])
+
+
+def file_lines(count):
+    """Returns a script that makes so many files without bytes."""
+    return [line for at in range(count) for line in (f'p1 CreateFile h1 "\\file{at}" w - CREATE_NEW', "p1 CloseHandle h1")]
+
+
+def compaction(side, units, before):
+    """Returns how many commits there are between two compactions of an image on which these lines were run, and the
+    instructions of a commit, of a compaction, and of a compaction for each commit."""
+    fill = (8_192 * units + 65_536) // COMMIT_BYTES
+    with side.state() as image:
+        subprocess.run([side.program, "format", image, str(units)], check=True)
+        side.measured(measuring.run, before, image)
+        (none, _), (few, first), (many, last) = [
+            repeated(side, image, workloads.script(COMMIT) * count) for count in (0, fill // 8, fill // 8 + 3 * fill)
+        ]
+    commit = (few - none) // (fill // 8)
+    times = (last - first) % 256
+    whole = many - few - commit * 3 * fill
+    return 3 * fill // times, commit, whole // times, whole // (3 * fill)
+
+
+def repeated(side, image, lines):
+    """Returns the instructions of these lines on a copy of the image, and its selector after them."""
+    with side.state() as copy:
+        shutil.copyfile(image, copy)
+        cost = side.measured(measuring.instructions, lines, copy)
+        with open(copy, "rb") as left:
+            left.seek(SELECTOR)
+            return cost, left.read(1)[0]
+
+
 def of_memory(sides, options):
     """The most memory of a run."""
     many = [it for at in range(10_000) for it in sets([key(at % 100)], 16, at)]
@@ -264,6 +322,7 @@ TABLES = {
     "calls": of_calls,
     "lines": of_lines,
     "restarts": of_restarts,
+    "compactions": of_compactions,
     "growth": of_growth,
     "votes": of_votes,
     "memory": of_memory,

@@ -344,8 +344,6 @@ class Course:
                 self.kept.perhaps()
         elif words[0] == "tick" and reply == "ok":
             self.tick(line, int(words[1]))
-        elif words[0] == "tick" and reply == "ERROR_LOG_FULL":
-            self.go_down(line)
         elif words[0] == "tick" and reply == "MACHINE_DOWN" and self.up:
             self.go_down(line)
             self.kept = copy.deepcopy(self)
@@ -362,11 +360,8 @@ class Course:
         """Takes a line of a process."""
         kind = "ok" if reply.startswith("ok") else "conflict" if reply == CONFLICT else "refused"
         self.marks.append(Mark(line, process, kind))
-        if self.up and reply in ("MACHINE_DOWN", "ERROR_LOG_FULL"):
-            if reply == "ERROR_LOG_FULL":
-                self.go_down(line)
-            else:
-                self.interrupt(line, (process, words))
+        if self.up and reply == "MACHINE_DOWN":
+            self.interrupt(line, (process, words))
         elif kind == "ok":
             self.call(line, (process, words), reply)
         elif kind == "conflict":

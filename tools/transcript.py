@@ -28,7 +28,7 @@ def paired(script, replies):
     """Returns the lines of a script, each with its reply. Lines that a run which ended early did not answer have none."""
     lines = [Line(number, text) for number, text in enumerate(lines_of(script), 1)]
     texts = lines_of(replies)
-    if len(texts) == 1 and texts[0].startswith("bad image at "):
+    if len(texts) == 1 and (texts[0].startswith("bad image at ") or texts[0] == "worn image"):
         raise Mismatch(f"the program answered no line: {texts[0]}")
     answered = [line for line in lines if line.has_reply()]
     for line, text in zip(answered, texts):

@@ -40,16 +40,16 @@ use Rattle.ktm_back.proofs.MoreOwned.{back-append, not-empty, recorded-some}
 module _ (limits : LimitsLaw) (s : Durable) (good : IsGoodState s) (small : s.units ≤ MOST_UNITS) where
   -- the world that a restart of the state opens, with all that was brought back
   abbrev x : Present
-  x = present (opened s 0 [])
+  x = present (opened s [])
 
   sound : IsSoundFiles x
-  sound = files-opened s 0 [] good
+  sound = files-opened s [] good
 
   sound-keys : IsSoundKeys x
-  sound-keys = keys-opened s 0 [] good
+  sound-keys = keys-opened s [] good
 
   fits : Fits x
-  fits = fits-within x (limits.restarts s 0 [] good)
+  fits = fits-within x (limits.restarts s [] good)
 
   room : x.recorded.units ≤ 1024
   room = let same = units-events (own_group s) s in omega arith

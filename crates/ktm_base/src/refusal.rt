@@ -62,6 +62,6 @@ pub enum Refusal {
     NotEnoughQuota,
     /// A limit on file contents, nodes or keys.
     DiskFull,
-    /// The log has no room for the command's events.
-    LogFull,
+    /// A restart of an image whose count of boots or of events is near its end.
+    ImageWorn,
 }

@@ -14,7 +14,7 @@ ghost use Rattle.ktm_world.specs.Changes.{has_changes};
 ghost use Rattle.ktm_world.specs.Phases.{enlistment_part, has_settings};
 
 use ktm_base::Id;
-use ktm_event::{Events, Stage, Work, WrittenFiles, event_size, held_size, work_size};
+use ktm_event::{Events, Stage, Work, WrittenFiles};
 use ktm_types::{Change, DonePart, Event, Fact, Setting, Step};
 
 /// An enlistment, as it is recorded.
@@ -58,19 +58,6 @@ enum Entry<'a, F> {
 }
 
 impl<F: WrittenFiles> Entry<'_, F> {
-    // How many bytes its event takes.
-    fn size(self, transaction: Id) -> usize
-        ensures { result ≡ min (event_size (entry_event F.files transaction self.entry)) (2 ^ 64 - 1) }
-    {
-        match self {
-            Entry::Work(_, work) => work_size(work),
-            Entry::Held { information, .. } => held_size(information),
-            Entry::Decide => event_size(&Event::Decide { transaction }),
-            Entry::Undo => event_size(&Event::Undo { transaction }),
-            Entry::Done(done) => event_size(&Event::Done { transaction, done }),
-        }
-    }
-
     // Puts its event into the list.
     fn push(self, transaction: Id, events: &mut Events)
         requires spelled { IsSpellableEvent (entry_event F.files transaction self) }
@@ -209,35 +196,6 @@ impl<'a, F: WrittenFiles> Parts<'a, F> {
             Step::Record(fact) => self.is_recorded_by(*fact, is_recorded),
             _ => is_recorded,
         }
-    }
-
-    // How many bytes the events take that a step records of a transaction.
-    fn step_size(&self, transaction: Id, is_recorded: bool, step: &Step) -> usize
-        ensures { (b : Basis) → IsBasis F.files b transaction is_recorded self.now
-            → result ≡ min (sum_by event_size (events_ahead (step.now ∷ []) b)) (2 ^ 64 - 1) }
-    {
-        let Step::Record(fact) = step else {
-            return 0;
-        };
-        match self.entry(*fact, is_recorded) {
-            Some(entry) => entry.size(transaction),
-            None => 0,
-        }
-    }
-
-    /// How many bytes the events take that the steps record of a transaction, or 2^64 - 1, where they take more. The flag
-    /// says whether the log has a Ready or a Held of it before.
-    pub fn size(&self, transaction: Id, is_recorded: bool, steps: &[Step]) -> usize
-        ensures { (b : Basis) → IsBasis F.files b transaction is_recorded self.now
-            → result ≡ min (sum_by event_size (events_ahead steps.now b)) (2 ^ 64 - 1) }
-    {
-        let mut size = 0usize;
-        let mut recorded = is_recorded;
-        for step in steps {
-            size = size.saturating_add(self.step_size(transaction, recorded, step));
-            recorded = self.is_recorded_after(step, recorded);
-        }
-        size
     }
 
     // Puts the events into the list that a step records of a transaction.

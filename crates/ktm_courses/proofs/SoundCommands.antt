@@ -4,33 +4,31 @@ use Rattle.ktm_courses.specs.NamedObjects.{NamedLaw}
 use Rattle.ktm_base.specs.declared.id.Label.{Label}
 use Rattle.ktm_base.specs.declared.id.Pid.{Pid}
 use Rattle.ktm_base.specs.declared.refusal.Refusal.{Refusal}
-use Rattle.ktm_base.specs.declared.refusal.Refusal.TheVariants.{LogFull, MachineDown}
+use Rattle.ktm_base.specs.declared.refusal.Refusal.TheVariants.{MachineDown}
 use Rattle.ktm_types.specs.declared.command.Command.{Command}
 use Rattle.ktm_types.specs.declared.command.Command.TheVariants.{CreateTransaction, OpenTransaction, CommitTransaction, RollbackTransaction, GetTransactionInformation, CreateResourceManager, OpenResourceManager, RecoverResourceManager, GetNotificationResourceManager, CreateEnlistment, OpenEnlistment, RecoverEnlistment, PrePrepareComplete, PrepareComplete, ReadOnlyEnlistment, CommitComplete, RollbackComplete, SinglePhaseReject, RollbackEnlistment, PrePrepareEnlistment, PrepareEnlistment, CommitEnlistment, SetEnlistmentRecoveryInformation, GetEnlistmentRecoveryInformation, CreateFile, CreateFileTransacted, ReadFile, WriteFile, SetEndOfFile, GetFileSizeEx, FlushFileBuffers, DeleteFile, CreateDirectory, RemoveDirectory, MoveFile, DeleteFileTransacted, CreateDirectoryTransacted, RemoveDirectoryTransacted, MoveFileTransacted, FindFiles, FindFilesTransacted, KvSet, KvUnset, KvGet, KvList, CloseHandle, DuplicateHandle, Exit}
 use Rattle.ktm_types.specs.declared.input.PhaseInput.{PhaseInput}
 use Rattle.ktm_types.specs.declared.reply.Reply.{Reply}
 use Rattle.ktm_types.specs.declared.reply.Reply.TheVariants.{Refused}
-use Rattle.ktm_world.specs.Decide.{decide, caller, command_tests, command_effect, with_room}
+use Rattle.ktm_world.specs.Decide.{decide, caller, command_tests, command_effect}
 use Rattle.ktm_world.specs.Enlistments.{Enlistment}
 use Rattle.ktm_world.specs.FileCalls.{create_file, read_file, write_file, set_end, get_size, flush_file, delete_file, create_directory, remove_directory, move_file, find_files}
 use Rattle.ktm_world.specs.KeyCalls.{kv_get, kv_list}
 use Rattle.ktm_world.specs.Labels.{transaction_named, manager_named, enlistment_named, viewer, file_tests}
 use Rattle.ktm_world.specs.Laws.{StepLaw}
-use Rattle.ktm_world.specs.Outcome.{Outcome, only_reply, apply, first_refusal, refuse_or, is_full, within_log}
+use Rattle.ktm_world.specs.Outcome.{Outcome, only_reply, first_refusal, refuse_or}
 use Rattle.ktm_world.specs.Present.{Present}
 use Rattle.ktm_world.specs.TransactionCalls.{answering, commit_transaction, rollback_transaction, get_transaction_information, information_of, recover_resource_manager, get_notification, pre_prepare_complete, prepare_complete, read_only_enlistment, commit_complete, rollback_complete, single_phase_reject, rollback_enlistment, pre_prepare_enlistment, prepare_enlistment, commit_enlistment, recover_enlistment, set_information, get_information, information_in, tick}
 use Rattle.ktm_world.specs.World.{present, decide_tick}
 use Rattle.ktm_courses.specs.SoundCourse.{IsSoundCourse}
 use Rattle.ktm_courses.specs.SoundCourses.{CoursesLaw}
 use Rattle.ktm_courses.specs.Outcomes.{OutcomesLaw}
-use Rattle.ktm_courses.proofs.offered.Outcomes.{stay-refl}
 use Rattle.ktm_courses.proofs.offered.Views.{sound-alike}
 use Rattle.ktm_courses.proofs.offered.OutcomesMade.{IsSoundOutcome, sound-only_reply, Keeps, keeps-from}
 use Rattle.ktm_courses.proofs.offered.Calls.{Answers, sound-answering, Passes, passed, transaction-named, manager-named, enlistment-named, sound-commit_of, sound-rollback_of, goes-pre_prepare_complete, goes-prepare_complete, goes-read_only, goes-commit_complete, goes-rollback_complete, goes-single_phase_reject, goes-rollback_enlistment, goes-pre_prepare_enlistment, goes-prepare_enlistment, goes-commit_enlistment, goes-recover_enlistment, sound-recover_all, sound-take_first}
 use Rattle.ktm_courses.proofs.offered.Bindings.{sound-create_transaction, sound-open_transaction, sound-create_manager, sound-open_manager, sound-create_enlistment, sound-open_enlistment, sound-duplicate, sound-keep_information, sound-close_handle, sound-exit, sound-tick}
 use Rattle.ktm_courses.proofs.offered.SoundRestarts.{sound-opened}
 use Rattle.ktm_courses.proofs.offered.FileSteps.{plain-caller, caller-active, passes-left, sound-of_files, sound-opening, sound-on_file, sound-of_keys, sound-with_setting}
-use Rattle.ktm_steps.proofs.offered.Ways.{if_cases}
 
 module _ (x : Present) (sound : IsSoundCourse x) where
   -- an outcome of this machine
@@ -112,29 +110,15 @@ module _ (x : Present) (sound : IsSoundCourse x) where
       or_refused (Some refusal) refused = replies (Refused refusal)
       or_refused None none = is (record { none = none })
 
-  sound-with_room : (process : Pid) (command : Command) → Keeps x (with_room x process command)
-  sound-with_room process command = sound-refuse_or ((not (x.machine).is_up, MachineDown) ∷ command_tests x process command) (command_effect x process command) (λ passes. sound-command process command (passed passes).1)
-
-  -- with room in the log or without
-  sound-within_log : (o : Outcome) → Keeps x o → Keeps x (within_log x o)
-  sound-within_log o is = if_cases (λ o. Keeps x o) (is_full (x.machine).left o.events) _ o
-      (λ full. record {
-        sound = sound-alike (apply x (only_reply x (Refused LogFull))) _ (record { boots = refl; image = refl; transactions = refl; managers = refl; handles = refl; own = refl; settings = refl }) (replies (Refused LogFull)).sound;
-        outcomes = stay-refl (x.transactions).items;
-        objects = refl;
-      })
-      (λ room. is)
-
   sound-decided : (process : Pid) (command : Command) → Keeps x (decide x process command)
-  sound-decided process command = sound-within_log (with_room x process command) (sound-with_room process command)
+  sound-decided process command = sound-refuse_or ((not (x.machine).is_up, MachineDown) ∷ command_tests x process command) (command_effect x process command) (λ passes. sound-command process command (passed passes).1)
 
   sound-decide_tick : (ms : ℕ) → Keeps x (decide_tick x ms)
-  sound-decide_tick ms = sound-within_log _ (sound-refuse_or ((not (x.machine).is_up, MachineDown) ∷ []) (tick x ms) (λ passes. sound-tick x ms sound))
+  sound-decide_tick ms = sound-refuse_or ((not (x.machine).is_up, MachineDown) ∷ []) (tick x ms) (λ passes. sound-tick x ms sound)
 
 pub courses_law : StepLaw → CoursesLaw
 courses_law step = record {
-  commands = λ x process command sound. (sound-with_room x sound process command).sound;
-  decided = λ x process command sound. (sound-decided x sound process command).sound;
+  commands = λ x process command sound. (sound-decided x sound process command).sound;
   ticks = λ x ms sound. (sound-decide_tick x sound ms).sound;
   falls = λ w power sound. sound-alike (present w) (present (record w { power = power })) (record { boots = refl; image = refl; transactions = refl; managers = refl; handles = refl; own = refl; settings = refl }) sound;
   worlds = λ w process command within sound. subst IsSoundCourse (sym (step.1 w process command within)) ((sound-decided (present w) sound process command).sound);
@@ -144,8 +128,7 @@ courses_law step = record {
 
 pub outcomes_law : OutcomesLaw
 outcomes_law = record {
-  commands = λ x process command sound. (sound-with_room x sound process command).outcomes;
-  decided = λ x process command sound. (sound-decided x sound process command).outcomes;
+  commands = λ x process command sound. (sound-decided x sound process command).outcomes;
   ticks = λ x ms sound. (sound-decide_tick x sound ms).outcomes;
 }
 

@@ -3,7 +3,7 @@ use Rattle.std.specs.Prelude.{◌≡◌, ℕ, false, List}
 use Rattle.ktm_base.specs.declared.id.Pid.{Pid}
 use Rattle.ktm_types.specs.declared.command.Command.{Command}
 use Rattle.ktm_types.specs.declared.object.Transaction.{Transaction}
-use Rattle.ktm_world.specs.Decide.{with_room, decide}
+use Rattle.ktm_world.specs.Decide.{decide}
 use Rattle.ktm_world.specs.Outcome.{apply}
 use Rattle.ktm_world.specs.Present.{Present}
 use Rattle.ktm_world.specs.Transactions.{is_undecided}
@@ -17,9 +17,7 @@ pub record OutcomesStay (ts us : List Transaction) : Type 0 where
 
 -- in a sound machine they stay, whatever command it is given, and whatever time passes
 pub record OutcomesLaw : Type 0 where
-  -- by a command, where the log has room
-  pub commands : (x : Present) (process : Pid) (command : Command) → IsSoundCourse x → OutcomesStay x.transactions.items (apply x (with_room x process command)).transactions.items
-  -- by a command, whether it has room or not
-  pub decided : (x : Present) (process : Pid) (command : Command) → IsSoundCourse x → OutcomesStay x.transactions.items (apply x (decide x process command)).transactions.items
+  -- by a command
+  pub commands : (x : Present) (process : Pid) (command : Command) → IsSoundCourse x → OutcomesStay x.transactions.items (apply x (decide x process command)).transactions.items
   -- by the passing of time
   pub ticks : (x : Present) (ms : ℕ) → IsSoundCourse x → OutcomesStay x.transactions.items (apply x (decide_tick x ms)).transactions.items

@@ -2,7 +2,7 @@
 use Rattle.std.specs.Prelude.{ℕ, List}
 use Rattle.ktm_base.specs.declared.id.Pid.{Pid}
 use Rattle.ktm_types.specs.declared.command.Command.{Command}
-use Rattle.ktm_world.specs.Decide.{with_room, decide}
+use Rattle.ktm_world.specs.Decide.{decide}
 use Rattle.ktm_world.specs.Durable.{Durable, stand}
 use Rattle.ktm_world.specs.Laws.{FirstOpensLieWithin}
 use Rattle.ktm_world.specs.Logs.{Group, Power}
@@ -14,10 +14,8 @@ use Rattle.ktm_courses.specs.SoundCourse.{IsSoundCourse}
 
 -- a machine stays sound, whatever command it is given, whatever time passes, and where it falls; and a restart of a good state makes a sound one
 pub record CoursesLaw : Type 0 where
-  -- by a command, where the log has room
-  pub commands : (x : Present) (process : Pid) (command : Command) → IsSoundCourse x → IsSoundCourse (apply x (with_room x process command))
-  -- by a command, whether it has room or not
-  pub decided : (x : Present) (process : Pid) (command : Command) → IsSoundCourse x → IsSoundCourse (apply x (decide x process command))
+  -- by a command
+  pub commands : (x : Present) (process : Pid) (command : Command) → IsSoundCourse x → IsSoundCourse (apply x (decide x process command))
   -- by the passing of time
   pub ticks : (x : Present) (ms : ℕ) → IsSoundCourse x → IsSoundCourse (apply x (decide_tick x ms))
   -- in worlds, by a command
@@ -27,4 +25,4 @@ pub record CoursesLaw : Type 0 where
   -- in worlds, by the loss of power
   pub falls : (w : World) (power : Power) → IsSoundCourse (present w) → IsSoundCourse (present (record w { power = power }))
   -- by a restart of a good state
-  pub restarts : (base : Durable) (room : ℕ) (log : List Group) → IsGoodState (stand base log) → IsSoundCourse (present (opened base room log))
+  pub restarts : (base : Durable) (log : List Group) → IsGoodState (stand base log) → IsSoundCourse (present (opened base log))

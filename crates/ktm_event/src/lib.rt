@@ -25,5 +25,5 @@ pub use part::{
     part_at, put_enlistment, put_names_and_files_part, put_part, put_record, put_settings_part,
     record_at,
 };
-pub use size::{event_size, held_size, work_size};
+pub use size::event_size;
 pub use work::{FileBytes, Stage, Work, WrittenFiles};

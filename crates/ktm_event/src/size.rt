@@ -1,14 +1,10 @@
 // How many bytes events take, from their fields. Where there are more than a number can say, each function answers the
 // greatest number.
 ghost use Rattle.std.specs.Prelude.{◌≡◌, ◌-◌, ◌^◌, min, sum_by};
-ghost use Rattle.std.specs.List.{flat_map};
 ghost use Rattle.ktm_base.specs.declared.id.Id.{Id};
 ghost use Rattle.ktm_types.specs.Sizes.{change_size, done_size, event_size, part_size, put_size, record_size, set_to_size, setting_size};
 ghost use Rattle.ktm_types.specs.declared.event.Event.TheVariants.{Held};
-ghost use Rattle.ktm_event.specs.Work.{changes_of_file, final_file, part_of, work_event};
-ghost use Rattle.ktm_event.specs.declared.work.Stage.{Stage};
 
-use crate::{FileBytes, Work, WrittenFiles};
 use ktm_base::Bytes;
 use ktm_types::{Change, Contents, DonePart, Event, Part, Setting};
 
@@ -69,28 +65,6 @@ fn changes_size(changes: &[Change]) -> usize
     size
 }
 
-// A cut, and a put where there are bytes.
-fn file_size(file: &FileBytes<'_>) -> usize
-    ensures { result ≡ min (sum_by change_size (changes_of_file (final_file file.now))) (2 ^ 64 - 1) }
-{
-    if file.bytes.is_empty() {
-        return 17;
-    }
-    file.bytes.len().saturating_add(38)
-}
-
-fn files_size<F: WrittenFiles>(files: &F) -> usize
-    ensures { result ≡ min (sum_by change_size (flat_map changes_of_file (F.files files.now))) (2 ^ 64 - 1) }
-{
-    let mut size = 0usize;
-    let mut next = files.first();
-    while let Some(file) = next {
-        next = files.behind(file.file);
-        size = size.saturating_add(file_size(&file));
-    }
-    size
-}
-
 fn record_size(information: &[u8]) -> usize
     ensures { result ≡ min (record_size information.now) (2 ^ 64 - 1) }
 {
@@ -134,24 +108,7 @@ pub fn event_size(event: &Event) -> usize
     }
 }
 
-/// How many bytes the Ready or Single of a participant's work takes, or the greatest number, where it would take more.
-pub fn work_size<F: WrittenFiles>(work: Work<'_, F>) -> usize
-    ensures { (stage : Stage) (transaction : Id)
-        → result ≡ min (event_size (work_event stage transaction (part_of F.files work.entry))) (2 ^ 64 - 1) }
-{
-    let part = match work {
-        Work::Changes { names, files } => {
-            let items = changes_size(names).saturating_add(files_size(files));
-            items.saturating_add(5)
-        }
-        Work::Settings(settings) => settings_size(settings).saturating_add(5),
-        Work::Enlistment { information, .. } => record_size(information).saturating_add(1),
-    };
-    part.saturating_add(9)
-}
-
-/// How many bytes the Held of a superior takes with its recovery information, or the greatest number, where it would take more.
-pub fn held_size(information: &[u8]) -> usize
+fn held_size(information: &[u8]) -> usize
     ensures { (transaction enlistment manager : Id)
         → result ≡ min (event_size (Held transaction enlistment manager information.now)) (2 ^ 64 - 1) }
 {

@@ -1,5 +1,5 @@
 -- What the steps of an installation leave.
-use Rattle.std.proofs.Common.{◌≡◌, ◌≢◌, ℕ, List, [], ◌∷◌, Some, Result, Ok, Err, IfOk, refl, sym, ◌∙◌, ap, subst, inl, inr, arith}
+use Rattle.std.proofs.Common.{◌≡◌, ◌≢◌, ℕ, List, [], ◌∷◌, Option, Some, None, Result, Ok, Err, IfOk, refl, sym, ◌∙◌, ap, subst, inl, inr, arith}
 use Rattle.std.specs.Prelude.{Contains, zero, suc}
 use Rattle.std.specs.Result.{IsErrAnd}
 use Rattle.ktm_base.specs.declared.fault.NoMemory.{NoMemory}
@@ -25,7 +25,7 @@ use Rattle.ktm_works.specs.Works.{Contents, HasCome, IsNoRefusal, Keeps, content
 use Rattle.ktm_works.proofs.offered.Commits.{commits-all, set-then, some-settings}
 use Rattle.ktm_works.proofs.offered.Left.{committed-now, kept-now, works-made}
 use Rattle.ktm_works.proofs.offered.Quiet.{IsNotPlain, not-plain, quiet-close, quiet-open, quiet-set, quiet-transaction, quiet-write}
-use Rattle.wattorju.specs.Calls.{IsBinding, IsCalled, answer_of, own}
+use Rattle.wattorju.specs.Calls.{IsBinding, IsCalled, IsWornOut, answer_of, own}
 use Rattle.wattorju.specs.Told.{reply_of_state}
 use Rattle.wattorju.specs.declared.failure.Failure.{Failure}
 use Rattle.wattorju.specs.declared.failure.Failure.TheVariants as failure
@@ -55,16 +55,25 @@ after-is : (x : Present) (command : Command) → apply x (decide x own command) 
 unfolding after
 after-is x command = refl
 
+-- what the machine answers, where it was asked
+abbrev Answer : Type 0
+Answer = Option (Result Reply NoMemory)
+
 -- a call leaves what was left before
 abbrev CommitsNothing : OnDisk KernelState → OnDisk KernelState → Type 0
 CommitsNothing old new = (cs : List Contents) → Keeps cs old → Keeps cs new
 
+-- the machine was not asked
+unasked : (old new : OnDisk KernelState) → IsWornOut old new → CommitsNothing old new
+unasked old new worn cs keeps = subst (Keeps cs) (sym worn.same) keeps
+
 -- a call that commits nothing leaves what was left before
-quiet : (command : Command) (old new : OnDisk KernelState) (answer : Result Reply NoMemory) → IsCalled command old new answer → (decide old.it.now own command).works ≡ [] → CommitsNothing old new
-quiet command old new answer called none cs keeps = called.commits.either cs keeps (λ on. subst (λ works. Contains cs (with_works (contents_now old.it.now) works)) (sym none) (committed-now cs old keeps on))
+quiet : (command : Command) (old new : OnDisk KernelState) (answer : Answer) → IsCalled command old new answer → (decide old.it.now own command).works ≡ [] → CommitsNothing old new
+quiet command old new None worn none cs keeps = unasked old new worn cs keeps
+quiet command old new (Some answer) called none cs keeps = called.commits.either cs keeps (λ on. subst (λ works. Contains cs (with_works (contents_now old.it.now) works)) (sym none) (committed-now cs old keeps on))
 
 -- a call that was done has come
-come : (command : Command) (old new : OnDisk KernelState) → IsCalled command old new (Ok Reply.Done) → (cs : List Contents) → Keeps cs old → HasCome old.it.now (decide old.it.now own command) Reply.Done new
+come : (command : Command) (old new : OnDisk KernelState) → IsCalled command old new (Some (Ok Reply.Done)) → (cs : List Contents) → Keeps cs old → HasCome old.it.now (decide old.it.now own command) Reply.Done new
 come command old new called cs keeps = called.commits.comes (inl (λ refusal is. absurd (cc))) cs keeps
 
 -- and was not refused
@@ -75,7 +84,7 @@ no-refusal command old new came refusal is = let e : Reply.Done ≡ Reply.Refuse
 now : (command : Command) (old new : OnDisk KernelState) (reply : Reply) → HasCome old.it.now (decide old.it.now own command) reply new → new.it.now ≡ after old.it.now command
 now command old new reply came = came.now ∙ after-is old.it.now command
 
-closed : (label : Label) (m n : OnDisk KernelState) (answer : Result Reply NoMemory) → IsCalled (CloseHandle label) m n answer → CommitsNothing m n
+closed : (label : Label) (m n : OnDisk KernelState) (answer : Answer) → IsCalled (CloseHandle label) m n answer → CommitsNothing m n
 closed label m n answer called = quiet (CloseHandle label) m n answer called (quiet-close m.it.now own label)
 
 -- ---- a file is replaced
@@ -84,29 +93,29 @@ abbrev opens : Entry → Label → Label → Command
 opens file transaction label = CreateFileTransacted label file.name.characters Write Nothing CreateAlways transaction
 
 -- it was opened
-pub opened : (file : Entry) (transaction : Label) (m n : OnDisk KernelState) (answer : Result Reply NoMemory) (IsNamed : Label → Type 0) → IsBinding (opens file transaction) m n answer IsNamed → CommitsNothing m n
+pub opened : (file : Entry) (transaction : Label) (m n : OnDisk KernelState) (answer : Answer) (IsNamed : Label → Type 0) → IsBinding (opens file transaction) m n answer IsNamed → CommitsNothing m n
 opened file transaction m n answer IsNamed bound = quiet (opens file transaction bound.label) m n answer bound.called (quiet-open m.it.now own bound.label file.name.characters Write Nothing CreateAlways transaction)
 
-module _ (file : Entry) (transaction : Label) (m n p q : OnDisk KernelState) (label : Label) (bound : IsBinding (opens file transaction) m n (Ok Reply.Done) (λ named. label ≡ named)) where
+module _ (file : Entry) (transaction : Label) (m n p q : OnDisk KernelState) (label : Label) (bound : IsBinding (opens file transaction) m n (Some (Ok Reply.Done)) (λ named. label ≡ named)) where
   -- then it was written
-  written : (answer : Result Reply NoMemory) → IsCalled (WriteFile label 0 file.contents) n p answer → CommitsNothing m p
+  written : (answer : Answer) → IsCalled (WriteFile label 0 file.contents) n p answer → CommitsNothing m p
   written answer called cs keeps =
       let came = come (opens file transaction bound.label) m n bound.called cs keeps in
       let apart = not-plain m.it.now own bound.label file.name.characters Write Nothing CreateAlways transaction (kept-now cs m keeps).sound.files (no-refusal (opens file transaction bound.label) m n came) in
       let here : IsNotPlain n.it.now own label = subst (IsNotPlain n.it.now own) (sym bound.named) (subst (λ (x : Present). IsNotPlain x own bound.label) (sym came.now) apart) in
-      quiet (WriteFile label 0 file.contents) n p answer called (quiet-write n.it.now own label 0 file.contents here) cs (opened file transaction m n (Ok Reply.Done) (λ named. label ≡ named) bound cs keeps)
+      quiet (WriteFile label 0 file.contents) n p answer called (quiet-write n.it.now own label 0 file.contents here) cs (opened file transaction m n (Some (Ok Reply.Done)) (λ named. label ≡ named) bound cs keeps)
 
   -- and closed
-  pub replaced : (answer answer' : Result Reply NoMemory) → IsCalled (WriteFile label 0 file.contents) n p answer → IsCalled (CloseHandle label) p q answer' → CommitsNothing m q
+  pub replaced : (answer answer' : Answer) → IsCalled (WriteFile label 0 file.contents) n p answer → IsCalled (CloseHandle label) p q answer' → CommitsNothing m q
   replaced answer answer' write close cs keeps = closed label p q answer' close cs (written answer write cs keeps)
 
   -- and where all of that was done, it is so
-  pub done : (result : Result (Unit {0}) Failure) → IsCalled (WriteFile label 0 file.contents) n p (answer_of result (λ done. Reply.Done)) → IsCalled (CloseHandle label) p q (Ok Reply.Done)
+  pub done : (result : Result (Unit {0}) Failure) → IsCalled (WriteFile label 0 file.contents) n p (answer_of result (λ done. Reply.Done)) → IsCalled (CloseHandle label) p q (Some (Ok Reply.Done))
       → IfOk result (λ done. (cs : List Contents) → Keeps cs m → (label : Label) × (q.it.now ≡ after_all m.it.now (replacing transaction file label)))
   done (Ok unit) write close = λ cs keeps.
       let opened-now = subst (λ (l : Label). n.it.now ≡ after m.it.now (opens file transaction l)) (sym bound.named) (now (opens file transaction bound.label) m n Reply.Done (come (opens file transaction bound.label) m n bound.called cs keeps)) in
-      let written-now = now (WriteFile label 0 file.contents) n p Reply.Done (come (WriteFile label 0 file.contents) n p write cs (opened file transaction m n (Ok Reply.Done) (λ named. label ≡ named) bound cs keeps)) in
-      let closed-now = now (CloseHandle label) p q Reply.Done (come (CloseHandle label) p q close cs (written (Ok Reply.Done) write cs keeps)) in
+      let written-now = now (WriteFile label 0 file.contents) n p Reply.Done (come (WriteFile label 0 file.contents) n p write cs (opened file transaction m n (Some (Ok Reply.Done)) (λ named. label ≡ named) bound cs keeps)) in
+      let closed-now = now (CloseHandle label) p q Reply.Done (come (CloseHandle label) p q close cs (written (Some (Ok Reply.Done)) write cs keeps)) in
       (label, closed-now ∙ ap (λ (x : Present). after x (CloseHandle label)) (written-now ∙ ap (λ (x : Present). after x (WriteFile label 0 file.contents)) opened-now))
   done (Err failed) write close = tt
 
@@ -130,15 +139,16 @@ module _ (before : Contents) (key version : List ℕ) (m n : OnDisk KernelState)
   abbrev all : Contents
   all = contents_now (after m.it.now (CommitTransaction label))
 
-  left : (answer : Result Reply NoMemory) → IsCalled (CommitTransaction label) m n answer → Keeps (before ∷ all ∷ []) n
-  left answer called = called.commits.either (before ∷ all ∷ []) (kept-first before all m keeps) (λ on. subst (Contains (before ∷ all ∷ [])) (applied m.it.now (CommitTransaction label)) (1, omega arith, refl))
+  left : (answer : Answer) → IsCalled (CommitTransaction label) m n answer → Keeps (before ∷ all ∷ []) n
+  left None worn = unasked m n worn (before ∷ all ∷ []) (kept-first before all m keeps)
+  left (Some answer) called = called.commits.either (before ∷ all ∷ []) (kept-first before all m keeps) (λ on. subst (Contains (before ∷ all ∷ [])) (applied m.it.now (CommitTransaction label)) (1, omega arith, refl))
 
   -- it says that it has committed
-  all-kept : IsCalled (CommitTransaction label) m n (Ok Reply.Committed) → Keeps (all ∷ []) n
+  all-kept : IsCalled (CommitTransaction label) m n (Some (Ok Reply.Committed)) → Keeps (all ∷ []) n
   all-kept called = subst (λ (c : Contents). Keeps (c ∷ []) n) (sym (applied m.it.now (CommitTransaction label))) (called.commits.comes (inl (λ refusal is. absurd (cc))) (before ∷ []) keeps).keeps
 
   -- it was refused, but for a machine that is down
-  refused : (refusal : Refusal) → refusal ≢ MachineDown → IsCalled (CommitTransaction label) m n (Ok (Reply.Refused refusal)) → Keeps (before ∷ []) n
+  refused : (refusal : Refusal) → refusal ≢ MachineDown → IsCalled (CommitTransaction label) m n (Some (Ok (Reply.Refused refusal))) → Keeps (before ∷ []) n
   refused refusal other called = called.commits.either (before ∷ []) keeps (λ on.
       subst (λ works. Contains (before ∷ []) (with_works (contents_now m.it.now) works)) (sym none) (committed-now (before ∷ []) m keeps on))
     where
@@ -152,10 +162,11 @@ module _ (before : Contents) (key version : List ℕ) (m n : OnDisk KernelState)
       ]
 
   committed : (result : Result CommitState Failure) → IsCalled (CommitTransaction label) m n (answer_of result reply_of_state) → IsAllOrNothing before all n result
-  committed (Ok Committed) called = record { either = left _ called; ok = λ is. all-kept called; err = tt }
-  committed (Ok Pending) called = record { either = left _ called; ok = λ is. absurd (cc); err = tt }
-  committed (Err failure.NoMemory) called = record { either = left _ called; ok = tt; err = λ other. let none = called.enough refl in absurd (cc) }
-  committed (Err (failure.Refused refusal)) called = record { either = left _ called; ok = tt; err = λ other. refused refusal (λ is. other (ap failure.Refused is)) called }
+  committed (Ok Committed) called = record { either = left (Some (Ok Reply.Committed)) called; ok = λ is. all-kept called; err = tt }
+  committed (Ok Pending) called = record { either = left (Some (Ok Reply.Pending)) called; ok = λ is. absurd (cc); err = tt }
+  committed (Err failure.NoMemory) called = record { either = left (Some (Err (record {}))) called; ok = tt; err = λ other. let none = called.enough refl in absurd (cc) }
+  committed (Err failure.Worn) worn = record { either = left None worn; ok = tt; err = λ other. unasked m n worn (before ∷ []) keeps }
+  committed (Err (failure.Refused refusal)) called = record { either = left (Some (Ok (Reply.Refused refusal))) called; ok = tt; err = λ other. refused refusal (λ is. other (ap failure.Refused is)) called }
 
 -- a file was replaced, and it is known what is so then
 abbrev IsReplaced : Label → Entry → OnDisk KernelState → OnDisk KernelState → Type 0
@@ -163,7 +174,7 @@ IsReplaced transaction file old new = (cs : List Contents) → Keeps cs old → 
 
 -- both files were replaced and the version was set, and the commit was asked for
 pub installed : (before : Contents) (transaction : Label) (release : Release) (m n p q r : OnDisk KernelState) (result : Result CommitState Failure) → CommitsNothing m n → IsReplaced transaction release.program m n
-    → CommitsNothing n p → IsReplaced transaction release.manual n p → IsCalled (KvSet transaction release.version.name.characters release.version.contents) p q (Ok Reply.Done) → IsCalled (CommitTransaction transaction) q r (answer_of result reply_of_state)
+    → CommitsNothing n p → IsReplaced transaction release.manual n p → IsCalled (KvSet transaction release.version.name.characters release.version.contents) p q (Some (Ok Reply.Done)) → IsCalled (CommitTransaction transaction) q r (answer_of result reply_of_state)
     → Keeps (before ∷ []) m → (program : Label) × (manual : Label) × IsAllOrNothing before (contents_now (after_all m.it.now (installing transaction release program manual))) r result
 installed before transaction release m n p q r result first replaces second replaces' set commit keeps =
     let key = release.version.name.characters in
@@ -177,21 +188,21 @@ installed before transaction release m n p q r result first replaces second repl
     let then = set-then p.it.now own transaction key version (no-refusal sets p q came) in
     let named = subst (λ (x : Present). transaction_named x own transaction ≡ Some then.0) (sym came.now) then.1 in
     let value = subst (λ (x : Present). value_at (own_settings x.keys.own then.0.id) key ≡ Some (Some version)) (sym came.now) then.2 in
-    let is = committed before key version q r transaction then.0 named value (quiet sets p q (Ok Reply.Done) set (quiet-set p.it.now own transaction key version) (before ∷ []) kept') result commit in
+    let is = committed before key version q r transaction then.0 named value (quiet sets p q (Some (Ok Reply.Done)) set (quiet-set p.it.now own transaction key version) (before ∷ []) kept') result commit in
     let all-now = now sets p q Reply.Done came ∙ ap (λ (x : Present). after x sets) (manual-now ∙ ap (λ (x : Present). after_all x (replacing transaction release.manual manual)) program-now) in
     (program, manual, subst (λ (x : Present). IsAllOrNothing before (contents_now (after x (CommitTransaction transaction))) r result) all-now is)
 
 -- a key was set
-pub set-quiet : (label : Label) (key value : List ℕ) (m n : OnDisk KernelState) (answer : Result Reply NoMemory) → IsCalled (KvSet label key value) m n answer → CommitsNothing m n
+pub set-quiet : (label : Label) (key value : List ℕ) (m n : OnDisk KernelState) (answer : Answer) → IsCalled (KvSet label key value) m n answer → CommitsNothing m n
 set-quiet label key value m n answer called = quiet (KvSet label key value) m n answer called (quiet-set m.it.now own label key value)
 
 -- ---- in a transaction of its own
 
-made : (m n : OnDisk KernelState) (answer : Result Reply NoMemory) (IsNamed : Label → Type 0) → IsBinding (λ label. CreateTransaction label 0) m n answer IsNamed → CommitsNothing m n
+made : (m n : OnDisk KernelState) (answer : Answer) (IsNamed : Label → Type 0) → IsBinding (λ label. CreateTransaction label 0) m n answer IsNamed → CommitsNothing m n
 made m n answer IsNamed bound = quiet (CreateTransaction bound.label 0) m n answer bound.called (quiet-transaction m.it.now own bound.label 0)
 
 -- no transaction was made
-pub none-made : (release : Release) (m n : OnDisk KernelState) (answer : Result Reply NoMemory) (IsNamed : Label → Type 0) (result : Result CommitState Failure) (Q : Failure → Type 0) → IsBinding (λ label. CreateTransaction label 0) m n answer IsNamed → IsErrAnd result Q
+pub none-made : (release : Release) (m n : OnDisk KernelState) (answer : Answer) (IsNamed : Label → Type 0) (result : Result CommitState Failure) (Q : Failure → Type 0) → IsBinding (λ label. CreateTransaction label 0) m n answer IsNamed → IsErrAnd result Q
     → Keeps (contents_now m.it.now ∷ []) m → IsInstallation m.it.now release n result
 none-made release m n answer IsNamed result Q bound err keeps = record {
   transaction = bound.label;
@@ -206,8 +217,8 @@ stays before after m n (Ok state) none is = record { either = none _ is.either; 
 stays before after m n (Err failed) none is = record { either = none _ is.either; ok = tt; err = λ other. none _ (is.err other) }
 
 -- one was made, and closed behind the installation
-pub in-one : (release : Release) (m n p q : OnDisk KernelState) (transaction : Label) (guid : List ℕ) (answer : Result Reply NoMemory) (result : Result CommitState Failure)
-    → IsBinding (λ label. CreateTransaction label 0) m n (Ok (Reply.Guid guid)) (λ label. transaction ≡ label)
+pub in-one : (release : Release) (m n p q : OnDisk KernelState) (transaction : Label) (guid : List ℕ) (answer : Answer) (result : Result CommitState Failure)
+    → IsBinding (λ label. CreateTransaction label 0) m n (Some (Ok (Reply.Guid guid))) (λ label. transaction ≡ label)
     → ((before : Contents) → Keeps (before ∷ []) n → (program : Label) × (manual : Label) × IsAllOrNothing before (contents_now (after_all n.it.now (installing transaction release program manual))) p result)
     → IsCalled (CloseHandle transaction) p q answer → Keeps (contents_now m.it.now ∷ []) m → IsInstallation m.it.now release q result
 in-one release m n p q transaction guid answer result bound inside close keeps =

@@ -4,7 +4,7 @@ use Rattle.ktm_base.specs.declared.id.Id.{Id}
 use Rattle.ktm_base.specs.declared.id.Label.{Label}
 use Rattle.ktm_base.specs.declared.id.Pid.{Pid}
 use Rattle.ktm_base.specs.declared.refusal.Refusal.{Refusal}
-use Rattle.ktm_base.specs.declared.refusal.Refusal.TheVariants.{HandleNoLongerValid, InvalidHandle, LogFull, MachineDown, WaitTimeout}
+use Rattle.ktm_base.specs.declared.refusal.Refusal.TheVariants.{HandleNoLongerValid, InvalidHandle, MachineDown, WaitTimeout}
 use Rattle.ktm_types.specs.declared.command.Command.{Command}
 use Rattle.ktm_types.specs.declared.command.Command.TheVariants.{CreateTransaction, OpenTransaction, CommitTransaction, RollbackTransaction, GetTransactionInformation, CreateResourceManager, OpenResourceManager, RecoverResourceManager, GetNotificationResourceManager, CreateEnlistment, OpenEnlistment, RecoverEnlistment, PrePrepareComplete, PrepareComplete, ReadOnlyEnlistment, CommitComplete, RollbackComplete, SinglePhaseReject, RollbackEnlistment, PrePrepareEnlistment, PrepareEnlistment, CommitEnlistment, SetEnlistmentRecoveryInformation, GetEnlistmentRecoveryInformation, CreateFile, CreateFileTransacted, ReadFile, WriteFile, SetEndOfFile, GetFileSizeEx, FlushFileBuffers, DeleteFile, CreateDirectory, RemoveDirectory, MoveFile, DeleteFileTransacted, CreateDirectoryTransacted, RemoveDirectoryTransacted, MoveFileTransacted, FindFiles, FindFilesTransacted, KvSet, KvUnset, KvGet, KvList, CloseHandle, DuplicateHandle, Exit}
 use Rattle.ktm_types.specs.declared.input.PhaseInput.{PhaseInput}
@@ -15,8 +15,8 @@ use Rattle.ktm_types.specs.declared.options.Disposition.{Disposition}
 use Rattle.ktm_types.specs.declared.options.EnlistmentKind.{EnlistmentKind}
 use Rattle.ktm_types.specs.declared.options.ShareMode.{ShareMode}
 use Rattle.ktm_types.specs.declared.reply.Reply.{Reply}
-use Rattle.ktm_types.specs.declared.reply.Reply.TheVariants.{Refused, Done}
-use Rattle.ktm_world.specs.Decide.{bound_file, caller, command_effect, command_tests, decide, on_file, opening, refusal_of, with_room}
+use Rattle.ktm_types.specs.declared.reply.Reply.TheVariants.{Done}
+use Rattle.ktm_world.specs.Decide.{bound_file, caller, command_effect, command_tests, decide, on_file, opening, refusal_of}
 use Rattle.ktm_world.specs.Enlistments.{Enlistment, Manager, Note, is_ended}
 use Rattle.ktm_world.specs.FileCalls.{Whereabouts, at_node, create_at, create_directory, create_file, delete_file, drop_at, find_files, find_path, flush_file, free, get_size, make_at, move_at, move_file, read_file, remove_directory, set_end, write_file}
 use Rattle.ktm_world.specs.FileOutcome.{FileOutcome}
@@ -26,7 +26,7 @@ use Rattle.ktm_world.specs.Handles.{object_at}
 use Rattle.ktm_world.specs.KeyCalls.{reply_of_value}
 use Rattle.ktm_world.specs.Keys.{value_seen, without_own}
 use Rattle.ktm_world.specs.Labels.{enlistment_named, file_named, file_number, holds_of, invalid_handle, is_dead, is_dead_file, manager_named, open_file_at, transaction_named, viewer}
-use Rattle.ktm_world.specs.Outcome.{Outcome, first_refusal, is_full, only_reply, refuse_or}
+use Rattle.ktm_world.specs.Outcome.{Outcome, first_refusal, only_reply, refuse_or}
 use Rattle.ktm_world.specs.Phases.{Course}
 use Rattle.ktm_world.specs.Present.{Present}
 use Rattle.ktm_world.specs.Steps.{led, share_of}
@@ -50,17 +50,12 @@ module _ (telling : Telling) where
   refused_or_told x None effect told = told refl
   refused_or_told x (Some refusal) effect told = tt
 
-  full_or_told : (x : Present) (full : Bool) (o : Outcome) → IsTold o.reply telling → IsTold (cond full (record (only_reply x (Refused LogFull)) { stops = true }) o).reply telling
-  full_or_told x true o told = tt
-  full_or_told x false o told = told
-
   -- what is decided tells what its effect does, where no test of the call holds
   decided_told : (x : Present) (process : Pid) (command : Command) → (first_refusal (command_tests x process command) ≡ None → IsTold (command_effect x process command).reply telling)
       → IsTold (decide x process command).reply telling
   decided_told x process command told =
-      full_or_told x (is_full x.machine.left (with_room x process command).events) (with_room x process command)
-      (refused_or_told x (refusal_of x process command) (command_effect x process command)
-      (λ none. told (passed (not x.machine.is_up) MachineDown (first_refusal (command_tests x process command)) none)))
+      refused_or_told x (refusal_of x process command) (command_effect x process command)
+      (λ none. told (passed (not x.machine.is_up) MachineDown (first_refusal (command_tests x process command)) none))
 
 -- ---- transactions
 
@@ -320,6 +315,4 @@ unfolding tick
 passes_told x ms = in_turn_told (with_clock x ms) x.transactions.items
 
 pub tick_law : TickLaw
-tick_law x ms =
-    let tested = first_refusal ((not x.machine.is_up, MachineDown) ∷ []) in
-    full_or_told nothing x (is_full x.machine.left (refuse_or x tested (tick x ms)).events) (refuse_or x tested (tick x ms)) (refused_or_told nothing x tested (tick x ms) (λ none. passes_told x ms))
+tick_law x ms = refused_or_told nothing x (first_refusal ((not x.machine.is_up, MachineDown) ∷ [])) (tick x ms) (λ none. passes_told x ms)

@@ -157,14 +157,6 @@ impl Journal {
         self.log.spare() + 1
     }
 
-    /// Has the log room for a group whose events take so many bytes together, or 2^64 - 1, where they take more.
-    pub fn has_room(&self, size: usize) -> bool
-        ensures room { (group : Group) → min (sum_by event_size group) (2 ^ 64 - 1) ≡ size → 1 ≤ length group → IsTrue result ↔ (has_no_room self.now group ≡ false) }
-        ensures small { result ≡ true → size + frame_size [] < area_len self.now.units }
-    {
-        (size.saturating_add(FRAME) as u64) < self.left()
-    }
-
     /// How many bytes the events of a group take at most, for which the log of a new image of its size has room.
     pub fn events_room(&self) -> usize
         ensures { result + frame_size [] ≡ area_len self.now.units }

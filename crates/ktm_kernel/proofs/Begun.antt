@@ -63,9 +63,9 @@ module _ (s after : Durable) (tree : Tree) (next : ℕ) (store : Store) (ts : Li
     set : own_settings_of ts ≡ own_settings_back s
     set = ap own_settings_of ts_are ∙ ap (λ (us : List Recorded). filter has_own_settings (map (λ t. record { transaction = t.id; settings = settings_of t }) us)) same_doubts
 
-    pub shows_fresh : (m : MemoryState) (left : ℕ) → m.is_up ≡ true → HasComeBack (s.boots + 1) s.managers s.transactions m.tm → m.trace ≡ map traced after.transactions
-        → files_of m.files ≡ files_back tree next ts → m.next_node ≡ next → m.keys ≡ keys_back store ts → m.handles.handles ≡ [] → Shows m (fresh s left)
-    shows_fresh m left up back traces files next_node keys handles = record {
+    pub shows_fresh : (m : MemoryState) → m.is_up ≡ true → HasComeBack (s.boots + 1) s.managers s.transactions m.tm → m.trace ≡ map traced after.transactions
+        → files_of m.files ≡ files_back tree next ts → m.next_node ≡ next → m.keys ≡ keys_back store ts → m.handles.handles ≡ [] → Shows m (fresh s)
+    shows_fresh m up back traces files next_node keys handles = record {
       is_up = up;
       boot = back.boot_is ∙ sym (booted s).0;
       transactions = back.now;
@@ -80,5 +80,5 @@ module _ (s after : Durable) (tree : Tree) (next : ℕ) (store : Store) (ts : Li
     }
 
 -- each enlistment that comes back has the slots that it may be owed
-pub fresh_slots : SlotsLaw → (s : Durable) (left : ℕ) (tm : TmState) → HasComeBack (s.boots + 1) s.managers s.transactions tm → owed_slots (fresh s left) ≤ tm.slots
-fresh_slots law s left tm back = omega (arith, law.few (fresh s left), back.slots, ap (λ (n : Transactions). length n.enlistments) back.now)
+pub fresh_slots : SlotsLaw → (s : Durable) (tm : TmState) → HasComeBack (s.boots + 1) s.managers s.transactions tm → owed_slots (fresh s) ≤ tm.slots
+fresh_slots law s tm back = omega (arith, law.few (fresh s), back.slots, ap (λ (n : Transactions). length n.enlistments) back.now)

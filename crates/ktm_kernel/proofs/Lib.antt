@@ -5,8 +5,11 @@ pub mod Reserved
 pub mod Ready
 pub mod OwnGroups
 pub mod Begun
+pub mod Journals
+pub mod Groups
 pub mod Asked
-pub mod Restarts
-pub mod StartAgain
 pub mod Ends
+pub mod StartAgain
+pub mod Starts
+pub mod Restarts
 pub mod Events

@@ -1,5 +1,5 @@
 -- Which logs are among the possible ones.
-use Rattle.std.proofs.Common.{◌≡◌, ℕ, List, [], ◌∷◌, ◌++◌, map, length, drop, zero, suc, refl, sym, ap, subst, arith}
+use Rattle.std.proofs.Common.{◌≡◌, ℕ, Bool, true, false, cond, List, [], ◌∷◌, ◌++◌, filter, map, length, drop, zero, suc, refl, sym, ◌∙◌, ap, subst, arith}
 use Rattle.std.proofs.lemmas.List.{append-nil}
 use Rattle.std.specs.Prelude.{Contains}
 use Rattle.ktm_types.specs.declared.event.Event.{Event}
@@ -47,3 +47,14 @@ in_first (z ∷ zs) ys x (suc k, within, is) = let (j, inside, at) = in_first zs
 pub in_second : {X : Type 0} (xs ys : List X) (x : X) → Contains ys x → Contains (xs ++ ys) x
 in_second [] ys x there = there
 in_second (z ∷ zs) ys x there = let (j, inside, at) = in_second zs ys x there in (suc j, omega arith, at)
+
+-- of a list of which only some are kept
+pub Contains-filter : {X : Type 0} (p : X → Bool) (xs : List X) (x : X) → Contains xs x → p x ≡ true → Contains (filter p xs) x
+Contains-filter p [] x (k, within, is) passes = absurd (omega arith)
+Contains-filter p (y ∷ ys) x (zero, within, is) passes =
+    subst (λ b. Contains (cond b (y ∷ filter p ys) (filter p ys)) x) (sym (ap p is ∙ passes)) (0, omega arith, is)
+Contains-filter p (y ∷ ys) x (suc k, within, is) passes = in_rest (p y) (Contains-filter p ys x (k, omega arith, is) passes)
+  where
+    in_rest : (b : Bool) → Contains (filter p ys) x → Contains (cond b (y ∷ filter p ys) (filter p ys)) x
+    in_rest true there = in_second (y ∷ []) (filter p ys) x there
+    in_rest false there = there

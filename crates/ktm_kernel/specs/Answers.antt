@@ -1,9 +1,9 @@
 -- What an answer of the machine leaves.
-use Rattle.std.specs.Prelude.{◌≡◌, ◌⊎◌, ℕ, ◌≤◌, Bool, true, false, Some, Result, Ok, Err}
+use Rattle.std.specs.Prelude.{◌≡◌, ◌⊎◌, ℕ, ◌+◌, ◌≤◌, Bool, true, false, Some, Result, Ok, Err}
 use Rattle.ktm_base.specs.Count.{Rose}
 use Rattle.ktm_base.specs.declared.fault.NoMemory.{NoMemory}
 use Rattle.ktm_base.specs.declared.id.Pid.{Pid}
-use Rattle.ktm_base.specs.declared.refusal.Refusal.TheVariants.{LogFull, MachineDown}
+use Rattle.ktm_base.specs.declared.refusal.Refusal.TheVariants.{ImageWorn, MachineDown}
 use Rattle.ktm_base.specs.Disk.{DeviceCalls}
 use Rattle.ktm_log.specs.OnDisk.{OnDisk}
 use Rattle.ktm_slots.specs.Owed.{owed_slots}
@@ -14,9 +14,12 @@ use Rattle.ktm_types.specs.declared.reply.Reply.{Reply}
 use Rattle.ktm_types.specs.declared.reply.Reply.TheVariants.{BadImage, Refused, Restarted}
 use Rattle.ktm_world.specs.Decide.{decide}
 use Rattle.ktm_world.specs.Outcome.{Outcome, apply}
+use Rattle.ktm_world.specs.Present.{Present}
 use Rattle.ktm_world.specs.World.{World}
+use Rattle.ktm_records.specs.Spelling.{most_at_once}
 use Rattle.ktm_memory.specs.Recorded.{IsUntouched}
-use Rattle.ktm_kernel.specs.Done.{Ends, TouchesNothing, fallen}
+use Rattle.ktm_kernel.specs.Restarts.{IsFreshlyCounted}
+use Rattle.ktm_kernel.specs.Done.{Ends, TouchesNothing, fallen, most_calls}
 use Rattle.ktm_kernel.specs.Reserved.{KeepsReserved}
 use Rattle.ktm_kernel.specs.Stands.{DoesLine, FoundAt, IsPowered, IsReady, KernelAt, KernelState}
 
@@ -28,7 +31,7 @@ pub record IsAnswered (o : Outcome) (old new : OnDisk KernelState) (reply : Repl
   pub powered : IsPowered new.it new.told new.status
   -- there is room for all notifications that may come to be sent without a call that makes room
   pub slots : new.it.now.machine.is_up ≡ true → owed_slots new.it.now ≤ new.it.slots
-  pub calls : DeviceCalls 4 old.status new.status new.status.is_down
+  pub calls : DeviceCalls (most_calls old.it.journal o.events) old.status new.status new.status.is_down
   pub untouched : TouchesNothing o reply → IsUntouched old new
 
 -- out of memory: nothing has changed, and there is room for no fewer notifications
@@ -52,8 +55,10 @@ pub record IsLineAnswered (line : Line) (o : Outcome) (old new : OnDisk KernelSt
   pub says : ((reply ≡ o.reply) × (new.it.now ≡ apply old.it.now o)) ⊎ ((reply ≡ Refused MachineDown) × (new.it.now ≡ fallen old.it.now))
   pub cause : reply ≡ Refused MachineDown → (old.it.now.machine.is_up ≡ false) ⊎ Rose old.status.downs new.status.downs
   pub ready : IsReady new.it new.told new.status
-  pub calls : DeviceCalls 4 old.status new.status new.status.is_down
+  pub calls : DeviceCalls (most_calls old.it.journal o.events) old.status new.status new.status.is_down
   pub untouched : TouchesNothing o reply → IsUntouched old new
+  -- few events more were recorded
+  pub counts : new.it.now.recorded.events ≤ old.it.now.recorded.events + most_at_once
   -- while the machine is up, what undecided transactions did to the files stays reserved for them
   pub reserved : old.it.now.machine.is_up ≡ true → KeepsReserved line old.it.now new.it.now
 
@@ -71,17 +76,17 @@ pub record IsAsBefore (old new : OnDisk KernelState) : Type 0 where
   pub up : new.status.is_down ≡ false
   pub pending : new.status.pending ≡ 0
 
--- the fact, where the reply says that nothing was written: BAD_IMAGE or ERROR_LOG_FULL
+-- the fact, where the reply says that nothing was written: BAD_IMAGE or IMAGE_WORN
 abbrev pub IfUnwrittenBy : Reply → Type 0 → Type 0
 IfUnwrittenBy (BadImage offset) P = P
-IfUnwrittenBy (Refused LogFull) P = P
+IfUnwrittenBy (Refused ImageWorn) P = P
 IfUnwrittenBy reply P = Unit {0}
 
 -- the replies of a restart of a machine that is down
 abbrev pub IsOfRestart : Reply → Type 0
 IsOfRestart (Restarted events in_doubt) = Unit {0}
 IsOfRestart (BadImage offset) = Unit {0}
-IsOfRestart (Refused LogFull) = Unit {0}
+IsOfRestart (Refused ImageWorn) = Unit {0}
 IsOfRestart (Refused MachineDown) = Unit {0}
 IsOfRestart reply = ⊥
 
@@ -90,12 +95,19 @@ abbrev pub says_started : Reply → Bool
 says_started (Restarted events in_doubt) = true
 says_started reply = false
 
+-- how many events are recorded then: few more than those of a state that is not worn, where a machine started, and else as many as before
+abbrev pub IsCountedBy : Bool → Present → Present → Type 0
+IsCountedBy true old new = IsFreshlyCounted new
+IsCountedBy false old new = new.recorded.events ≡ old.recorded.events
+
 -- it was answered, for each world of which one of the possible logs was found
 pub record IsRestartAnswered (old new : OnDisk KernelState) (reply : Reply) : Type 0 where
   pub does : (pick : ℕ) (w : World) → FoundAt old.it old.told w → DoesLine w (Some (Restart pick)) reply new.it new.told
   pub says : IsOfRestart reply
   pub cause : reply ≡ Refused MachineDown → Rose old.status.downs new.status.downs
   pub up : new.it.now.machine.is_up ≡ says_started reply
+  -- a machine that started has events left, and another one counts what it counted
+  pub counts : IsCountedBy (says_started reply) old.it.now new.it.now
   pub ready : IsReady new.it new.told new.status
   pub unwritten : IfUnwrittenBy reply (IsAsBefore old new)
 

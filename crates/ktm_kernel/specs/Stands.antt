@@ -1,14 +1,14 @@
 -- When a machine with its disk stands for a world.
-use Rattle.std.specs.Prelude.{◌≡◌, ℕ, ◌≤◌, Bool, true, false, List, ◌++◌, Option, Contains, IsTrue, IfSome, IsSomeAnd}
+use Rattle.std.specs.Prelude.{◌≡◌, ℕ, ◌≤◌, Bool, true, false, List, Option, Contains, IfSome, IsSomeAnd}
 use Rattle.ktm_base.specs.Disk.{DiskState, DiskStatus, MayLeave, IsSafe}
 use Rattle.ktm_base.specs.Power.{Restored, NotRestored}
 use Rattle.ktm_base.specs.Told.{Goes}
-use Rattle.ktm_journal.specs.Image.{JournalState, JournalAt, IsHeaded, empty_snapshot, left_after}
-use Rattle.ktm_restart.specs.Logs.{HoldsLog, StandsFor}
+use Rattle.ktm_journal.specs.Image.{JournalState, IsHeaded}
+use Rattle.ktm_restart.specs.Logs.{JournalFor, StandsFor}
 use Rattle.ktm_types.specs.declared.command.Line.{Line}
 use Rattle.ktm_types.specs.declared.reply.Reply.{Reply}
 use Rattle.ktm_world.specs.Present.{Present}
-use Rattle.ktm_world.specs.Durable.{empty_state, stand, log_applies}
+use Rattle.ktm_world.specs.Durable.{stand}
 use Rattle.ktm_world.specs.World.{World, present, possible_logs, interrupted_restart}
 use Rattle.ktm_world.specs.Logs.{Group, is_up}
 use Rattle.ktm_standing.specs.Standing.{IsStanding, IsStandingNow}
@@ -26,31 +26,21 @@ pub record KernelState : Type 0 where
 abbrev pub machine_of : MemoryState → KernelState
 machine_of m = record { now = present_of m; journal = m.journal; slots = m.tm.slots }
 
--- the world's run began with an image of this journal that held these groups
-pub record Began (j : JournalState) (before : List Group) (w : World) : Type 0 where
-  pub applies : IsTrue (log_applies (empty_state j.units j.image) before)
-  pub base : w.base ≡ stand (empty_state j.units j.image) before
-  pub room : w.room ≡ left_after j.units before
-
--- a machine that is up stands for the world, and its journal holds what the run began with and the world's log
+-- a machine that is up stands for the world, and its journal comes to what the world's log comes to
 pub record Stands (k : KernelState) (told : Option DiskState) (w : World) : Type 0 where
   pub now : k.now ≡ present w
   pub standing : IsStanding w
-  pub before : List Group
-  pub began : Began k.journal before w
-  pub disk : IsSomeAnd told (JournalAt k.journal empty_snapshot (before ++ w.log))
+  pub disk : IsSomeAnd told (JournalFor k.journal (stand w.base w.log))
 
--- each image that a loss of power may leave holds what the run began with and one of the possible logs
-abbrev pub LeavesPossible : JournalState → List Group → World → DiskState → Type 0
-LeavesPossible j before w s = (image : List ℕ) → MayLeave s image → (log : List Group) × Contains (possible_logs w) log × HoldsLog j.units j.image (before ++ log) image
+-- each image that a loss of power may leave stands for the state that one of the possible logs comes to
+abbrev pub LeavesStates : World → DiskState → Type 0
+LeavesStates w s = (image : List ℕ) → MayLeave s image → (log : List Group) × Contains (possible_logs w) log × StandsFor (stand w.base log) image
 
 -- a machine that is down stands for the world
 pub record HasFallen (k : KernelState) (told : Option DiskState) (w : World) : Type 0 where
   pub now : k.now ≡ present w
   pub standing : IsStanding w
-  pub before : List Group
-  pub began : Began k.journal before w
-  pub disk : IsSomeAnd told (LeavesPossible k.journal before w)
+  pub disk : IsSomeAnd told (LeavesStates w)
 
 -- a machine stands for the world, by whether the world's machine is up
 abbrev pub StandsBy : Bool → KernelState → Option DiskState → World → Type 0
@@ -78,18 +68,12 @@ pub record IsReady (k : KernelState) (told : Option DiskState) (status : DiskSta
   -- there is room for all notifications that may come to be sent without a call that makes room
   pub slots : k.now.machine.is_up ≡ true → owed_slots k.now ≤ k.slots
 
--- a machine that is down, whose disk has the power again and holds one of the possible logs, all of it safe
+-- a machine that is down, whose disk has the power again, is safe, and stands for the state that one of the possible logs comes to
 pub record FoundAt (k : KernelState) (told : Option DiskState) (w : World) : Type 0 where
   pub off : is_up w.power ≡ false
   pub now : k.now ≡ present w
   pub standing : IsStanding w
-  pub before : List Group
-  pub began : Began k.journal before w
-  pub disk : IsSomeAnd told (λ s. IsSafe s × ((log : List Group) × Contains (possible_logs w) log × HoldsLog k.journal.units k.journal.image (before ++ log) s.seen))
-
--- each image that a loss of power may leave stands for the state that one of the possible logs comes to
-abbrev pub LeavesStates : World → DiskState → Type 0
-LeavesStates w s = (image : List ℕ) → MayLeave s image → (log : List Group) × Contains (possible_logs w) log × StandsFor (stand w.base log) image
+  pub disk : IsSomeAnd told (λ s. IsSafe s × ((log : List Group) × Contains (possible_logs w) log × StandsFor (stand w.base log) s.seen))
 
 -- a loss of power leaves the state of one of the possible logs
 abbrev pub LeftLaw : Type 0

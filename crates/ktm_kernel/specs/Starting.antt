@@ -1,45 +1,66 @@
 -- A machine that is to start.
-use Rattle.std.specs.Prelude.{◌≡◌, ℕ, ◌≤◌, true, false, Option, Err}
+use Rattle.std.specs.Prelude.{◌≡◌, ◌≤◌, true, false, Option, IsSomeAnd, IfSome, Result, Ok, Err}
+use Rattle.ktm_base.specs.declared.fault.Down.{Down}
 use Rattle.ktm_event.specs.Kept.{EventsState}
-use Rattle.ktm_journal.specs.Append.{has_no_room}
+use Rattle.ktm_journal.specs.Image.{IsHeaded}
 use Rattle.ktm_restart.specs.declared.replay.Loaded.{Loaded}
+use Rattle.ktm_restart.specs.Logs.{JournalFor}
 use Rattle.ktm_slots.specs.Owed.{owed_slots}
-use Rattle.ktm_world.specs.World.{own_group}
 use Rattle.ktm_standing.specs.Standing.{fresh}
-use Rattle.ktm_memory.specs.Memory.{MemoryState, Shows}
-use Rattle.ktm_kernel.specs.declared.restart.RestartFault.{RestartFault}
-use Rattle.ktm_kernel.specs.declared.restart.RestartFault.TheVariants.{Down, Bad, Full, NoMemory}
-use Rattle.ktm_base.specs.Disk.{DiskState, DiskStatus}
-use Rattle.ktm_log.specs.declared.fault.AppendFault.{AppendFault}
-use Rattle.ktm_log.specs.OnDisk.{OnDisk, on}
-use Rattle.ktm_memory.specs.Recorded.{AreRecorded, RecordingLeaves}
-use Rattle.ktm_kernel.specs.Restarts.{ListsStart, unrecorded}
+use Rattle.ktm_memory.specs.Memory.{MemoryState, Shows, present_of}
+use Rattle.ktm_world.specs.Durable.{Durable, is_worn}
+use Rattle.ktm_base.specs.Disk.{DeviceCalls, DiskState, DiskStatus}
+use Rattle.ktm_log.specs.OnDisk.{AllSynced, OnDisk, on}
+use Rattle.ktm_kernel.specs.Restarts.{LeavesOwnOrNot, ListsStart, started}
+use Rattle.ktm_restart.specs.Loads.{IsJournalOf, MayStart}
 use Rattle.ktm_kernel.specs.Stands.{KernelState, machine_of}
 
--- what a machine holds that starts from what was loaded, and the list of what it records, for which the log has room
+-- what a machine holds that starts from what was loaded, and the list of what it records
 pub record Begun (loaded : Loaded) (events : EventsState) (m : MemoryState) : Type 0 where
   pub lists : ListsStart loaded.state loaded.journal.units events
-  pub room : has_no_room loaded.journal (own_group loaded.state) ≡ false
   pub journal : m.journal ≡ loaded.journal
-  pub shows : (left : ℕ) → Shows m (fresh loaded.state left)
-  pub slots : (left : ℕ) → owed_slots (fresh loaded.state left) ≤ m.tm.slots
+  pub shows : Shows m (fresh loaded.state)
+  pub slots : owed_slots (fresh loaded.state) ≤ m.tm.slots
 
--- why nothing starts from what was loaded: the log has no room, or out of memory
-abbrev pub NothingBegins : Loaded → RestartFault → Type 0
-NothingBegins loaded Full = has_no_room loaded.journal (own_group loaded.state) ≡ true
-NothingBegins loaded NoMemory = Unit {0}
-NothingBegins loaded Down = ⊥
-NothingBegins loaded (Bad offset) = ⊥
+-- memory shows what is so once a machine started from this state, but for its journal, which has counted what was found, and the list has what
+-- the start records
+pub record IsOnStart (state : Durable) (m : MemoryState) (events : EventsState) : Type 0 where
+  pub may : MayStart state
+  pub unworn : is_worn state ≡ false
+  pub journal : IsJournalOf state m.journal
+  pub shows : Shows m (fresh state)
+  pub lists : ListsStart state m.journal.units events
+
+-- it is so for some state
+abbrev pub IsStarting : MemoryState → EventsState → Type 0
+IsStarting m events = (state : Durable) × IsOnStart state m events
+
+-- the start was recorded, whatever state it is from: the journal comes to what the start makes of that state, and memory is otherwise as it was
+pub record IsRecorded (events : EventsState) (old new : OnDisk MemoryState) : Type 0 where
+  pub now : (state : Durable) → IsOnStart state old.it events → present_of new.it ≡ fresh state
+  pub journal : new.it ≡ record old.it { journal = new.it.journal }
+  pub units : new.it.journal.units ≡ old.it.journal.units
+  pub disk : (state : Durable) → IsOnStart state old.it events → IsSomeAnd old.told (JournalFor old.it.journal state) → IsSomeAnd new.told (JournalFor new.it.journal (started state))
+  pub headed : IfSome new.told (λ s. IsHeaded new.it.journal.units new.it.journal.image new.it.journal.selector s.seen)
+  pub synced : AllSynced 6 old.status new.status
+
+-- the disk has no power: the start may be recorded or not
+pub record IsNotRecorded (events : EventsState) (old new : OnDisk MemoryState) : Type 0 where
+  pub disk : (state : Durable) → IsOnStart state old.it events → IsSomeAnd old.told (JournalFor old.it.journal state) → IsSomeAnd new.told (LeavesOwnOrNot state)
+  pub calls : DeviceCalls 6 old.status new.status true
+
+-- what the recording of a start leaves, by its answer
+abbrev pub StartLeaves : EventsState → OnDisk MemoryState → OnDisk MemoryState → Result (Unit {0}) Down → Type 0
+StartLeaves events old new (Ok done) = IsRecorded events old new
+StartLeaves events old new (Err down) = IsNotRecorded events old new
 
 -- the start was recorded, and this machine holds what memory holds then
-pub record IsRecorded (events : EventsState) (old : OnDisk MemoryState) (told : Option DiskState) (status : DiskStatus) (kernel : KernelState) : Type 0 where
+pub record IsMachineOf (events : EventsState) (old : OnDisk MemoryState) (told : Option DiskState) (status : DiskStatus) (kernel : KernelState) : Type 0 where
   pub memory : MemoryState
   pub is : kernel ≡ machine_of memory
-  pub leaves : AreRecorded events old (on memory told status)
+  pub leaves : IsRecorded events old (on memory told status)
 
--- it was not, for this
-pub record IsNotRecorded (events : EventsState) (old : OnDisk MemoryState) (told : Option DiskState) (status : DiskStatus) (fault : RestartFault) : Type 0 where
+-- it was not
+pub record IsNoMachine (events : EventsState) (old : OnDisk MemoryState) (told : Option DiskState) (status : DiskStatus) : Type 0 where
   pub memory : MemoryState
-  pub why : AppendFault
-  pub is : fault ≡ unrecorded why
-  pub leaves : RecordingLeaves events old (on memory told status) (Err why)
+  pub leaves : IsNotRecorded events old (on memory told status)

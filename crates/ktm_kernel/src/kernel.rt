@@ -13,13 +13,16 @@ ghost use Rattle.ktm_kernel.specs.Done.{fallen};
 ghost use Rattle.ktm_log.specs.OnDisk.{on};
 ghost use Rattle.ktm_route.specs.Route.{CanBeAsked, decided};
 ghost use Rattle.ktm_kernel.specs.Stands.{KernelAt, DoesLine, IsReady};
+ghost use Rattle.ktm_laws.specs.Running.{HasEventsLeft};
 ghost use Rattle.ktm_route.specs.Takes.{asked_takes_memory, takes_memory};
 
-use ktm_base::{Disk, Label, NoMemory, Pid, Refusal};
+use crate::recording::record;
+use ktm_base::{Disk, Down, Label, NoMemory, Pid, Refusal};
 use ktm_event::Events;
-use ktm_journal::AppendFault;
-use ktm_laws::law_of_reserved_files;
-use ktm_memory::{Decision, Memory};
+use ktm_laws::{law_of_lawful_worlds, law_of_reserved_files};
+use ktm_memory::Memory;
+use ktm_records::law_of_spelling;
+use ktm_room::law_of_frames;
 use ktm_route::{Asked, decide};
 use ktm_slots::law_of_slots;
 use ktm_standing::{law_of_kept, law_of_standing};
@@ -28,16 +31,20 @@ use ktm_types::{Command, Reply};
 use std::alloc::Global;
 use std::marker::Model;
 
-/// The machine, while its script runs.
+/// The machine: what it holds in memory, and the memory for what it records.
 #[derive(Drop)]
 pub struct Kernel {
     pub(crate) alloc: Global,
     pub(crate) memory: Memory,
     // In the buffer that the log was read into.
     pub(crate) events: Events,
+    // The buffer for a snapshot of all that was recorded.
+    pub(crate) snapshot: Vec<u8>,
 }
 
 impl Model for Kernel {
+    ghost use Rattle.std.specs.Prelude.{◌≤◌, vec_capacity};
+    ghost use Rattle.ktm_types.specs.Sizes.{area_len};
     ghost use Rattle.ktm_memory.specs.Memory.{IsRoomy};
     ghost use Rattle.ktm_kernel.specs.Stands.{KernelState, machine_of};
 
@@ -45,7 +52,7 @@ impl Model for Kernel {
 
     ghost view = { λ k. machine_of k.memory };
 
-    ghost invariant = { λ k. IsRoomy k.memory.journal k.events };
+    ghost invariant = { λ k. IsRoomy k.memory.journal k.events × (area_len k.memory.journal.units ≤ vec_capacity k.snapshot) };
 }
 
 impl Kernel {
@@ -81,9 +88,9 @@ impl Kernel {
         self.memory.fall();
     }
 
-    /// Answers a call of a process, with any command of the grammar. After MACHINE_DOWN and ERROR_LOG_FULL the machine is down.
-    /// A call that is refused, but for MACHINE_DOWN, and one that records nothing make no device call. Out of memory
-    /// nothing has changed, in the machine or on its disk.
+    /// Answers a call of a process, with any command of the grammar. After MACHINE_DOWN the machine is down. A call that is
+    /// refused, but for MACHINE_DOWN, and one that records nothing make no device call; one that records something makes four,
+    /// and six more where the log has no room for it. Out of memory nothing has changed, in the machine or on its disk.
     pub fn call<D: Disk>(
         &mut self,
         disk: &mut D,
@@ -91,6 +98,7 @@ impl Kernel {
         command: Command,
     ) -> Result<Reply, NoMemory>
         requires ready { IsReady self.old (D.told disk.old) (D.status disk.old) }
+        requires counts { HasEventsLeft self.old.now }
         requires command { IsCommand command }
         ensures leaves { CallLeaves process command (on self.old (D.told disk.old) (D.status disk.old)) (on self.new (D.told disk.new) (D.status disk.new)) result }
         ensures no_memory { OnErr result (IsAsItWas self.old self.new) }
@@ -99,6 +107,7 @@ impl Kernel {
         law_of_standing();
         law_of_kept();
         law_of_reserved_files();
+        law_of_spelling();
         if !self.is_up() {
             return Ok(Reply::Refused(Refusal::MachineDown));
         }
@@ -106,15 +115,16 @@ impl Kernel {
     }
 
     /// So many milliseconds pass, and the transactions roll back whose timeouts are reached then, in order of creation; what that
-    /// records is one group. After ERROR_LOG_FULL the machine is down. While the machine is down no time passes. It takes no
-    /// memory.
+    /// records is one group. While the machine is down no time passes. It takes no memory.
     pub fn tick<D: Disk>(&mut self, disk: &mut D, ms: u32) -> Reply
         requires ready { IsReady self.old (D.told disk.old) (D.status disk.old) }
+        requires counts { HasEventsLeft self.old.now }
         ensures { IsLineAnswered (Tick ms) (decide_tick self.old.now ms) (on self.old (D.told disk.old) (D.status disk.old)) (on self.new (D.told disk.new) (D.status disk.new)) result }
     {
         law_of_standing();
         law_of_kept();
         law_of_reserved_files();
+        law_of_spelling();
         if !self.is_up() {
             return Reply::Refused(Refusal::MachineDown);
         }
@@ -124,10 +134,11 @@ impl Kernel {
         }
     }
 
-    // Answers what is asked while the machine is up: it is decided, what it records is appended, and then memory settles.
+    // Answers what is asked while the machine is up: it is decided, then its events are recorded, and then memory settles.
     fn answer<D: Disk>(&mut self, disk: &mut D, asked: Asked) -> Result<Reply, NoMemory>
         requires up { self.old.now.machine.is_up ≡ true }
         requires ready { IsReady self.old (D.told disk.old) (D.status disk.old) }
+        requires counts { HasEventsLeft self.old.now }
         requires asked { CanBeAsked asked }
         ensures leaves { AnswerLeaves (decided self.old.now asked) (on self.old (D.told disk.old) (D.status disk.old)) (on self.new (D.told disk.new) (D.status disk.new)) result }
         ensures no_memory { OnErr result (IsAsItWas self.old self.new) }
@@ -137,22 +148,20 @@ impl Kernel {
         law_of_slots();
         law_of_contents();
         ktm_trace::law_of_kept();
+        law_of_frames();
+        law_of_lawful_worlds();
         self.events.clear();
-        let decided = decide(&mut self.memory, self.alloc, asked, &mut self.events)?;
-        let Some(Decision { reply, settlement }) = decided else {
-            self.memory.fall();
-            return Ok(Reply::Refused(Refusal::LogFull));
-        };
-        match self.memory.record(disk, &self.events) {
+        let decision = decide(&mut self.memory, self.alloc, asked, &mut self.events)?;
+        match record(disk, &mut self.memory, &self.events, &mut self.snapshot) {
             Ok(()) => {
-                self.memory.settle(self.alloc, settlement);
-                Ok(reply)
+                self.memory.settle(self.alloc, decision.settlement);
+                Ok(decision.reply)
             }
-            Err(AppendFault::Down) => {
+            Err(Down) => {
+                drop(decision);
                 self.memory.fall();
                 Ok(Reply::Refused(Refusal::MachineDown))
             }
-            Err(AppendFault::Full) => unreachable!(),
         }
     }
 }

@@ -2,10 +2,13 @@
 //! one group, and only then the memory is changed.
 #![tactic(auto)]
 
+mod buffers;
 mod kernel;
 mod laws;
+mod recording;
 mod restart;
 
+pub use buffers::Buffers;
 pub use kernel::Kernel;
 pub use laws::{law_of_power, law_of_what_is_found, law_of_what_is_left};
 pub use restart::{RestartFault, Restarted};

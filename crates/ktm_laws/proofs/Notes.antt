@@ -22,7 +22,7 @@ use Rattle.ktm_types.specs.declared.options.Durability.{Durability}
 use Rattle.ktm_types.specs.declared.options.EnlistmentKind.{EnlistmentKind}
 use Rattle.ktm_types.specs.declared.reply.Reply.{Reply}
 use Rattle.ktm_types.specs.declared.reply.Reply.TheVariants.{Refused, Done}
-use Rattle.ktm_world.specs.Decide.{decide, caller, command_effect, refusal_of, with_room, of_files, opening, on_file, bound_file, events_of}
+use Rattle.ktm_world.specs.Decide.{decide, caller, command_effect, refusal_of, of_files, opening, on_file, bound_file, events_of}
 use Rattle.ktm_world.specs.Durable.{Durable, after_events, stand}
 use Rattle.ktm_world.specs.Enlistments.{Enlistment, Manager, Note, Sent, has_id, notes_for, taken_count}
 use Rattle.ktm_world.specs.FileCalls.{create_file, delete_file, create_directory, remove_directory, move_file, find_files}
@@ -33,7 +33,7 @@ use Rattle.ktm_world.specs.HandleCalls.{bind_to, duplicate_handle}
 use Rattle.ktm_world.specs.Handles.{object_at}
 use Rattle.ktm_world.specs.Labels.{transaction_named, manager_named, enlistment_named, file_named, binding}
 use Rattle.ktm_world.specs.OneOutcome.{told_by, told_outcome}
-use Rattle.ktm_world.specs.Outcome.{Outcome, apply, only_reply, joined, served, refuse_or, first_refusal, is_full, within_log}
+use Rattle.ktm_world.specs.Outcome.{Outcome, apply, only_reply, joined, served, refuse_or, first_refusal}
 use Rattle.ktm_world.specs.Phases.{Course}
 use Rattle.ktm_world.specs.Present.{Present, Transactions}
 use Rattle.ktm_world.specs.TransactionCalls.{course_of, arrived, new_id, create_transaction, transaction_with, open_to_transaction, open_transaction, commit_of, commit_transaction, aborted_by, rollback_of, rollback_transaction, get_transaction_information, tick, is_durable, create_resource_manager, manager_with, open_to_manager, open_resource_manager, is_to_recover, recover_all, recover_resource_manager, take_first, get_notification, enlist, create_enlistment, enlistment_with, open_to_enlistment, open_enlistment, answering, pre_prepare_complete, prepare_complete, read_only_enlistment, commit_complete, rollback_complete, single_phase_reject, rollback_enlistment, pre_prepare_enlistment, prepare_enlistment, commit_enlistment, recover_enlistment, keep_information, set_information, get_information, recovery_of}
@@ -519,23 +519,20 @@ module _ (x : Present) (sound : IsSoundCourse x) where
   honest-refused (Some refusal) effect is = honest-reply x (Refused refusal)
   honest-refused None effect is = is
 
-  honest-logged : (o : Outcome) → IsHonest x o → IsHonest x (within_log x o)
-  honest-logged o is = if_cases (λ o. IsHonest x o) (is_full x.machine.left o.events) _ o (λ full. honest-quiet x _ refl refl refl refl refl) (λ room. is)
-
   pub honest-decided : (process : Pid) (command : Command) → IsHonest x (decide x process command)
-  honest-decided process command = honest-logged (with_room x process command) (honest-refused (refusal_of x process command) (command_effect x process command) (honest-effect process command))
+  honest-decided process command = honest-refused (refusal_of x process command) (command_effect x process command) (honest-effect process command)
 
   pub honest-ticked : (ms : ℕ) → IsHonest x (decide_tick x ms)
-  honest-ticked ms = honest-logged _ (honest-refused (first_refusal ((not x.machine.is_up, MachineDown) ∷ [])) (tick x ms) (honest-tick x ms sound))
+  honest-ticked ms = honest-refused (first_refusal ((not x.machine.is_up, MachineDown) ∷ [])) (tick x ms) (honest-tick x ms sound)
 
 -- ---- notifications
 
 pub notes_law : OutcomesLaw → NotesLaw
 notes_law outcomes = record {
-  commands = λ x process command sound notes. notes-after x (decide x process command) (honest-decided x sound process command) (outcomes.decided x process command sound) notes;
+  commands = λ x process command sound notes. notes-after x (decide x process command) (honest-decided x sound process command) (outcomes.commands x process command sound) notes;
   ticks = λ x ms sound notes. notes-after x (decide_tick x ms) (honest-ticked x sound ms) (outcomes.ticks x ms sound) notes;
   falls = λ w power notes. record { each = notes.each };
-  restarts = λ base room log. record { each = λ m note k there waits tells. absurd (silent base log m note there waits) };
+  restarts = λ base log. record { each = λ m note k there waits tells. absurd (silent base log m note there waits) };
 }
   where
     silent : (base : Durable) (log : List Group) (m : Manager) (note : Note) → IsIn m (map manager_now (map (λ (id : Id). record { id = id; is_durable = true; taken = []; queue = [] }) (stand base log).managers)) → IsIn note m.queue → ⊥

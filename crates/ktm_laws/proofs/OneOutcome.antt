@@ -1,10 +1,9 @@
 -- No transcript tells a transaction two outcomes: what is told is so in the world then, and stays so; once the machine is down each log that may be
 -- found says it, and after a restart the transaction is there with the same outcome, or is of an older boot and never there again.
 use Rattle.std.specs.Prelude.{if◌then◌else◌, bytes_eq, find, Contains}
-use Rattle.std.proofs.Common.{◌≡◌, ℕ, zero, suc, ◌+◌, ◌-◌, ◌<◌, ◌≤◌, ◌&&◌, ◌||◌, not, Bool, true, false, List, [], ◌∷◌, ◌++◌, nat_le, Option, None, Some, option_and_then, refl, sym, ◌∙◌, ap, subst, inl, inr, ◌⊎◌, arith}
+use Rattle.std.proofs.Common.{◌≡◌, ℕ, zero, suc, ◌+◌, ◌<◌, ◌≤◌, ◌&&◌, ◌||◌, not, Bool, true, false, List, [], ◌∷◌, ◌++◌, length, nat_le, Option, None, Some, option_and_then, refl, sym, ◌∙◌, ap, subst, inl, inr, ◌⊎◌, arith}
 use Rattle.std.proofs.lemmas.Bool.{cases_Bool, and_from, and_parts, or_cases, or_left, or_right, le-leb, leb-true, not-true, not_from_false, true≢false}
 use Rattle.std.proofs.lemmas.Option.{none-some, same_Some}
-use Rattle.std.proofs.lemmas.List.Sums.{sum_by-cons}
 use Rattle.std.specs.List.{AllByRecursion, list_any, list_all, flat_map}
 use Rattle.ktm_base.specs.declared.id.Id.{Id}
 use Rattle.ktm_base.specs.declared.id.Label.{Label}
@@ -26,7 +25,6 @@ use Rattle.ktm_types.specs.declared.object.TransactionOutcome.{TransactionOutcom
 use Rattle.ktm_types.specs.declared.recorded.Stage.{Stage}
 use Rattle.ktm_types.specs.declared.reply.Reply.{Reply}
 use Rattle.ktm_types.specs.declared.reply.Reply.TheVariants.{Refused, Done, Notification}
-use Rattle.ktm_types.specs.Sizes.{frame_size, log_size}
 use Rattle.ktm_world.specs.Decide.{decide, command_tests, command_effect, refusal_of}
 use Rattle.ktm_world.specs.Durable.{Durable, Recorded, is_ready, is_held, is_decided, recorded_at, with_recorded, without_recorded, parts_done, finish_recorded, is_before, after_event, after_events, has_undone, stand}
 use Rattle.ktm_world.specs.Enlistments.{Enlistment}
@@ -34,20 +32,19 @@ use Rattle.ktm_world.specs.Lawful.{Summary, summary_of, summary_now, summary_in,
 use Rattle.ktm_world.specs.Laws.{RefusalLaw}
 use Rattle.ktm_world.specs.Logs.{Group, Power, up, down, is_up, possible_by}
 use Rattle.ktm_world.specs.OneOutcome.{Telling, HasOneOutcome, told_by, told_outcome, told_of_named, telling_of, tells, line_tells, goes, tellings, crash_goes, restart_goes, named_by, transaction_label, transaction_of_enlistment}
-use Rattle.ktm_world.specs.Outcome.{Outcome, refuse_or, first_refusal, within_log}
+use Rattle.ktm_world.specs.Outcome.{Outcome, refuse_or, first_refusal}
 use Rattle.ktm_world.specs.Present.{Present}
 use Rattle.ktm_world.specs.Transactions.{same_id, is_undecided, is_committed}
-use Rattle.ktm_world.specs.Transcript.{Step, answered, interrupted, found, full, Does, CallDoes, IsAnswered, CrashDoes, StartDoes, RestartDoes, Transcript}
-use Rattle.ktm_world.specs.World.{World, present, extend, decide_tick, power_after, possible_logs, done_if, own_events, own_group, is_brought_back, transaction_back, back, opened, interrupted_by, crashed}
+use Rattle.ktm_world.specs.Transcript.{Step, answered, interrupted, found, worn, Does, CallDoes, IsAnswered, CrashDoes, StartDoes, RestartDoes, Transcript}
+use Rattle.ktm_world.specs.World.{World, present, extend, decide_tick, possible_logs, with_own, done_if, own_events, own_group, is_brought_back, transaction_back, back, opened, interrupted_by, crashed}
 use Rattle.ktm_world.proofs.offered.Durables.{after_events-image, stand-append}
-use Rattle.ktm_world.proofs.offered.SizeLemmas.{log_size-append}
 use Rattle.txf_laws.specs.Elements.{IsIn}
 use Rattle.ktm_courses.specs.Outcomes.{OutcomesStay, OutcomesLaw}
-use Rattle.ktm_laws.specs.Running.{IsRunning, LawfulWorldsLaw, OneOutcomeLaw}
+use Rattle.ktm_laws.specs.Running.{HasEventsLeft, IsRunning, LastsFor, LawfulWorldsLaw, OneOutcomeLaw}
 use Rattle.ktm_courses.specs.SoundCourse.{is_counted, is_outcome_of}
 use Rattle.ktm_courses.specs.SoundCourses.{CoursesLaw}
 use Rattle.ktm_records.proofs.offered.Agreement.{summaries}
-use Rattle.ktm_laws.proofs.offered.LogCounts.{room-for, own-frame}
+use Rattle.ktm_laws.proofs.offered.LogCounts.{lasts-behind, left-from}
 use Rattle.txf_laws.proofs.offered.Diamonds.{IsIn-map}
 use Rattle.txf_laws.proofs.offered.Elements.{IsIn-filter, IsIn-unflat, list_all-at, list_all-from, list_any-at, list_any-from}
 use Rattle.ktm_laws.proofs.offered.PossibleLogs.{contains-passes, left-with, left-all, left-restart}
@@ -66,9 +63,9 @@ use Rattle.ktm_steps.proofs.offered.Ways.{if_cases}
 abbrev may_tell : Id → Bool → Durable → Bool
 may_tell id k s = nat_le id.boot s.boots && list_all (λ (r : Recorded). not (same_id r.id id) || (k && is_decided r.stage)) s.transactions
 
--- does a log, if there is room for it, not deny that the transaction came to this outcome
+-- does a log not deny that the transaction came to this outcome
 abbrev may_tell_log : World → Id → Bool → List Group → Bool
-may_tell_log w id k log = not (nat_le (log_size log) w.room) || may_tell id k (stand w.base log)
+may_tell_log w id k log = may_tell id k (stand w.base log)
 
 -- a record of the transaction, if there is one
 told-of : (id : Id) (k : Bool) (s : Durable) → may_tell id k s ≡ true → (r : Recorded) → IsIn r s.transactions → r.id ≡ id → (k ≡ true) × (is_decided r.stage ≡ true)
@@ -253,7 +250,7 @@ now-told w run id k now = may-from id k w.recorded (boots now) (λ r there is.
 
 -- the log does not deny an outcome that was told
 now-log : (w : World) → IsRunning w → (id : Id) (k : Bool) → IsNow w id k → may_tell_log w id k w.log ≡ true
-now-log w run id k now = or_right _ _ (subst (λ s. may_tell id k s ≡ true) (sym run.comes_to) (now-told w run id k now))
+now-log w run id k now = subst (λ s. may_tell id k s ≡ true) (sym run.comes_to) (now-told w run id k now)
 
 -- ---- restarts
 
@@ -262,10 +259,10 @@ decided-held Stage.Decided is = refl
 decided-held Stage.Ready is = absurd (true≢false (sym is))
 decided-held Stage.Held is = absurd (true≢false (sym is))
 
-opened-now : (w : World) (log : List Group) (id : Id) (k : Bool) → may_tell id k (stand w.base log) ≡ true → IsNow (opened w.base w.room log) id k
-opened-now w log id k may = let s = stand w.base log in elim (cases_Bool (list_any (λ (t : Transaction). same_id t.id id) (opened w.base w.room log).transactions.items)) [
+opened-now : (w : World) (log : List Group) (id : Id) (k : Bool) → may_tell id k (stand w.base log) ≡ true → IsNow (opened w.base log) id k
+opened-now w log id k may = let s = stand w.base log in elim (cases_Bool (list_any (λ (t : Transaction). same_id t.id id) (opened w.base log).transactions.items)) [
   | inl some ↦
-      let t = list_any-at (λ (t : Transaction). same_id t.id id) (opened w.base w.room log).transactions.items some in
+      let t = list_any-at (λ (t : Transaction). same_id t.id id) (opened w.base log).transactions.items some in
       let r = IsIn-unmap transaction_back t.0 (back s) t.1 in
       let at = IsIn-filter is_brought_back s.transactions r.0 r.2 in
       let is : r.0.id ≡ id = ap (λ (t : Transaction). t.id) r.1 ∙ same_id-equal t.0.id id t.2 in
@@ -280,7 +277,7 @@ opened-now w log id k may = let s = stand w.base log in elim (cases_Bool (list_a
   | inr none ↦
       let boots = leb-true _ _ (and_parts (nat_le id.boot s.boots) _ may).0 in
       let more = (booted s).0 in
-      inr (λ t there is. true≢false (sym (list_any-from (λ (t : Transaction). same_id t.id id) (opened w.base w.room log).transactions.items t there (same_id-from t.id id is)) ∙ none), omega (arith, boots, more))
+      inr (λ t there is. true≢false (sym (list_any-from (λ (t : Transaction). same_id t.id id) (opened w.base log).transactions.items t there (same_id-from t.id id is)) ∙ none), omega (arith, boots, more))
 ]
 
 -- ---- what a line leaves
@@ -330,11 +327,7 @@ now-possible : (w : World) → IsRunning w → w.power ≡ up → (id : Id) (k :
 now-possible w run on id k now = subst (λ p. list_all (may_tell_log w id k) (possible_by p w.kept w.log) ≡ true) (sym on) (left-all (may_tell_log w id k) w.log w.kept run.kept (now-log w run id k now))
 
 goes-extend : (w : World) (o : Outcome) → w.power ≡ up → IsRunning w → IsOutcome w o → GoesOn w (extend w o)
-goes-extend w o on run outcome = record { run = outcome.run; past = λ id k past. go id k (past-now w id k on past) o.stops refl }
-  where
-    go : (id : Id) (k : Bool) → IsNow w id k → (b : Bool) → o.stops ≡ b → Past (extend w o) id k
-    go id k now true stops = subst (λ b. PastBy (power_after b w) (extend w o) id k) (sym stops) (now-possible w run on id k now)
-    go id k now false stays_on = subst (λ b. PastBy (power_after b w) (extend w o) id k) (sym stays_on) (subst (λ p. PastBy p (extend w o) id k) (sym on) (now-extend w o outcome id k now))
+goes-extend w o on run outcome = record { run = outcome.run; past = λ id k past. now-past (extend w o) id k on (now-extend w o outcome id k (past-now w id k on past)) }
 
 goes-interrupted : (w : World) (o : Outcome) → w.power ≡ up → IsRunning w → IsOutcome w o → GoesOn w (interrupted_by w o)
 goes-interrupted w o on run outcome = record {
@@ -399,7 +392,7 @@ answered-same : (w : World) (says : Reply) (step : Step) (reply : Reply) (new : 
 answered-same w says answered reply new (is_said, is) = is
 answered-same w says interrupted reply new none = absurd none
 answered-same w says (found log) reply new none = absurd none
-answered-same w says (full log) reply new none = absurd none
+answered-same w says (worn log) reply new none = absurd none
 
 is-up : (w : World) → is_up w.power ≡ true → w.power ≡ up
 is-up w = go w.power
@@ -452,18 +445,18 @@ all-one (c ∷ told) all a b (suc k, within, is) (zero, inside, at) same = sym (
 all-one (c ∷ told) all a b (suc k, within, is) (suc m, inside, at) same = all-one told all.1 a b (k, omega arith, is) (m, omega arith, at) same
 
 module _ (refusals : RefusalLaw) (courses : CoursesLaw) (outcomes : OutcomesLaw) (worlds : LawfulWorldsLaw) where
-  command-outcome : (w : World) (process : Pid) (command : Command) → IsRunning w → IsOutcome w (decide (present w) process command)
-  command-outcome w process command run = record {
-    run = worlds.commands w process command run;
-    cut = worlds.interrupted_commands w process command run;
+  command-outcome : (w : World) (process : Pid) (command : Command) → HasEventsLeft (present w) → IsRunning w → IsOutcome w (decide (present w) process command)
+  command-outcome w process command left run = record {
+    run = worlds.commands w process command left run;
+    cut = worlds.interrupted_commands w process command left run;
     honest = honest-decided (present w) run.now.sound.course process command;
-    stay = outcomes.decided (present w) process command run.now.sound.course;
+    stay = outcomes.commands (present w) process command run.now.sound.course;
   }
 
-  tick-outcome : (w : World) (ms : ℕ) → IsRunning w → IsOutcome w (decide_tick (present w) ms)
-  tick-outcome w ms run = record {
-    run = worlds.ticks w ms run;
-    cut = worlds.interrupted_ticks w ms run;
+  tick-outcome : (w : World) (ms : ℕ) → HasEventsLeft (present w) → IsRunning w → IsOutcome w (decide_tick (present w) ms)
+  tick-outcome w ms left run = record {
+    run = worlds.ticks w ms left run;
+    cut = worlds.interrupted_ticks w ms left run;
     honest = honest-ticked (present w) run.now.sound.course ms;
     stay = outcomes.ticks (present w) ms run.now.sound.course;
   }
@@ -472,29 +465,24 @@ module _ (refusals : RefusalLaw) (courses : CoursesLaw) (outcomes : OutcomesLaw)
 
   tells-up : (w : World) (process : Pid) (command : Command) → w.power ≡ up → IsRunning w
       → let o = decide (present w) process command in AllByRecursion (λ a. TellsNow (extend w o) a) (tells w process command o.reply)
-  tells-up w process command on run = go (decide (present w) process command).stops refl
+  tells-up w process command on run =
+      all (tells w process command (decide (present w) process command).reply)
+      (tells-true w process command (decide (present w) process command).transactions.items (decide (present w) process command).reply
+      (λ id k is tells. replies.told id k (sym (named-same w process (transaction_label command)) ∙ is) tells)
+      (λ kind guid id k is tells at. replies.noted kind guid id k is tells (sym (enlisted-same w run guid) ∙ at)))
     where
       replies : Replies (present w) (named_id (present w) process (transaction_label command)) (decide (present w) process command)
       replies = decided-replies courses (present w) run.now.sound.course run.notes process command
 
-      all : (told : List Telling) → (extend w (decide (present w) process command)).power ≡ up → AllByRecursion (λ (a : Telling). HasOutcome (decide (present w) process command).transactions.items a.transaction a.has_committed) told
+      all : (told : List Telling) → AllByRecursion (λ (a : Telling). HasOutcome (decide (present w) process command).transactions.items a.transaction a.has_committed) told
           → AllByRecursion (λ a. TellsNow (extend w (decide (present w) process command)) a) told
-      all [] goes_on each = tt
-      all (a ∷ told) goes_on each = (record { on = goes_on; so = each.0 }, all told goes_on each.1)
+      all [] each = tt
+      all (a ∷ told) each = (record { on = on; so = each.0 }, all told each.1)
 
-      go : (b : Bool) → (decide (present w) process command).stops ≡ b → AllByRecursion (λ a. TellsNow (extend w (decide (present w) process command)) a) (tells w process command (decide (present w) process command).reply)
-      go true stops =
-          let silent = replies.stops stops in
-          subst (AllByRecursion (λ a. TellsNow (extend w (decide (present w) process command)) a)) (sym (tells-none w process command (decide (present w) process command).reply silent.0 silent.1)) tt
-      go false stays_on = all (tells w process command (decide (present w) process command).reply) (ap (λ b. power_after b w) stays_on ∙ on)
-          (tells-true w process command (decide (present w) process command).transactions.items (decide (present w) process command).reply
-          (λ id k is tells. replies.told id k (sym (named-same w process (transaction_label command)) ∙ is) tells)
-          (λ kind guid id k is tells at. replies.noted kind guid id k is tells (sym (enlisted-same w run guid) ∙ at)))
-
-  call-up : (w : World) (process : Pid) (command : Command) → w.power ≡ up → IsRunning w
+  call-up : (w : World) (process : Pid) (command : Command) → w.power ≡ up → HasEventsLeft (present w) → IsRunning w
       → let o = decide (present w) process command in LineTells w (Some (Process process command)) answered o.reply (extend w o)
-  call-up w process command on run =
-      let next = goes-extend w (decide (present w) process command) on run (command-outcome w process command run) in
+  call-up w process command on left run =
+      let next = goes-extend w (decide (present w) process command) on run (command-outcome w process command left run) in
       record { next = refl; run = next.run; truly = tells-up w process command on run; past = next.past }
 
   -- a machine that is down refuses every command
@@ -502,37 +490,37 @@ module _ (refusals : RefusalLaw) (courses : CoursesLaw) (outcomes : OutcomesLaw)
   down-refuses w process command off = ap (λ on. if not on then Some MachineDown else first_refusal (command_tests (present w) process command)) off
 
   down-replies : (w : World) (process : Pid) (command : Command) → is_up w.power ≡ false → (decide (present w) process command).reply ≡ Refused MachineDown
-  down-replies w process command off = ap (λ r. (within_log (present w) (refuse_or (present w) r (command_effect (present w) process command))).reply) (down-refuses w process command off)
+  down-replies w process command off = ap (λ r. (refuse_or (present w) r (command_effect (present w) process command)).reply) (down-refuses w process command off)
 
-  call-tells : (w : World) (process : Pid) (command : Command) (step : Step) (reply : Reply) (new : World) → IsRunning w → CallDoes w (decide (present w) process command) step reply new → LineTells w (Some (Process process command)) step reply new
-  call-tells w process command answered reply new run (says, becomes) = go w.power refl
+  call-tells : (w : World) (process : Pid) (command : Command) (step : Step) (reply : Reply) (new : World) → HasEventsLeft (present w) → IsRunning w → CallDoes w (decide (present w) process command) step reply new → LineTells w (Some (Process process command)) step reply new
+  call-tells w process command answered reply new left run (says, becomes) = go w.power refl
     where
       go : (power : Power) → w.power ≡ power → LineTells w (Some (Process process command)) answered reply new
       go up on =
           let o = decide (present w) process command in
           subst (λ (r : Reply). LineTells w (Some (Process process command)) answered r new) (sym says)
-          (subst (LineTells w (Some (Process process command)) answered o.reply) (sym becomes) (call-up w process command on run))
+          (subst (LineTells w (Some (Process process command)) answered o.reply) (sym becomes) (call-up w process command on left run))
       go (down may) off =
           let is_off : is_up w.power ≡ false = ap is_up off in
           told-nothing w (Some (Process process command)) answered reply new becomes
           (ap (tells w process command) (says ∙ down-replies w process command is_off) ∙ tells-none w process command (Refused MachineDown) refl refl)
           (goes-same w new (becomes ∙ refusals.0 w process command MachineDown (down-refuses w process command is_off)) run)
-  call-tells w process command interrupted reply new run (on, says, becomes) =
+  call-tells w process command interrupted reply new left run (on, says, becomes) =
       told-nothing w (Some (Process process command)) interrupted reply new becomes (ap (tells w process command) says ∙ tells-none w process command (Refused MachineDown) refl refl)
-      (subst (GoesOn w) (sym becomes) (goes-interrupted w (decide (present w) process command) (is-up w on) run (command-outcome w process command run)))
-  call-tells w process command (found log) reply new run never = absurd never
-  call-tells w process command (full log) reply new run never = absurd never
+      (subst (GoesOn w) (sym becomes) (goes-interrupted w (decide (present w) process command) (is-up w on) run (command-outcome w process command left run)))
+  call-tells w process command (found log) reply new left run never = absurd never
+  call-tells w process command (worn log) reply new left run never = absurd never
 
   -- the passing of time
-  tick-goes : (w : World) (ms : ℕ) (step : Step) (reply : Reply) (new : World) → IsRunning w → CallDoes w (decide_tick (present w) ms) step reply new → (new ≡ goes w (Some (Tick ms)) step) × GoesOn w new
-  tick-goes w ms answered reply new run (says, becomes) = (becomes, go w.power refl)
+  tick-goes : (w : World) (ms : ℕ) (step : Step) (reply : Reply) (new : World) → HasEventsLeft (present w) → IsRunning w → CallDoes w (decide_tick (present w) ms) step reply new → (new ≡ goes w (Some (Tick ms)) step) × GoesOn w new
+  tick-goes w ms answered reply new left run (says, becomes) = (becomes, go w.power refl)
     where
       go : (power : Power) → w.power ≡ power → GoesOn w new
-      go up on = subst (GoesOn w) (sym becomes) (goes-extend w (decide_tick (present w) ms) on run (tick-outcome w ms run))
+      go up on = subst (GoesOn w) (sym becomes) (goes-extend w (decide_tick (present w) ms) on run (tick-outcome w ms left run))
       go (down may) off = goes-same w new (becomes ∙ refusals.1 w ms (ap is_up off)) run
-  tick-goes w ms interrupted reply new run (on, says, becomes) = (becomes, subst (GoesOn w) (sym becomes) (goes-interrupted w (decide_tick (present w) ms) (is-up w on) run (tick-outcome w ms run)))
-  tick-goes w ms (found log) reply new run never = absurd never
-  tick-goes w ms (full log) reply new run never = absurd never
+  tick-goes w ms interrupted reply new left run (on, says, becomes) = (becomes, subst (GoesOn w) (sym becomes) (goes-interrupted w (decide_tick (present w) ms) (is-up w on) run (tick-outcome w ms left run)))
+  tick-goes w ms (found log) reply new left run never = absurd never
+  tick-goes w ms (worn log) reply new left run never = absurd never
 
   -- ---- losses of power and restarts
 
@@ -547,7 +535,7 @@ module _ (refusals : RefusalLaw) (courses : CoursesLaw) (outcomes : OutcomesLaw)
   crash-tells true w answered reply new run (says, becomes) = (becomes, subst (GoesOn w) (sym becomes) (crash-goes w run))
   crash-tells true w interrupted reply new run never = absurd never
   crash-tells true w (found log) reply new run never = absurd never
-  crash-tells true w (full log) reply new run never = absurd never
+  crash-tells true w (worn log) reply new run never = absurd never
   crash-tells false w step reply new run does = let same = answered-same w (Refused MachineDown) step reply new does in (same, goes-same w new same run)
 
   -- of a machine that is down each possible log does not deny what was told
@@ -558,17 +546,8 @@ module _ (refusals : RefusalLaw) (courses : CoursesLaw) (outcomes : OutcomesLaw)
       go up on = absurd (true≢false (sym (ap is_up on) ∙ off))
       go (down may) is = subst (λ p. list_all (may_tell_log w id k) (possible_by p w.kept w.log) ≡ true) (sym is) (subst (λ p. PastBy p w id k) is past)
 
-  may-restart : (w : World) (id : Id) (k : Bool) (l : List Group) → may_tell_log w id k l ≡ true → may_tell_log w id k (l ++ own_group (stand w.base l) ∷ []) ≡ true
-  may-restart w id k l may = elim (cases_Bool (nat_le (log_size (l ++ own_group (stand w.base l) ∷ [])) w.room)) [
-    | inr over ↦ or_left _ _ (not_from_false _ over)
-    | inl fits ↦
-        let all = log_size-append l (own_group (stand w.base l) ∷ []) in
-        let enough = leb-true _ _ fits in
-        elim (or_cases (not (nat_le (log_size l) w.room)) (may_tell id k (stand w.base l)) may) [
-          | inl over ↦ absurd (true≢false (sym (le-leb _ _ (omega (arith, all, enough))) ∙ not-true _ over))
-          | inr is ↦ or_right _ _ (subst (λ s. may_tell id k s ≡ true) (sym (stand-append w.base l (own_group (stand w.base l) ∷ []))) (may-own id k (stand w.base l) is))
-        ]
-  ]
+  may-restart : (w : World) (id : Id) (k : Bool) (l : List Group) → may_tell_log w id k l ≡ true → may_tell_log w id k (with_own w l) ≡ true
+  may-restart w id k l may = subst (λ s. may_tell id k s ≡ true) (sym (stand-append w.base l (own_group (stand w.base l) ∷ []))) (may-own id k (stand w.base l) may)
 
   start-goes : (w : World) (step : Step) (reply : Reply) (new : World) → is_up w.power ≡ false → IsRunning w → StartDoes w step reply new → (new ≡ restart_goes w step) × GoesOn w new
   start-goes w answered reply new off run never = absurd never
@@ -576,28 +555,20 @@ module _ (refusals : RefusalLaw) (courses : CoursesLaw) (outcomes : OutcomesLaw)
     becomes,
     subst (GoesOn w) (sym becomes) (record {
       run = worlds.interrupted_restarts w run;
-      past = λ id k past. left-restart (may_tell_log w id k) w (may-restart w id k) (possible_logs w) (past-logs w off id k past);
+      past = λ id k past. left-restart (may_tell_log w id k) w (λ l fresh may. may-restart w id k l may) (possible_logs w) (past-logs w off id k past);
     }),
   )
   start-goes w (found log) reply new off run (finds, says, becomes) = (
     becomes,
     subst (GoesOn w) (sym becomes) (record {
       run = worlds.restarts w log finds run;
-      past = λ id k past.
-          let may = contains-passes (may_tell_log w id k) (possible_logs w) log (past-logs w off id k past) finds.possible in
-          let enough = room-for (w.room - log_size log) (own_group (stand w.base log)) finds.room in
-          let frame = own-frame (stand w.base log) in
-          let one = sum_by-cons frame_size (own_group (stand w.base log)) [] in
-          opened-now w log id k (elim (or_cases (not (nat_le (log_size log) w.room)) (may_tell id k (stand w.base log)) may) [
-            | inl over ↦ absurd (true≢false (sym (le-leb _ _ (omega (arith, enough, frame, one))) ∙ not-true _ over))
-            | inr is ↦ is
-          ]);
+      past = λ id k past. opened-now w log id k (contains-passes (may_tell_log w id k) (possible_logs w) log (past-logs w off id k past) finds.possible);
     }),
   )
-  start-goes w (full log) reply new off run (finds, says, becomes) = (
+  start-goes w (worn log) reply new off run (finds, says, becomes) = (
     becomes,
     subst (GoesOn w) (sym becomes) (record {
-      run = worlds.full_restarts w log finds run;
+      run = worlds.worn_restarts w log finds run;
       past = λ id k past. and_from _ _ (contains-passes (may_tell_log w id k) (possible_logs w) log (past-logs w off id k past) finds.possible) refl;
     }),
   )
@@ -606,53 +577,56 @@ module _ (refusals : RefusalLaw) (courses : CoursesLaw) (outcomes : OutcomesLaw)
   restart-goes true w answered reply new is run (says, becomes) = (becomes, goes-same w new becomes run)
   restart-goes true w interrupted reply new is run never = absurd never
   restart-goes true w (found log) reply new is run never = absurd never
-  restart-goes true w (full log) reply new is run never = absurd never
+  restart-goes true w (worn log) reply new is run never = absurd never
   restart-goes false w step reply new off run does = start-goes w step reply new off run does
 
   -- ---- every line
 
-  line-tells : (w : World) (line : Option Line) (step : Step) (reply : Reply) (new : World) → IsRunning w → Does w line step reply new → LineTells w line step reply new
-  line-tells w (Some (Process process command)) step reply new run does = call-tells w process command step reply new run does
-  line-tells w (Some (Tick ms)) step reply new run does = let next = tick-goes w ms step reply new run does in told-nothing w (Some (Tick ms)) step reply new next.0 refl next.1
-  line-tells w (Some (Cut calls)) step reply new run does = let same = answered-same w Done step reply new does in told-nothing w (Some (Cut calls)) step reply new same refl (goes-same w new same run)
-  line-tells w (Some Crash) step reply new run does = let next = crash-tells (is_up w.power) w step reply new run does in told-nothing w (Some Crash) step reply new next.0 refl next.1
-  line-tells w (Some (Restart pick)) step reply new run does = let next = restart-goes (is_up w.power) w step reply new refl run does in told-nothing w (Some (Restart pick)) step reply new next.0 refl next.1
-  line-tells w None step reply new run does = let same = answered-same w (Refused BadLine) step reply new does in told-nothing w None step reply new same refl (goes-same w new same run)
+  line-tells : (w : World) (line : Option Line) (step : Step) (reply : Reply) (new : World) → HasEventsLeft (present w) → IsRunning w → Does w line step reply new → LineTells w line step reply new
+  line-tells w (Some (Process process command)) step reply new left run does = call-tells w process command step reply new left run does
+  line-tells w (Some (Tick ms)) step reply new left run does = let next = tick-goes w ms step reply new left run does in told-nothing w (Some (Tick ms)) step reply new next.0 refl next.1
+  line-tells w (Some (Cut calls)) step reply new left run does = let same = answered-same w Done step reply new does in told-nothing w (Some (Cut calls)) step reply new same refl (goes-same w new same run)
+  line-tells w (Some Crash) step reply new left run does = let next = crash-tells (is_up w.power) w step reply new run does in told-nothing w (Some Crash) step reply new next.0 refl next.1
+  line-tells w (Some (Restart pick)) step reply new left run does = let next = restart-goes (is_up w.power) w step reply new refl run does in told-nothing w (Some (Restart pick)) step reply new next.0 refl next.1
+  line-tells w None step reply new left run does = let same = answered-same w (Refused BadLine) step reply new does in told-nothing w None step reply new same refl (goes-same w new same run)
 
   -- ---- whole transcripts
 
   -- what a transcript tells of a transaction agrees with what was told of it before
-  past-told : (w : World) (lines : List (Option Line)) (steps : List Step) (replies : List Reply) (new : World) (a : Telling) → IsRunning w → Transcript w lines steps replies new
+  past-told : (w : World) (lines : List (Option Line)) (steps : List Step) (replies : List Reply) (new : World) (a : Telling) → IsRunning w → LastsFor (length lines) w → Transcript w lines steps replies new
       → Past w a.transaction a.has_committed → AllByRecursion (Agree a) (tellings w lines steps replies)
-  past-told w [] [] [] new a run does past = tt
-  past-told w [] [] (reply ∷ replies) new a run never past = absurd never
-  past-told w [] (step ∷ steps) replies new a run never past = absurd never
-  past-told w (line ∷ lines) [] replies new a run never past = absurd never
-  past-told w (line ∷ lines) (step ∷ steps) [] new a run never past = absurd never
-  past-told w (line ∷ lines) (step ∷ steps) (reply ∷ replies) new a run (mid, does, more) past =
-      let first = line-tells w line step reply mid run does in
+  past-told w [] [] [] new a run lasts does past = tt
+  past-told w [] [] (reply ∷ replies) new a run lasts never past = absurd never
+  past-told w [] (step ∷ steps) replies new a run lasts never past = absurd never
+  past-told w (line ∷ lines) [] replies new a run lasts never past = absurd never
+  past-told w (line ∷ lines) (step ∷ steps) [] new a run lasts never past = absurd never
+  past-told w (line ∷ lines) (step ∷ steps) (reply ∷ replies) new a run lasts (mid, does, more) past =
+      let all = lasts-behind w line lines lasts in
+      let first = line-tells w line step reply mid (left-from w (length lines) all) run does in
       let still = first.past a.transaction a.has_committed past in
-      let rest = past-told mid lines steps replies new a first.run more still in
+      let rest = past-told mid lines steps replies new a first.run (worlds.lasts w line step reply mid (length lines) does run all) more still in
       all-append (Agree a) (line_tells w line reply) (tellings (goes w line step) lines steps replies) (now-agrees mid a first.run still (line_tells w line reply) first.truly)
       (subst (λ (v : World). AllByRecursion (Agree a) (tellings v lines steps replies)) first.next rest)
 
-  each-told : (w : World) (lines : List (Option Line)) (steps : List Step) (replies : List Reply) (new : World) → IsRunning w → Transcript w lines steps replies new
+  each-told : (w : World) (lines : List (Option Line)) (steps : List Step) (replies : List Reply) (new : World) → IsRunning w → LastsFor (length lines) w → Transcript w lines steps replies new
       → (told : List Telling) → AllByRecursion (λ a. TellsNow w a) told → AllByRecursion (λ a. AllByRecursion (Agree a) (tellings w lines steps replies)) told
-  each-told w lines steps replies new run does [] all = tt
-  each-told w lines steps replies new run does (a ∷ told) all =
-      (past-told w lines steps replies new a run does (now-past w a.transaction a.has_committed all.0.on (inl all.0.so)), each-told w lines steps replies new run does told all.1)
+  each-told w lines steps replies new run lasts does [] all = tt
+  each-told w lines steps replies new run lasts does (a ∷ told) all =
+      (past-told w lines steps replies new a run lasts does (now-past w a.transaction a.has_committed all.0.on (inl all.0.so)), each-told w lines steps replies new run lasts does told all.1)
 
-  all-agree : (w : World) (lines : List (Option Line)) (steps : List Step) (replies : List Reply) (new : World) → IsRunning w → Transcript w lines steps replies new → AllAgree (tellings w lines steps replies)
-  all-agree w [] [] [] new run does = tt
-  all-agree w [] [] (reply ∷ replies) new run never = absurd never
-  all-agree w [] (step ∷ steps) replies new run never = absurd never
-  all-agree w (line ∷ lines) [] replies new run never = absurd never
-  all-agree w (line ∷ lines) (step ∷ steps) [] new run never = absurd never
-  all-agree w (line ∷ lines) (step ∷ steps) (reply ∷ replies) new run (mid, does, more) =
-      let first = line-tells w line step reply mid run does in
+  all-agree : (w : World) (lines : List (Option Line)) (steps : List Step) (replies : List Reply) (new : World) → IsRunning w → LastsFor (length lines) w → Transcript w lines steps replies new → AllAgree (tellings w lines steps replies)
+  all-agree w [] [] [] new run lasts does = tt
+  all-agree w [] [] (reply ∷ replies) new run lasts never = absurd never
+  all-agree w [] (step ∷ steps) replies new run lasts never = absurd never
+  all-agree w (line ∷ lines) [] replies new run lasts never = absurd never
+  all-agree w (line ∷ lines) (step ∷ steps) [] new run lasts never = absurd never
+  all-agree w (line ∷ lines) (step ∷ steps) (reply ∷ replies) new run lasts (mid, does, more) =
+      let all = lasts-behind w line lines lasts in
+      let first = line-tells w line step reply mid (left-from w (length lines) all) run does in
+      let rest = worlds.lasts w line step reply mid (length lines) does run all in
       subst (λ (v : World). AllAgree (line_tells w line reply ++ tellings v lines steps replies)) first.next
       (agree-append mid first.run (line_tells w line reply) (tellings mid lines steps replies) first.truly
-      (each-told mid lines steps replies new first.run more (line_tells w line reply) first.truly) (all-agree mid lines steps replies new first.run more))
+      (each-told mid lines steps replies new first.run rest more (line_tells w line reply) first.truly) (all-agree mid lines steps replies new first.run rest more))
 
   pub one_outcome_law : OneOutcomeLaw
-  one_outcome_law w lines steps replies new run does = all-one (tellings w lines steps replies) (all-agree w lines steps replies new run does)
+  one_outcome_law w lines steps replies new run lasts does = all-one (tellings w lines steps replies) (all-agree w lines steps replies new run lasts does)

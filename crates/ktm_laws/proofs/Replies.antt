@@ -1,7 +1,7 @@
 -- What a command tells of the outcome of a transaction is so then.
-use Rattle.std.specs.Prelude.{if◌then◌else◌, bytes_eq, find, ⊤}
+use Rattle.std.specs.Prelude.{if◌then◌else◌, bytes_eq, find}
 use Rattle.std.proofs.Common.{◌≡◌, ℕ, ◌&&◌, ◌||◌, not, Bool, true, false, List, [], ◌∷◌, ◌++◌, Option, Some, None, is_none, option_and_then, option_map, refl, sym, ◌∙◌, ap, subst, arith, inl, inr, ◌⊎◌}
-use Rattle.std.proofs.lemmas.Bool.{cases_Bool, and_parts, leb-true, or_cases, or_from, true≢false}
+use Rattle.std.proofs.lemmas.Bool.{cases_Bool, and_parts, leb-true, or_cases, true≢false}
 use Rattle.std.proofs.lemmas.Option.{none-some, same_Some}
 use Rattle.std.proofs.lemmas.Slice.Eq.{bytes_eq-Decides}
 use Rattle.std.specs.List.{AllByRecursion, list_all}
@@ -11,7 +11,7 @@ use Rattle.ktm_base.specs.declared.id.ObjectKind.{ObjectKind}
 use Rattle.ktm_base.specs.declared.id.Pid.{Pid}
 use Rattle.ktm_base.specs.declared.notify.Notify.{Notify}
 use Rattle.ktm_base.specs.declared.refusal.Refusal.{Refusal}
-use Rattle.ktm_base.specs.declared.refusal.Refusal.TheVariants.{LogFull, MachineDown, InvalidParameter, TransactionNotActive, TransactionSuperiorExists, TransactionRequestNotValid}
+use Rattle.ktm_base.specs.declared.refusal.Refusal.TheVariants.{MachineDown, InvalidParameter, TransactionNotActive, TransactionSuperiorExists, TransactionRequestNotValid}
 use Rattle.ktm_base.specs.Guid.{IsId, guid_of}
 use Rattle.ktm_base.proofs.offered.GuidLemmas.{id_read}
 use Rattle.ktm_types.specs.declared.command.Command.{Command}
@@ -31,7 +31,7 @@ use Rattle.ktm_types.specs.declared.options.EnlistmentKind.{EnlistmentKind}
 use Rattle.ktm_types.specs.declared.options.ShareMode.{ShareMode}
 use Rattle.ktm_types.specs.declared.reply.Reply.{Reply}
 use Rattle.ktm_types.specs.declared.reply.Reply.TheVariants.{Refused, Done, Committed, Pending, Notification}
-use Rattle.ktm_world.specs.Decide.{decide, caller, command_tests, command_effect, refusal_of, with_room, of_files, opening, on_file, on_file_tests, own_tests, bound_file}
+use Rattle.ktm_world.specs.Decide.{decide, caller, command_tests, command_effect, refusal_of, of_files, opening, on_file, on_file_tests, own_tests, bound_file}
 use Rattle.ktm_world.specs.Enlistments.{Enlistment, Manager, Note, is_ended}
 use Rattle.ktm_world.specs.FileCalls.{create_act, create_at, create_file, create_file_tests, read_file, read_file_tests, write_file, write_file_tests, set_end, set_end_tests, get_size, flush_file, delete_act, drop_at, delete_file, delete_file_tests, make_act, make_at, create_directory, create_directory_tests, remove_act, remove_directory, remove_directory_tests, move_act, move_at, move_file, move_file_tests, find_files, find_files_tests, find_path, conflict_test, write_access_test, Whereabouts, no_path, no_way, free, at_root, at_node}
 use Rattle.ktm_world.specs.FileOutcome.{FileOutcome, FileRoom}
@@ -43,7 +43,7 @@ use Rattle.ktm_world.specs.KeyCalls.{reply_of_value, kv_set_tests, kv_unset_test
 use Rattle.ktm_world.specs.Keys.{value_seen}
 use Rattle.ktm_world.specs.Labels.{is_bound, transaction_named, manager_named, enlistment_named, file_named, transaction_tests, outcome_tests, invalid_handle, holds_of, viewer, view_tests, file_tests}
 use Rattle.ktm_world.specs.OneOutcome.{told_by, told_outcome, told_of_named, transaction_label, view_label}
-use Rattle.ktm_world.specs.Outcome.{Outcome, apply, only_reply, refuse_or, first_refusal, is_full, within_log}
+use Rattle.ktm_world.specs.Outcome.{Outcome, apply, only_reply, refuse_or, first_refusal}
 use Rattle.ktm_world.specs.Phases.{Course}
 use Rattle.ktm_world.specs.Present.{Present}
 use Rattle.ktm_world.specs.Steps.{led, share_of}
@@ -64,7 +64,6 @@ use Rattle.ktm_courses.proofs.offered.NewObjects.{counted-parts}
 use Rattle.ktm_courses.proofs.offered.Moves.{same-by_id}
 use Rattle.ktm_courses.proofs.offered.Outcomes.{changed-itself}
 use Rattle.txf_laws.proofs.offered.Tables.{same_id-from}
-use Rattle.ktm_courses.proofs.offered.HandlesAndTime.{Closes, close_handle-so, exit-so}
 use Rattle.ktm_steps.proofs.offered.Ways.{if_cases}
 
 -- ---- what is told of a transaction
@@ -94,13 +93,11 @@ is_note _ = false
 pub record Replies (x : Present) (named : Option Id) (o : Outcome) : Type 0 where
   pub told : (id : Id) (k : Bool) → named ≡ Some id → told_of_named o.reply ≡ Some k → HasOutcome o.transactions.items id k
   pub noted : (kind : Notify) (guid : List ℕ) (id : Id) (k : Bool) → o.reply ≡ Notification kind (Some guid) → told_by kind ≡ Some k → enlisted_in x guid ≡ Some id → HasOutcome o.transactions.items id k
-  pub stops : o.stops ≡ true → (told_of_named o.reply ≡ None) × (is_note o.reply ≡ false)
 
--- nothing is told, and the machine goes on
+-- nothing is told
 record Silent (o : Outcome) : Type 0 where
   told : told_of_named o.reply ≡ None
   plain : is_note o.reply ≡ false
-  on : o.stops ≡ false
 
 no-note : (reply : Reply) (kind : Notify) (guid : Option (List ℕ)) → is_note reply ≡ false → reply ≡ Notification kind guid → ⊥
 no-note reply kind guid plain is = true≢false (sym (ap is_note is) ∙ plain)
@@ -109,14 +106,13 @@ silent-replies : (x : Present) (named : Option Id) (o : Outcome) → Silent o �
 silent-replies x named o silent = record {
   told = λ id k is tells. absurd (none-some k (sym silent.told ∙ tells));
   noted = λ kind guid id k is tells found. absurd (no-note o.reply kind (Some guid) silent.plain is);
-  stops = λ is. absurd (true≢false (sym is ∙ silent.on));
 }
 
 silent-arrived : (x : Present) (d : Course) (reply : Reply) → told_of_named reply ≡ None → is_note reply ≡ false → Silent (arrived x d reply)
-silent-arrived x d reply told plain = if_cases (λ o. Silent o) (is_undecided d.transaction) _ _ (λ is. record { told = told; plain = plain; on = refl }) (λ is. record { told = told; plain = plain; on = refl })
+silent-arrived x d reply told plain = if_cases (λ o. Silent o) (is_undecided d.transaction) _ _ (λ is. record { told = told; plain = plain }) (λ is. record { told = told; plain = plain })
 
 silent-done : (x : Present) → Silent (only_reply x Done)
-silent-done x = record { told = refl; plain = refl; on = refl }
+silent-done x = record { told = refl; plain = refl }
 
 silent-answering : (x : Present) (o : Option Enlistment) (input : Enlistment → PhaseInput) → Silent (answering x o input)
 silent-answering x o input = of-answering Silent x o input (silent-done x) (λ e is t there own found. silent-arrived x (led (input e) (course_of x t (Some e))) Done refl refl)
@@ -125,12 +121,12 @@ silent-opening : (x : Present) (process : Pid) (label : Label) (who : Option Id)
 silent-opening x process label who o told plain = go o.opened
   where
     go : (opened : Option OpenFile) → Silent (bound_file process label opened (of_files x who o))
-    go None = record { told = told; plain = plain; on = refl }
-    go (Some file) = record { told = told; plain = plain; on = refl }
+    go None = record { told = told; plain = plain }
+    go (Some file) = record { told = told; plain = plain }
 
 silent-on_file : (x : Present) (o : Option OpenFile) (call : OpenFile → FileOutcome) → ((f : OpenFile) → told_of_named (call f).reply ≡ None) → ((f : OpenFile) → is_note (call f).reply ≡ false) → Silent (on_file x o call)
 silent-on_file x None call told plain = silent-done x
-silent-on_file x (Some o) call told plain = record { told = told o; plain = plain o; on = refl }
+silent-on_file x (Some o) call told plain = record { told = told o; plain = plain o }
 
 -- what calls on files answer
 record SaysNothing (o : FileOutcome) : Type 0 where
@@ -138,7 +134,7 @@ record SaysNothing (o : FileOutcome) : Type 0 where
   plain : is_note o.reply ≡ false
 
 silent-file : (x : Present) (who : Option Id) (o : FileOutcome) → SaysNothing o → Silent (of_files x who o)
-silent-file x who o says = record { told = says.told; plain = says.plain; on = refl }
+silent-file x who o says = record { told = says.told; plain = says.plain }
 
 says-create : (files : FilesNow) (who : Option Id) (w : Whereabouts) (access : Access) (mode : ShareMode) (d : Disposition) → SaysNothing (create_at files who w access mode d)
 says-create files who no_path access mode d = record { told = refl; plain = refl }
@@ -207,61 +203,50 @@ silent-rollback x (Some t) = silent-arrived x (led PhaseInput.Rollback (course_o
 
 silent-open : (x : Present) (process : Pid) (label : Label) (o : Option Transaction) → Silent (open_to_transaction x process label o)
 silent-open x process label None = silent-done x
-silent-open x process label (Some t) = record { told = refl; plain = refl; on = refl }
+silent-open x process label (Some t) = record { told = refl; plain = refl }
 
 silent-open_manager : (x : Present) (process : Pid) (label : Label) (o : Option Manager) → Silent (open_to_manager x process label o)
 silent-open_manager x process label None = silent-done x
-silent-open_manager x process label (Some m) = record { told = refl; plain = refl; on = refl }
+silent-open_manager x process label (Some m) = record { told = refl; plain = refl }
 
 silent-open_enlistment : (x : Present) (process : Pid) (label : Label) (o : Option Enlistment) → Silent (open_to_enlistment x process label o)
 silent-open_enlistment x process label None = silent-done x
-silent-open_enlistment x process label (Some e) = record { told = refl; plain = refl; on = refl }
+silent-open_enlistment x process label (Some e) = record { told = refl; plain = refl }
 
 silent-bind : (x : Present) (process : Pid) (label : Label) (o : Option Object) → Silent (bind_to x process label o)
 silent-bind x process label None = silent-done x
-silent-bind x process label (Some object) = record { told = refl; plain = refl; on = refl }
+silent-bind x process label (Some object) = record { told = refl; plain = refl }
 
 silent-recover : (x : Present) (o : Option Manager) → Silent (recover_all x o)
 silent-recover x None = silent-done x
-silent-recover x (Some m) = record { told = refl; plain = refl; on = refl }
+silent-recover x (Some m) = record { told = refl; plain = refl }
 
 silent-enlist : (x : Present) (process : Pid) (label : Label) (m : Option Manager) (t : Option Transaction) (kind : EnlistmentKind) → Silent (enlist x process label m t kind)
-silent-enlist x process label (Some m) (Some t) kind = record { told = refl; plain = refl; on = refl }
+silent-enlist x process label (Some m) (Some t) kind = record { told = refl; plain = refl }
 silent-enlist x process label None t kind = silent-done x
 silent-enlist x process label (Some m) None kind = silent-done x
 
 silent-keep : (x : Present) (o : Option Enlistment) (information : List ℕ) → Silent (keep_information x o information)
 silent-keep x None information = silent-done x
-silent-keep x (Some e) information = record { told = refl; plain = refl; on = refl }
+silent-keep x (Some e) information = record { told = refl; plain = refl }
 
 silent-contents : (x : Present) (o : Option Enlistment) → Silent (only_reply x (information_in o))
 silent-contents x None = silent-done x
-silent-contents x (Some e) = record { told = refl; plain = refl; on = refl }
+silent-contents x (Some e) = record { told = refl; plain = refl }
 
 -- ---- handles
 
-on-closing : Closes (λ x. ⊤) (λ x o. o.stops ≡ false)
-on-closing = record {
-  rolls = record {
-    reply = λ x asked. refl;
-    rolls = λ x t asked there can. (silent-arrived x (led PhaseInput.Rollback (course_of x t None)) Done refl refl).on;
-    goes_on = λ x a next first second. or_from a.stops (next (apply x a)).stops first (second tt);
-  };
-  unbinds = λ x process label asked. refl;
-  ends = λ x number asked. refl;
-}
-
 silent-close : (x : Present) (process : Pid) (label : Label) → Silent (close_handle x process label)
 unfolding close_handle
-silent-close x process label = record { told = refl; plain = refl; on = close_handle-so _ _ on-closing x process label tt }
+silent-close x process label = record { told = refl; plain = refl }
 
 silent-exit : (x : Present) (process : Pid) → Silent (exit x process)
 unfolding exit close_handle
-silent-exit x process = go (labels_of x.handles process) (exit-so _ _ on-closing x process tt)
+silent-exit x process = go (labels_of x.handles process)
   where
-    go : (labels : List Label) → (closed_in_turn x process labels).stops ≡ false → Silent (closed_in_turn x process labels)
-    go [] on = record { told = refl; plain = refl; on = on }
-    go (label ∷ labels) on = record { told = refl; plain = refl; on = on }
+    go : (labels : List Label) → Silent (closed_in_turn x process labels)
+    go [] = record { told = refl; plain = refl }
+    go (label ∷ labels) = record { told = refl; plain = refl }
 
 -- ---- refusals
 
@@ -486,10 +471,10 @@ is_silent _ = true
 
 silent-effect : (x : Present) (process : Pid) (command : Command) → is_silent command ≡ true → Silent (command_effect x process command)
 unfolding create_transaction open_transaction rollback_transaction create_resource_manager open_resource_manager recover_resource_manager create_enlistment open_enlistment pre_prepare_complete prepare_complete read_only_enlistment commit_complete rollback_complete single_phase_reject rollback_enlistment pre_prepare_enlistment prepare_enlistment commit_enlistment recover_enlistment set_information get_information duplicate_handle read_file set_end get_size find_files
-silent-effect x process (CreateTransaction label timeout) is = record { told = refl; plain = refl; on = refl }
+silent-effect x process (CreateTransaction label timeout) is = record { told = refl; plain = refl }
 silent-effect x process (OpenTransaction label guid) is = silent-open x process label (transaction_with x guid)
 silent-effect x process (RollbackTransaction label) is = silent-rollback x (transaction_named x process label)
-silent-effect x process (CreateResourceManager label durability) is = record { told = refl; plain = refl; on = refl }
+silent-effect x process (CreateResourceManager label durability) is = record { told = refl; plain = refl }
 silent-effect x process (OpenResourceManager label guid) is = silent-open_manager x process label (manager_with x guid)
 silent-effect x process (RecoverResourceManager label) is = silent-recover x (manager_named x process label)
 silent-effect x process (CreateEnlistment label manager transaction kind) is = silent-enlist x process label (manager_named x process manager) (transaction_named x process transaction) kind
@@ -525,12 +510,12 @@ silent-effect x process (DeleteFileTransacted path transaction) is = let who = c
 silent-effect x process (CreateDirectoryTransacted path transaction) is = let who = caller x process transaction in silent-file x who (create_directory x.files who path) (file-make x.files who path)
 silent-effect x process (RemoveDirectoryTransacted path transaction) is = let who = caller x process transaction in silent-file x who (remove_directory x.files who path) (file-remove x.files who path)
 silent-effect x process (MoveFileTransacted source target transaction) is = let who = caller x process transaction in silent-file x who (move_file x.files who source target) (file-move x.files who source target)
-silent-effect x process (FindFiles searched) is = record { told = refl; plain = refl; on = refl }
-silent-effect x process (FindFilesTransacted searched transaction) is = record { told = refl; plain = refl; on = refl }
-silent-effect x process (KvSet transaction key value) is = record { told = refl; plain = refl; on = refl }
-silent-effect x process (KvUnset transaction key) is = record { told = refl; plain = refl; on = refl }
-silent-effect x process (KvGet view key) is = let value = silent-value (value_seen x.keys (viewer x process view) key) in record { told = value.0; plain = value.1; on = refl }
-silent-effect x process (KvList view) is = record { told = refl; plain = refl; on = refl }
+silent-effect x process (FindFiles searched) is = record { told = refl; plain = refl }
+silent-effect x process (FindFilesTransacted searched transaction) is = record { told = refl; plain = refl }
+silent-effect x process (KvSet transaction key value) is = record { told = refl; plain = refl }
+silent-effect x process (KvUnset transaction key) is = record { told = refl; plain = refl }
+silent-effect x process (KvGet view key) is = let value = silent-value (value_seen x.keys (viewer x process view) key) in record { told = value.0; plain = value.1 }
+silent-effect x process (KvList view) is = record { told = refl; plain = refl }
 silent-effect x process (CloseHandle label) is = silent-close x process label
 silent-effect x process (DuplicateHandle label from source) is = silent-bind x process label (object_at x.handles from source)
 silent-effect x process Exit is = silent-exit x process
@@ -559,12 +544,10 @@ module _ (x : Present) (sound : IsSoundCourse x) where
       go [] all = record {
         told = λ id k is tells. absurd (none-some k tells);
         noted = λ kind guid id k is tells found. absurd (no-note Done kind (Some guid) refl is);
-        stops = λ is. absurd (true≢false (sym is));
       }
       go (note ∷ rest) all = record {
         told = λ id k is tells. absurd (none-some k tells);
         noted = λ kind guid id k is tells found. noted note.enlistment refl kind guid id k is tells found;
-        stops = λ is. absurd (true≢false (sym is));
       }
         where
           noted : (o : Option Id) → note.enlistment ≡ o → (kind : Notify) (guid : List ℕ) (id : Id) (k : Bool) → Notification note.kind (option_map (guid_in x ObjectKind.Enlistment) o) ≡ Notification kind (Some guid) → told_by kind ≡ Some k
@@ -594,7 +577,6 @@ module _ (x : Present) (sound : IsSoundCourse x) where
           record {
             told = λ id k is tells. record { transaction = t; there = at.0; is = at.1 ∙ same_Some named id is; outcome = tells };
             noted = λ kind guid id k is tells found. absurd (no-note (information_of x (Some t)) kind (Some guid) refl is);
-            stops = λ is. absurd (true≢false (sym is));
           }
 
   commit-replies : (id : Option Id) → Passes (transaction_tests (option_and_then (transaction_at x.transactions.items) id)) → IsSoundCourse (apply x (commit_of x (option_and_then (transaction_at x.transactions.items) id)))
@@ -627,14 +609,12 @@ module _ (x : Present) (sound : IsSoundCourse x) where
               → IsSoundCourse (apply x (arrived x d (commit_reply d))) → Replies x (Some named) (arrived x d (commit_reply d))
           arrived-replies d outcome there is after' =
               let reply : (arrived x d (commit_reply d)).reply ≡ commit_reply d = if_cases (λ (o : Outcome). o.reply ≡ commit_reply d) (is_undecided d.transaction) _ _ (λ is. refl) (λ is. refl) in
-              let on : (arrived x d (commit_reply d)).stops ≡ false = if_cases (λ (o : Outcome). o.stops ≡ false) (is_undecided d.transaction) _ _ (λ is. refl) (λ is. refl) in
               let items : (arrived x d (commit_reply d)).transactions.items ≡ changed_to x.transactions.items d.transaction =
               if_cases (λ (o : Outcome). o.transactions.items ≡ changed_to x.transactions.items d.transaction) (is_undecided d.transaction) _ _ (λ is. refl) (λ is. refl) in
               let fits = list_all-at (λ (t : Transaction). is_outcome_of t.phase t) (arrived x d (commit_reply d)).transactions.items after'.transactions.outcomes d.transaction (subst (IsIn d.transaction) (sym items) there) in
               record {
                 told = λ id k same tells. subst (λ ts. HasOutcome ts id k) (sym items) (committed id k same (sym (ap told_of_named reply) ∙ tells) fits (cases_Bool (is_ended d.transaction.phase)));
                 noted = λ kind guid id k same tells found. absurd (no-note (commit_reply d) kind (Some guid) (plain (is_ended d.transaction.phase)) (sym reply ∙ same));
-                stops = λ is. absurd (true≢false (sym is ∙ on));
               }
             where
               plain : (b : Bool) → is_note (if b then Committed else Pending) ≡ false
@@ -674,25 +654,15 @@ module _ (courses : CoursesLaw) (x : Present) (sound : IsSoundCourse x) (notes :
   refused-replies named (Some refusal) effect backed after' = record {
     told = λ id k is tells. backed refusal refl id k is tells;
     noted = λ kind guid id k is tells found. absurd (no-note (Refused refusal) kind (Some guid) refl is);
-    stops = λ is. absurd (true≢false (sym is));
   }
-
-  logged-replies : (named : Option Id) (o : Outcome) → Replies x named o → Replies x named (within_log x o)
-  logged-replies named o is = if_cases (λ o. Replies x named o) (is_full x.machine.left o.events) _ o
-      (λ full. record {
-        told = λ id k is tells. absurd (none-some k tells);
-        noted = λ kind guid id k is tells found. absurd (no-note (Refused LogFull) kind (Some guid) refl is);
-        stops = λ is. (refl, refl);
-      })
-      (λ room. is)
 
   pub decided-replies : (process : Pid) (command : Command) → Replies x (named_id x process (transaction_label command)) (decide x process command)
   decided-replies process command =
       let named = named_id x process (transaction_label command) in
       let tests = (not x.machine.is_up, MachineDown) ∷ command_tests x process command in
-      logged-replies named (with_room x process command) (refused-replies named (refusal_of x process command) (command_effect x process command)
+      refused-replies named (refusal_of x process command) (command_effect x process command)
       (λ r is. first-backed x named tests r (quiet x named MachineDown (not x.machine.is_up) refl, tests-backed x process command) is)
       (λ none.
       let all : Passes tests = record { none = none } in
       effect-replies x sound process command notes (passed all).1
-      (subst (λ refusal. IsSoundCourse (apply x (refuse_or x refusal (command_effect x process command)))) none (courses.commands x process command sound))))
+      (subst (λ refusal. IsSoundCourse (apply x (refuse_or x refusal (command_effect x process command)))) none (courses.commands x process command sound)))

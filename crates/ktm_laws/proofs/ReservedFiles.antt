@@ -17,7 +17,7 @@ use Rattle.ktm_types.specs.declared.object.Object.TheVariants.{Transaction as Tr
 use Rattle.ktm_types.specs.declared.object.Transaction.{Transaction}
 use Rattle.ktm_types.specs.declared.options.EnlistmentKind.{EnlistmentKind}
 use Rattle.ktm_types.specs.declared.reply.Reply.{Reply}
-use Rattle.ktm_types.specs.declared.reply.Reply.TheVariants.{Done}
+use Rattle.ktm_types.specs.declared.reply.Reply.TheVariants.{Done, Refused}
 use Rattle.ktm_world.specs.Committed.{versions_after}
 use Rattle.ktm_world.specs.Changes.{changed}
 use Rattle.ktm_world.specs.Conflicts.{written_by, writes}
@@ -30,7 +30,7 @@ use Rattle.ktm_world.specs.HandleCalls.{bind_to, duplicate_handle, has_handle, i
 use Rattle.ktm_world.specs.Handles.{object_at}
 use Rattle.ktm_world.specs.Keys.{OwnSettings, own_settings}
 use Rattle.ktm_world.specs.Labels.{enlistment_named, file_named, file_number, manager_named, open_file_at, transaction_named}
-use Rattle.ktm_world.specs.Outcome.{Outcome, apply, committed_now, first_refusal, is_full, only_reply, refuse_or, within_log}
+use Rattle.ktm_world.specs.Outcome.{Outcome, apply, committed_now, first_refusal, only_reply, refuse_or}
 use Rattle.ktm_world.specs.Present.{Present}
 use Rattle.ktm_world.specs.TransactionCalls.{arrived, create_enlistment, create_resource_manager, create_transaction, enlist, enlistment_with, get_information, get_notification, get_transaction_information, keep_information, manager_with, open_enlistment, open_resource_manager, open_to_enlistment, open_to_manager, open_to_transaction, open_transaction, recover_all, recover_resource_manager, set_information, take_first, tick, transaction_with}
 use Rattle.ktm_world.specs.Transactions.{is_of, is_undecided, same_id}
@@ -335,25 +335,19 @@ module _ (lists : ListsLaw) (formed : FormedLaw) (calls : FileCallsLaw) (x : Pre
 
   -- ---- what is decided
 
-  -- where the log is full, or a call is refused, the files are as they were
-  decided : (P : Outcome → Type 0) → ((o : Outcome) → o.works ≡ [] → o.openings ≡ [] → o.forgotten ≡ [] → o.table ≡ x.files.table → P o) → (refusal : Option Refusal) (effect : Outcome) → (refusal ≡ None → P effect)
-      → P (within_log x (refuse_or x refusal effect))
-  decided P left refusal effect is = if_cases P (is_full x.machine.left (refuse_or x refusal effect).events) _ _ (λ full. left _ refl refl refl refl) (λ room. refused refusal is)
-    where
-      refused : (refusal : Option Refusal) → (refusal ≡ None → P effect) → P (refuse_or x refusal effect)
-      refused (Some refusal) is = left _ refl refl refl refl
-      refused None is = is refl
+  -- where a call is refused, the files are as they were
+  decided : (P : Outcome → Type 0) → ((reply : Reply) → P (only_reply x reply)) → (refusal : Option Refusal) (effect : Outcome) → (refusal ≡ None → P effect) → P (refuse_or x refusal effect)
+  decided P left (Some refusal) effect is = left (Refused refusal)
+  decided P left None effect is = is refl
 
   left-command : (process : Pid) (command : Command) → is_by x process command id ≡ false → Leaves (decide x process command)
-  left-command process command other = decided Leaves (λ o works openings forgotten table after. leaves o works openings forgotten table) (refusal_of x process command) (command_effect x process command) (λ none. effect process command none other)
+  left-command process command other = decided Leaves (λ reply after. replies reply) (refusal_of x process command) (command_effect x process command) (λ none. effect process command none other)
 
   left-closing : (process : Pid) (command : Command) → closes_handles command ≡ true → LeavesRest process (decide x process command)
-  left-closing process command closes = decided (LeavesRest process)
-      (λ o works openings forgotten table after. subst (λ (t : FileTable). IsLeft (with_opens x.files t.opens) (apply x o).files id) (sym table) (leaves o works openings forgotten table))
-      (refusal_of x process command) (command_effect x process command) (λ none. closing process command closes)
+  left-closing process command closes = decided (LeavesRest process) (λ reply after. replies reply) (refusal_of x process command) (command_effect x process command) (λ none. closing process command closes)
 
   left-tick : (ms : ℕ) → Leaves (decide_tick x ms)
-  left-tick ms = decided Leaves (λ o works openings forgotten table after. leaves o works openings forgotten table) (first_refusal ((not x.machine.is_up, MachineDown) ∷ [])) (tick x ms) (λ none after.
+  left-tick ms = decided Leaves (λ reply after. replies reply) (first_refusal ((not x.machine.is_up, MachineDown) ∷ [])) (tick x ms) (λ none after.
       let q = (still-tick true id x ms).quiet kept.sound.course.transactions.rise after in
       left-written x.files (apply x (tick x ms)).files id (q.written refl)
       (left-idle lists x sound id (tick x ms) (record { openings = q.untouched.openings; forgotten = q.untouched.forgotten; own = q.untouched.own }) q.works))

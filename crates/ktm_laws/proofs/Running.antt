@@ -1,9 +1,8 @@
 -- Every world of a run is such a world, and such a world is lawful.
-use Rattle.std.proofs.Common.{◌≡◌, ℕ, ◌-◌, ◌≤◌, ◌&&◌, not, Bool, true, false, List, [], ◌∷◌, ◌++◌, length, drop, nat_le, Option, Some, None, refl, sym, ◌∙◌, ap, subst, arith, inl, inr, ◌⊎◌}
+use Rattle.std.proofs.Common.{◌≡◌, ℕ, ◌+◌, ◌≤◌, ◌&&◌, not, Bool, true, false, List, [], ◌∷◌, ◌++◌, length, drop, Option, Some, None, refl, sym, ◌∙◌, ap, subst, arith, inl, inr, ◌⊎◌}
 use Rattle.std.proofs.Math.Bool.{and_assoc}
-use Rattle.std.proofs.lemmas.Bool.{cases_Bool, and_from, and_parts, or_cases, or_left, or_right, le-leb, leb-true, not-true, not_from_false, true≢false}
+use Rattle.std.proofs.lemmas.Bool.{and_from, and_parts, or_cases, or_left, or_right, not-true, true≢false}
 use Rattle.std.proofs.lemmas.List.Folds.{list_all-append}
-use Rattle.std.proofs.lemmas.List.Sums.{sum_by-cons}
 use Rattle.std.specs.List.{list_any, list_all}
 use Rattle.ktm_base.specs.declared.id.Pid.{Pid}
 use Rattle.ktm_types.specs.declared.command.Command.{Command}
@@ -11,7 +10,6 @@ use Rattle.ktm_types.specs.declared.command.Line.{Line}
 use Rattle.ktm_types.specs.declared.command.Line.TheVariants.{Tick, Cut, Crash, Restart, Process}
 use Rattle.ktm_types.specs.declared.event.Event.{Event}
 use Rattle.ktm_types.specs.declared.reply.Reply.{Reply}
-use Rattle.ktm_types.specs.Sizes.{frame_size, log_size}
 use Rattle.ktm_world.specs.Changes.{changes_apply}
 use Rattle.ktm_world.specs.Committed.{Committed, Work, with_work, committed_with}
 use Rattle.ktm_world.specs.Conflicts.{holds_now}
@@ -22,48 +20,40 @@ use Rattle.ktm_world.specs.Holds.{is_in}
 use Rattle.ktm_world.specs.Lawful.{Agrees, IsLawful, works_apply, ends_version, hold_apart, all_apart, others_undecided, undecided, is_fixed_last, is_alone}
 use Rattle.ktm_world.specs.Laws.{FirstOpensLaw, StepLaw}
 use Rattle.ktm_world.specs.Logs.{Group, down, is_up, as_groups}
-use Rattle.ktm_world.specs.Outcome.{Outcome, apply, is_full}
+use Rattle.ktm_world.specs.Outcome.{Outcome, apply}
 use Rattle.ktm_world.specs.Present.{Present}
-use Rattle.ktm_world.specs.Transcript.{Step, answered, interrupted, found, full, Finds, CallDoes, IsAnswered, CrashDoes, RestartDoes, Does, Transcript}
+use Rattle.ktm_world.specs.Transcript.{Step, answered, interrupted, found, worn, Finds, CallDoes, IsAnswered, CrashDoes, RestartDoes, Does, Transcript}
 use Rattle.ktm_world.specs.Uses.{changes_waiting, is_over_quota, is_over_disk}
-use Rattle.ktm_world.specs.World.{World, OpenedAfter, committed, first_open_now, present, extend, after, decide_tick, possible_logs, interrupted_by, crashed, own_group, interrupted_restart, found_full, opened}
-use Rattle.ktm_world.proofs.offered.Durables.{stand-append, stand-as_groups, log_applies-append, log_applies-as_groups}
-use Rattle.ktm_world.proofs.offered.SizeLemmas.{log_size-append}
+use Rattle.ktm_world.specs.World.{World, OpenedAfter, committed, first_open_now, present, extend, after, decide_tick, possible_logs, interrupted_by, crashed, interrupted_restart, found_worn, opened}
+use Rattle.ktm_world.proofs.offered.Durables.{after_events-events, stand-append, stand-as_groups, log_applies-append, log_applies-as_groups}
 use Rattle.ktm_records.specs.Agreement.{AgreeingLaw}
 use Rattle.txf_laws.specs.Elements.{IsIn}
 use Rattle.txf_laws.specs.Footprint.{ListsLaw}
 use Rattle.txf_laws.specs.Formed.{FormedLaw}
-use Rattle.ktm_states.specs.GoodState.{IsGoodState}
 use Rattle.ktm_states.specs.GoodStates.{GoodStatesLaw}
 use Rattle.ktm_states.specs.Grammatical.{names_objects, is_grammatical}
-use Rattle.ktm_records.specs.Kept.{IsWithin, are_carried_out, facts_apply, limits_hold}
+use Rattle.ktm_records.specs.Kept.{IsWithin, are_carried_out}
 use Rattle.ktm_courses.specs.NamedObjects.{NamedLaw}
 use Rattle.ktm_laws.specs.Notes.{AreNotesTrue, NotesLaw}
 use Rattle.ktm_states.specs.OwnGroup.{OwnGroupLaw}
 use Rattle.ktm_owned.specs.OwnKeys.{OwnKeysLaw}
 use Rattle.ktm_records.specs.RecordedFacts.{RecordedFactsLaw}
-use Rattle.ktm_laws.specs.Running.{IsRoomy, is_log_grammatical, is_good_log, is_last_since, IsRunning, LawfulWorldsLaw}
+use Rattle.ktm_records.specs.Spelling.{SpellingLaw, most_at_once}
+use Rattle.ktm_laws.specs.Running.{HasEventsLeft, LastsFor, is_log_grammatical, is_good_log, is_last_since, IsRunning, LawfulWorldsLaw}
 use Rattle.txf_laws.specs.SoundFiles.{files_apart, is_open_last, set_apart}
 use Rattle.ktm_records.specs.SoundWorlds.{IsSound, SoundWorldsLaw}
 use Rattle.ktm_limits.specs.LimitsKept.{AreVersionsFixed, LimitsLaw}
-use Rattle.ktm_laws.proofs.offered.LogCounts.{apply-from, groups-count, log-events, room-for, within-log, log-grows, own-grammatical, own-frame, own-applies}
+use Rattle.ktm_laws.proofs.offered.LogCounts.{apply-from, lasts-behind, left-from, own-counts}
 use Rattle.txf_laws.proofs.offered.Diamonds.{IsIn-map}
 use Rattle.txf_laws.proofs.offered.Elements.{list_all-at, list_all-from}
 use Rattle.ktm_laws.proofs.offered.PossibleLogs.{contains-passes, left-with, kept-all, left-extend, left-restart}
 use Rattle.ktm_laws.proofs.LastVersions.{last-extend}
 use Rattle.txf_laws.proofs.offered.CommitsOfOthers.{All-by}
 use Rattle.ktm_laws.proofs.Sayings.{puts_all}
-use Rattle.ktm_laws.proofs.offered.Starts.{good-log-from, running-opened}
+use Rattle.ktm_laws.proofs.offered.Starts.{good-restart, running-opened}
 use Rattle.ktm_laws.proofs.Written.{IsWritten, MakesNone, written-decided, written-ticked}
 
 -- ---- logs
-
--- a log that has room
-good-log-parts : (base : Durable) (room : ℕ) (log : List Group) → log_size log ≤ room → is_good_log base room log ≡ true → (is_log_grammatical log ≡ true) × (log_applies base log ≡ true)
-good-log-parts base room log fits good = elim (or_cases (not (nat_le (log_size log) room)) (is_log_grammatical log && log_applies base log) good) [
-  | inl over ↦ absurd (true≢false (sym (le-leb _ _ fits) ∙ not-true _ over))
-  | inr both ↦ and_parts (is_log_grammatical log) (log_applies base log) both
-]
 
 groups-grammatical : (log : List Group) (events : List Event) → is_log_grammatical log ≡ true → list_all is_grammatical events ≡ true → is_log_grammatical (log ++ as_groups events) ≡ true
 groups-grammatical log [] first second = list_all-append (λ (g : Group). list_all is_grammatical g) log [] ∙ and_from _ _ first refl
@@ -90,7 +80,6 @@ pub record IsTaken (w : World) (o : Outcome) : Type 0 where
   pub notes : AreNotesTrue (apply (present w) o)
   pub applies : events_apply w.recorded o.events ≡ true
   pub grammatical : list_all is_grammatical o.events ≡ true
-  pub fits : log_size (w.log ++ as_groups o.events) ≤ w.room
   pub written : IsWritten (present w) o
 
 within-falls : (w : World) (may : List (List Group)) → IsWithin (present w) → IsWithin (present (record w { power = down may }))
@@ -106,7 +95,6 @@ module _ (step : StepLaw) (openings : FirstOpensLaw) (lists : ListsLaw) (formed 
       ∙ and_from _ _ run.applies (log_applies-as_groups (stand w.base w.log) o.events ∙ ap (λ s. events_apply s o.events) run.comes_to ∙ taken.applies) in
       record {
         base = run.base;
-        roomy = run.roomy;
         openings = openings.1 w o run.openings;
         now = record {
           sound = taken.sound;
@@ -123,9 +111,8 @@ module _ (step : StepLaw) (openings : FirstOpensLaw) (lists : ListsLaw) (formed 
         grammatical = grammatical;
         applies = applies;
         comes_to = stand-append w.base w.log (as_groups o.events) ∙ stand-as_groups (stand w.base w.log) o.events ∙ ap (λ s. after_events s o.events) run.comes_to;
-        fits = taken.fits;
         kept = kept-all w.kept w.log o.events run.kept;
-        possible = left-extend (is_good_log w.base w.room) w o run.kept (good-log-from w.base w.room (w.log ++ as_groups o.events) grammatical applies) run.possible;
+        possible = left-extend (is_good_log w.base) w o run.kept (and_from _ _ grammatical applies) run.possible;
       }
     where
       written : (o.works ≡ []) ⊎ ((v : Work) × (o.works ≡ v ∷ []) × (changes_apply (committed w).tree v.changes ≡ true) × MakesNone (present w) v.changes) → works_apply (committed w) o.works ≡ true
@@ -133,10 +120,9 @@ module _ (step : StepLaw) (openings : FirstOpensLaw) (lists : ListsLaw) (formed 
       written (inr (v, one, all, makes)) = ap (works_apply (committed w)) one ∙ and_from _ _ all refl
 
   -- only the power is another one
-  running-falls : (w : World) (may : List (List Group)) → IsRunning w → list_all (is_good_log w.base w.room) may ≡ true → IsRunning (record w { power = down may })
+  running-falls : (w : World) (may : List (List Group)) → IsRunning w → list_all (is_good_log w.base) may ≡ true → IsRunning (record w { power = down may })
   running-falls w may run possible = record {
     base = run.base;
-    roomy = run.roomy;
     openings = record { works = run.openings.works };
     now = record {
       sound = (worlds.falls w (down may) (record { openings = run.openings; now = run.now.sound })).now;
@@ -153,31 +139,18 @@ module _ (step : StepLaw) (openings : FirstOpensLaw) (lists : ListsLaw) (formed 
     grammatical = run.grammatical;
     applies = run.applies;
     comes_to = run.comes_to;
-    fits = run.fits;
     kept = run.kept;
     possible = possible;
   }
 
-  module _ (agrees : AgreeingLaw) (facts : RecordedFactsLaw) (limits : LimitsLaw) where
+  module _ (agrees : AgreeingLaw) (facts : RecordedFactsLaw) (spelling : SpellingLaw) (limits : LimitsLaw) where
     -- ---- commands and time
 
-    applies-of : (w : World) (events : List Event) → IsRunning w → facts_apply w.recorded events ≡ true → limits_hold w.recorded events ≡ true → log_size (w.log ++ as_groups events) ≤ w.room → events_apply w.recorded events ≡ true
-    applies-of w events run fact limit fits =
-        let before = log-events w.log w.base in
-        let same = ap (λ (s : Durable). s.events) run.comes_to in
-        let few = groups-count events in
-        let all = log_size-append w.log (as_groups events) in
-        let end = run.roomy.events in
-        apply-from events w.recorded fact limit (omega (arith, before, same, few, all, fits, end))
-
-    fits-of : (w : World) (o : Outcome) → IsRunning w → is_full (present w).machine.left o.events ≡ false → log_size (w.log ++ as_groups o.events) ≤ w.room
-    fits-of w o run room = log-grows w.room w.log o.events run.fits room
-
-    pub taken-command : (w : World) (process : Pid) (command : Command) → IsRunning w → IsTaken w (decide (present w) process command)
-    taken-command w process command run =
+    pub taken-command : (w : World) (process : Pid) (command : Command) → HasEventsLeft (present w) → IsRunning w → IsTaken w (decide (present w) process command)
+    taken-command w process command left run =
         let x = present w in
         let o = decide x process command in
-        let fits = fits-of w o run (within-log x _) in
+        let few = spelling.few x process command run.now in
         let agree = agrees.commands x process command run.now.sound run.now.good run.now.carried_out run.now.agrees in
         let written = written-decided lists formed x run.now.sound.course run.now.sound.files process command in
         record {
@@ -187,17 +160,16 @@ module _ (step : StepLaw) (openings : FirstOpensLaw) (lists : ListsLaw) (formed 
           within = limits.commands x process command run.now run.versions;
           versions = limits.versions x process command run.now run.versions;
           notes = notes.commands x process command run.now.sound.course run.notes;
-          applies = applies-of w o.events run (facts.commands x process command run.now) (limits.recorded x process command run.now) fits;
+          applies = apply-from o.events w.recorded (facts.commands x process command run.now) (limits.recorded x process command run.now) (omega (arith, left, few));
           grammatical = grammatical-both o.events (named.commands x process command run.now.sound.course) written.puts;
-          fits = fits;
           written = written;
         }
 
-    pub taken-tick : (w : World) (ms : ℕ) → IsRunning w → IsTaken w (decide_tick (present w) ms)
-    taken-tick w ms run =
+    pub taken-tick : (w : World) (ms : ℕ) → HasEventsLeft (present w) → IsRunning w → IsTaken w (decide_tick (present w) ms)
+    taken-tick w ms left run =
         let x = present w in
         let o = decide_tick x ms in
-        let fits = fits-of w o run (within-log x _) in
+        let few = spelling.few_later x ms run.now in
         let agree = agrees.ticks x ms run.now.sound.course run.now.carried_out run.now.agrees in
         let written = written-ticked lists formed x run.now.sound.course run.now.sound.files ms in
         record {
@@ -207,74 +179,42 @@ module _ (step : StepLaw) (openings : FirstOpensLaw) (lists : ListsLaw) (formed 
           within = limits.ticks x ms run.now run.versions;
           versions = limits.later_versions x ms run.now run.versions;
           notes = notes.ticks x ms run.now.sound.course run.notes;
-          applies = applies-of w o.events run (facts.ticks x ms run.now) (limits.later x ms run.now) fits;
+          applies = apply-from o.events w.recorded (facts.ticks x ms run.now) (limits.later x ms run.now) (omega (arith, left, few));
           grammatical = grammatical-both o.events (named.ticks x ms run.now.sound.course) written.puts;
-          fits = fits;
           written = written;
         }
 
-    pub running-command : (w : World) (process : Pid) (command : Command) → IsRunning w → IsRunning (after w process command)
-    running-command w process command run = running-extend w (decide (present w) process command) run (taken-command w process command run)
+    pub running-command : (w : World) (process : Pid) (command : Command) → HasEventsLeft (present w) → IsRunning w → IsRunning (after w process command)
+    running-command w process command left run = running-extend w (decide (present w) process command) run (taken-command w process command left run)
 
-    pub running-tick : (w : World) (ms : ℕ) → IsRunning w → IsRunning (extend w (decide_tick (present w) ms))
-    running-tick w ms run = running-extend w (decide_tick (present w) ms) run (taken-tick w ms run)
+    pub running-tick : (w : World) (ms : ℕ) → HasEventsLeft (present w) → IsRunning w → IsRunning (extend w (decide_tick (present w) ms))
+    running-tick w ms left run = running-extend w (decide_tick (present w) ms) run (taken-tick w ms left run)
 
     -- ---- losses of power
 
-    good-now : (w : World) → IsRunning w → is_good_log w.base w.room w.log ≡ true
-    good-now w run = good-log-from w.base w.room w.log run.grammatical run.applies
+    good-now : (w : World) → IsRunning w → is_good_log w.base w.log ≡ true
+    good-now w run = and_from _ _ run.grammatical run.applies
 
     interrupted-by : (w : World) (o : Outcome) → IsRunning w → IsTaken w o → IsRunning (interrupted_by w o)
-    interrupted-by w o run taken =
-        let then = running-extend w o run taken in
-        running-falls w _ run (left-with (is_good_log w.base w.room) w.log w.kept o.events run.kept (good-now w run) (good-log-from w.base w.room (w.log ++ as_groups o.events) then.grammatical then.applies))
+    interrupted-by w o run taken = running-falls w _ run (left-with (is_good_log w.base) w.log w.kept o.events run.kept (good-now w run) (good-now (extend w o) (running-extend w o run taken)))
 
     pub running-crash : (w : World) → IsRunning w → IsRunning (crashed w)
     running-crash w run = running-falls w (possible_logs w) run run.possible
 
-    -- a good log with what a restart records
-    good-restart : (base : Durable) (room : ℕ) (log : List Group) → IsGoodState base → IsRoomy base room → is_good_log base room log ≡ true → is_good_log base room (log ++ own_group (stand base log) ∷ []) ≡ true
-    good-restart base room log good roomy is = elim (cases_Bool (nat_le (log_size (log ++ own_group (stand base log) ∷ [])) room)) [
-      | inr over ↦ or_left _ _ (not_from_false _ over)
-      | inl fits ↦
-          let s = stand base log in
-          let enough = leb-true _ _ fits in
-          let all = log_size-append log (own_group s ∷ []) in
-          let parts = good-log-parts base room log (omega (arith, enough, all)) is in
-          let good' = states.3 base log good parts.0 parts.1 in
-          let own = own-applies own_groups base room log roomy parts.1 good' enough in
-          good-log-from base room (log ++ own_group s ∷ [])
-          (list_all-append (λ (g : Group). list_all is_grammatical g) log (own_group s ∷ []) ∙ and_from _ _ parts.0 (and_from _ _ (own-grammatical s good') refl))
-          (log_applies-append base log (own_group s ∷ []) ∙ and_from _ _ parts.1 (and_from _ _ own refl))
-    ]
-
     pub running-interrupted_restart : (w : World) → IsRunning w → IsRunning (interrupted_restart w)
-    running-interrupted_restart w run = running-falls w _ run (left-restart (is_good_log w.base w.room) w (λ l is. good-restart w.base w.room l run.base run.roomy is) (possible_logs w) run.possible)
+    running-interrupted_restart w run = running-falls w _ run (left-restart (is_good_log w.base) w (λ l fresh is. good-restart states own_groups spelling w.base l run.base is fresh) (possible_logs w) run.possible)
 
-    pub running-full : (w : World) (log : List Group) → Finds w log true → IsRunning w → IsRunning (found_full w log)
-    running-full w log finds run = running-falls w (log ∷ []) run (and_from _ _ (contains-passes (is_good_log w.base w.room) (possible_logs w) log run.possible finds.possible) refl)
+    -- a log that is found is good
+    found-good : (w : World) (log : List Group) (is_worn : Bool) → Finds w log is_worn → IsRunning w → is_good_log w.base log ≡ true
+    found-good w log is_worn finds run = contains-passes (is_good_log w.base) (possible_logs w) log run.possible finds.possible
+
+    pub running-worn : (w : World) (log : List Group) → Finds w log true → IsRunning w → IsRunning (found_worn w log)
+    running-worn w log finds run = running-falls w (log ∷ []) run (and_from _ _ (found-good w log true finds run) refl)
 
     -- ---- restarts
 
-    pub running-begins : (base : Durable) (room : ℕ) (log : List Group) → IsGoodState base → IsRoomy base room → is_log_grammatical log ≡ true → log_applies base log ≡ true
-        → is_full (room - log_size log) (own_group (stand base log)) ≡ false → IsRunning (opened base room log)
-    running-begins base room log good roomy grammatical applies space =
-        let s = stand base log in
-        let own = own_group s in
-        let enough = room-for (room - log_size log) own space in
-        let frame = own-frame s in
-        let one = sum_by-cons frame_size own [] in
-        let fits = log-grows room log own (omega (arith, enough, frame, one)) space in
-        running-opened states own_groups worlds agrees limits notes base room log good roomy grammatical applies fits
-
-    pub running-found : (w : World) (log : List Group) → Finds w log false → IsRunning w → IsRunning (opened w.base w.room log)
-    running-found w log finds run =
-        let own = own_group (stand w.base log) in
-        let enough = room-for (w.room - log_size log) own finds.room in
-        let frame = own-frame (stand w.base log) in
-        let one = sum_by-cons frame_size own [] in
-        let parts = good-log-parts w.base w.room log (omega (arith, enough, frame, one)) (contains-passes (is_good_log w.base w.room) (possible_logs w) log run.possible finds.possible) in
-        running-begins w.base w.room log run.base run.roomy parts.0 parts.1 finds.room
+    pub running-found : (w : World) (log : List Group) → Finds w log false → IsRunning w → IsRunning (opened w.base log)
+    running-found w log finds run = running-opened states own_groups spelling worlds agrees limits notes w.base log run.base (found-good w log false finds run) finds.worn
 
     -- ---- every line
 
@@ -282,19 +222,19 @@ module _ (step : StepLaw) (openings : FirstOpensLaw) (lists : ListsLaw) (formed 
     call-does w o answered reply new (says, becomes) taken run = subst IsRunning (sym becomes) (running-extend w o run taken)
     call-does w o interrupted reply new (on, says, becomes) taken run = subst IsRunning (sym becomes) (interrupted-by w o run taken)
     call-does w o (found log) reply new never taken run = absurd never
-    call-does w o (full log) reply new never taken run = absurd never
+    call-does w o (worn log) reply new never taken run = absurd never
 
     answered-does : (w : World) (says : Reply) (step : Step) (reply : Reply) (new : World) → IsAnswered w says step reply new → IsRunning w → IsRunning new
     answered-does w says answered reply new (is, becomes) run = subst IsRunning (sym becomes) run
     answered-does w says interrupted reply new never run = absurd never
     answered-does w says (found log) reply new never run = absurd never
-    answered-does w says (full log) reply new never run = absurd never
+    answered-does w says (worn log) reply new never run = absurd never
 
     crash-does : (on : Bool) (w : World) (step : Step) (reply : Reply) (new : World) → CrashDoes on w step reply new → IsRunning w → IsRunning new
     crash-does true w answered reply new (says, becomes) run = subst IsRunning (sym becomes) (running-crash w run)
     crash-does true w interrupted reply new never run = absurd never
     crash-does true w (found log) reply new never run = absurd never
-    crash-does true w (full log) reply new never run = absurd never
+    crash-does true w (worn log) reply new never run = absurd never
     crash-does false w step reply new does run = answered-does w _ step reply new does run
 
     restart-does : (on : Bool) (w : World) (step : Step) (reply : Reply) (new : World) → RestartDoes on w step reply new → IsRunning w → IsRunning new
@@ -302,23 +242,82 @@ module _ (step : StepLaw) (openings : FirstOpensLaw) (lists : ListsLaw) (formed 
     restart-does false w answered reply new never run = absurd never
     restart-does false w interrupted reply new (says, becomes) run = subst IsRunning (sym becomes) (running-interrupted_restart w run)
     restart-does false w (found log) reply new (finds, says, becomes) run = subst IsRunning (sym becomes) (running-found w log finds run)
-    restart-does false w (full log) reply new (finds, says, becomes) run = subst IsRunning (sym becomes) (running-full w log finds run)
+    restart-does false w (worn log) reply new (finds, says, becomes) run = subst IsRunning (sym becomes) (running-worn w log finds run)
 
-    pub running-line : (w : World) (line : Option Line) (step : Step) (reply : Reply) (new : World) → Does w line step reply new → IsRunning w → IsRunning new
-    running-line w (Some (Process process command)) step reply new does run = call-does w (decide (present w) process command) step reply new does (taken-command w process command run) run
-    running-line w (Some (Tick ms)) step reply new does run = call-does w (decide_tick (present w) ms) step reply new does (taken-tick w ms run) run
-    running-line w (Some (Cut calls)) step reply new does run = answered-does w _ step reply new does run
-    running-line w (Some Crash) step reply new does run = crash-does (is_up w.power) w step reply new does run
-    running-line w (Some (Restart pick)) step reply new does run = restart-does (is_up w.power) w step reply new does run
-    running-line w None step reply new does run = answered-does w _ step reply new does run
+    pub running-line : (w : World) (line : Option Line) (step : Step) (reply : Reply) (new : World) → Does w line step reply new → HasEventsLeft (present w) → IsRunning w → IsRunning new
+    running-line w (Some (Process process command)) step reply new does left run = call-does w (decide (present w) process command) step reply new does (taken-command w process command left run) run
+    running-line w (Some (Tick ms)) step reply new does left run = call-does w (decide_tick (present w) ms) step reply new does (taken-tick w ms left run) run
+    running-line w (Some (Cut calls)) step reply new does left run = answered-does w _ step reply new does run
+    running-line w (Some Crash) step reply new does left run = crash-does (is_up w.power) w step reply new does run
+    running-line w (Some (Restart pick)) step reply new does left run = restart-does (is_up w.power) w step reply new does run
+    running-line w None step reply new does left run = answered-does w _ step reply new does run
 
-    running-lines : (w : World) (lines : List (Option Line)) (steps : List Step) (replies : List Reply) (new : World) → Transcript w lines steps replies new → IsRunning w → IsRunning new
-    running-lines w [] [] [] new same run = subst IsRunning (sym same) run
-    running-lines w [] [] (reply ∷ replies) new never run = absurd never
-    running-lines w [] (step ∷ steps) replies new never run = absurd never
-    running-lines w (line ∷ lines) [] replies new never run = absurd never
-    running-lines w (line ∷ lines) (step ∷ steps) [] new never run = absurd never
-    running-lines w (line ∷ lines) (step ∷ steps) (reply ∷ replies) new (mid, does, rest) run = running-lines mid lines steps replies new rest (running-line w line step reply mid does run)
+    -- ---- the count of events
+
+    -- by a line that adds few events
+    lasts-next : (w new : World) (lines : ℕ) → LastsFor (lines + 1) w → new.recorded.events ≤ w.recorded.events + most_at_once → LastsFor lines new
+    lasts-next w new lines lasts few =
+        let now = lasts.now in
+        let end = lasts.restarted in
+        record { now = omega (arith, now, few); restarted = omega (arith, end) }
+
+    -- by a line that adds none
+    lasts-same : (w new : World) (lines : ℕ) → LastsFor (lines + 1) w → new.recorded ≡ w.recorded → LastsFor lines new
+    lasts-same w new lines lasts same = let events = ap (λ (s : Durable). s.events) same in lasts-next w new lines lasts (omega (arith, events))
+
+    lasts-answered : (w : World) (says : Reply) (step : Step) (reply : Reply) (new : World) (lines : ℕ) → IsAnswered w says step reply new → LastsFor (lines + 1) w → LastsFor lines new
+    lasts-answered w says answered reply new lines (is, becomes) lasts = lasts-same w new lines lasts (ap (λ (v : World). v.recorded) becomes)
+    lasts-answered w says interrupted reply new lines never lasts = absurd never
+    lasts-answered w says (found log) reply new lines never lasts = absurd never
+    lasts-answered w says (worn log) reply new lines never lasts = absurd never
+
+    lasts-call : (w : World) (o : Outcome) (step : Step) (reply : Reply) (new : World) (lines : ℕ) → CallDoes w o step reply new → length o.events ≤ most_at_once → LastsFor (lines + 1) w → LastsFor lines new
+    lasts-call w o answered reply new lines (says, becomes) few lasts =
+        let all = ap (λ (v : World). v.recorded.events) becomes ∙ after_events-events w.recorded o.events in
+        lasts-next w new lines lasts (omega (arith, all, few))
+    lasts-call w o interrupted reply new lines (on, says, becomes) few lasts = lasts-same w new lines lasts (ap (λ (v : World). v.recorded) becomes)
+    lasts-call w o (found log) reply new lines never few lasts = absurd never
+    lasts-call w o (worn log) reply new lines never few lasts = absurd never
+
+    lasts-crash : (on : Bool) (w : World) (step : Step) (reply : Reply) (new : World) (lines : ℕ) → CrashDoes on w step reply new → LastsFor (lines + 1) w → LastsFor lines new
+    lasts-crash true w answered reply new lines (says, becomes) lasts = lasts-same w new lines lasts (ap (λ (v : World). v.recorded) becomes)
+    lasts-crash true w interrupted reply new lines never lasts = absurd never
+    lasts-crash true w (found log) reply new lines never lasts = absurd never
+    lasts-crash true w (worn log) reply new lines never lasts = absurd never
+    lasts-crash false w step reply new lines does lasts = lasts-answered w _ step reply new lines does lasts
+
+    -- a restart starts from a state that is not worn
+    lasts-found : (w : World) (log : List Group) (lines : ℕ) → Finds w log false → IsRunning w → LastsFor (lines + 1) w → LastsFor lines (opened w.base log)
+    lasts-found w log lines finds run lasts =
+        let parts = and_parts (is_log_grammatical log) (log_applies w.base log) (found-good w log false finds run) in
+        let few = own-counts spelling (stand w.base log) (states.3 w.base log run.base parts.0 parts.1) finds.worn in
+        let end = lasts.restarted in
+        record { now = omega (arith, few, end); restarted = omega (arith, end) }
+
+    lasts-restart : (on : Bool) (w : World) (step : Step) (reply : Reply) (new : World) (lines : ℕ) → RestartDoes on w step reply new → IsRunning w → LastsFor (lines + 1) w → LastsFor lines new
+    lasts-restart true w step reply new lines does run lasts = lasts-answered w _ step reply new lines does lasts
+    lasts-restart false w answered reply new lines never run lasts = absurd never
+    lasts-restart false w interrupted reply new lines (says, becomes) run lasts = lasts-same w new lines lasts (ap (λ (v : World). v.recorded) becomes)
+    lasts-restart false w (found log) reply new lines (finds, says, becomes) run lasts = subst (LastsFor lines) (sym becomes) (lasts-found w log lines finds run lasts)
+    lasts-restart false w (worn log) reply new lines (finds, says, becomes) run lasts = lasts-same w new lines lasts (ap (λ (v : World). v.recorded) becomes)
+
+    pub lasts-line : (w : World) (line : Option Line) (step : Step) (reply : Reply) (new : World) (lines : ℕ) → Does w line step reply new → IsRunning w → LastsFor (lines + 1) w → LastsFor lines new
+    lasts-line w (Some (Process process command)) step reply new lines does run lasts = lasts-call w (decide (present w) process command) step reply new lines does (spelling.few (present w) process command run.now) lasts
+    lasts-line w (Some (Tick ms)) step reply new lines does run lasts = lasts-call w (decide_tick (present w) ms) step reply new lines does (spelling.few_later (present w) ms run.now) lasts
+    lasts-line w (Some (Cut calls)) step reply new lines does run lasts = lasts-answered w _ step reply new lines does lasts
+    lasts-line w (Some Crash) step reply new lines does run lasts = lasts-crash (is_up w.power) w step reply new lines does lasts
+    lasts-line w (Some (Restart pick)) step reply new lines does run lasts = lasts-restart (is_up w.power) w step reply new lines does run lasts
+    lasts-line w None step reply new lines does run lasts = lasts-answered w _ step reply new lines does lasts
+
+    running-lines : (w : World) (lines : List (Option Line)) (steps : List Step) (replies : List Reply) (new : World) → Transcript w lines steps replies new → LastsFor (length lines) w → IsRunning w → IsRunning new
+    running-lines w [] [] [] new same lasts run = subst IsRunning (sym same) run
+    running-lines w [] [] (reply ∷ replies) new never lasts run = absurd never
+    running-lines w [] (step ∷ steps) replies new never lasts run = absurd never
+    running-lines w (line ∷ lines) [] replies new never lasts run = absurd never
+    running-lines w (line ∷ lines) (step ∷ steps) [] new never lasts run = absurd never
+    running-lines w (line ∷ lines) (step ∷ steps) (reply ∷ replies) new (mid, does, rest) lasts run =
+        let all = lasts-behind w line lines lasts in
+        running-lines mid lines steps replies new rest (lasts-line w line step reply mid (length lines) does run all) (running-line w line step reply mid does (left-from w (length lines) all) run)
 
     -- ---- lawful worlds
 
@@ -354,18 +353,19 @@ module _ (step : StepLaw) (openings : FirstOpensLaw) (lists : ListsLaw) (formed 
 
     pub lawful_worlds_law : LawfulWorldsLaw
     lawful_worlds_law = record {
-      begins = running-begins;
+      begins = running-opened states own_groups spelling worlds agrees limits notes;
       commands = running-command;
       ticks = running-tick;
-      records = λ w process command run. (taken-command w process command run).applies;
-      later_records = λ w ms run. (taken-tick w ms run).applies;
-      interrupted_commands = λ w process command run. interrupted-by w (decide (present w) process command) run (taken-command w process command run);
-      interrupted_ticks = λ w ms run. interrupted-by w (decide_tick (present w) ms) run (taken-tick w ms run);
+      records = λ w process command left run. (taken-command w process command left run).applies;
+      later_records = λ w ms left run. (taken-tick w ms left run).applies;
+      interrupted_commands = λ w process command left run. interrupted-by w (decide (present w) process command) run (taken-command w process command left run);
+      interrupted_ticks = λ w ms left run. interrupted-by w (decide_tick (present w) ms) run (taken-tick w ms left run);
       crashes = running-crash;
       interrupted_restarts = running-interrupted_restart;
       restarts = running-found;
-      full_restarts = running-full;
+      worn_restarts = running-worn;
       lines = running-line;
+      lasts = lasts-line;
       transcripts = running-lines;
       lawful = lawful-of;
     }

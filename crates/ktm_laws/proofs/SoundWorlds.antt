@@ -21,12 +21,12 @@ module _ (step : StepLaw) (openings : FirstOpensLaw) (lists : ListsLaw) (formed 
 
   pub sound_worlds_law : SoundWorldsLaw
   sound_worlds_law = record {
-    restarts = λ base room log good. record {
-      openings = openings.0 base room log;
-      now = record { course = courses.restarts base room log good; keys = keys.2 base room log good; files = files.restarts base room log good };
+    restarts = λ base log good. record {
+      openings = openings.0 base log;
+      now = record { course = courses.restarts base log good; keys = keys.2 base log good; files = files.restarts base log good };
     };
     commands = λ w process command sound. by-outcome w (decide (present w) process command) sound record {
-      course = courses.decided (present w) process command (sound.now).course;
+      course = courses.commands (present w) process command (sound.now).course;
       keys = keys.0 (present w) process command (sound.now).keys;
       files = files.commands (present w) process command (sound.now).course (sound.now).files;
     };

@@ -32,7 +32,7 @@ use Rattle.ktm_types.specs.declared.reply.Reply.TheVariants.{Refused, Done}
 use Rattle.ktm_world.specs.Changes.{applies, changes_apply, is_make, node_of, changes_bytes}
 use Rattle.ktm_world.specs.Committed.{Work}
 use Rattle.ktm_world.specs.Conflicts.{writes}
-use Rattle.ktm_world.specs.Decide.{decide, caller, transacted, command_tests, command_effect, refusal_of, with_room, of_files, opening, on_file, on_file_tests, own_tests, bound_file}
+use Rattle.ktm_world.specs.Decide.{decide, caller, transacted, command_tests, command_effect, refusal_of, of_files, opening, on_file, on_file_tests, own_tests, bound_file}
 use Rattle.ktm_world.specs.Enlistments.{Enlistment, Manager}
 use Rattle.ktm_world.specs.FileCalls.{Whereabouts, no_path, no_way, free, at_root, at_node, find_path, empties, create_at, create_file, create_file_tests, read_file, write_file, write_file_tests, set_end, set_end_tests, get_size, flush_file, drop_at, delete_file, delete_file_tests, make_at, create_directory, create_directory_tests, remove_directory, remove_directory_tests, move_at, move_file, move_file_tests, find_files}
 use Rattle.ktm_world.specs.FileOutcome.{FileOutcome, answering, changing}
@@ -41,7 +41,7 @@ use Rattle.ktm_world.specs.HandleCalls.{close_handle, exit, bind_to, duplicate_h
 use Rattle.ktm_world.specs.Handles.{object_at}
 use Rattle.ktm_world.specs.Holds.{is_in}
 use Rattle.ktm_world.specs.Labels.{transaction_named, manager_named, enlistment_named, file_named, binding}
-use Rattle.ktm_world.specs.Outcome.{Outcome, apply, only_reply, refuse_or, first_refusal, is_full, within_log}
+use Rattle.ktm_world.specs.Outcome.{Outcome, apply, only_reply, refuse_or, first_refusal}
 use Rattle.ktm_world.specs.Phases.{event_if}
 use Rattle.ktm_world.specs.Present.{Present}
 use Rattle.ktm_world.specs.Steps.{led}
@@ -442,11 +442,8 @@ module _ (lists : ListsLaw) (formed : FormedLaw) (x : Present) (course : IsSound
   written-refused (Some refusal) effect is = written-reply x (Refused refusal)
   written-refused None effect is = is refl
 
-  written-logged : (o : Outcome) → IsWritten x o → IsWritten x (within_log x o)
-  written-logged o is = if_cases (λ o. IsWritten x o) (is_full x.machine.left o.events) _ o (λ full. record { works = inl refl; openings = inl refl; puts = refl }) (λ room. is)
-
   pub written-decided : (process : Pid) (command : Command) → IsWritten x (decide x process command)
-  written-decided process command = written-logged (with_room x process command) (written-refused (refusal_of x process command) (command_effect x process command) (written-effect process command))
+  written-decided process command = written-refused (refusal_of x process command) (command_effect x process command) (written-effect process command)
 
   pub written-ticked : (ms : ℕ) → IsWritten x (decide_tick x ms)
-  written-ticked ms = written-logged _ (written-refused (first_refusal ((not x.machine.is_up, MachineDown) ∷ [])) (tick x ms) (λ none. written-idle x (tick x ms) (tick-so _ _ idle-closing.rolls x ms tt)))
+  written-ticked ms = written-refused (first_refusal ((not x.machine.is_up, MachineDown) ∷ [])) (tick x ms) (λ none. written-idle x (tick x ms) (tick-so _ _ idle-closing.rolls x ms tt))

@@ -37,4 +37,4 @@ pub record NotesLaw : Type 0 where
   -- by the loss of power
   pub falls : (w : World) (power : Power) → AreNotesTrue (present w) → AreNotesTrue (present (record w { power = power }))
   -- after a restart no notification waits
-  pub restarts : (base : Durable) (room : ℕ) (log : List Group) → AreNotesTrue (present (opened base room log))
+  pub restarts : (base : Durable) (log : List Group) → AreNotesTrue (present (opened base log))

@@ -1,40 +1,44 @@
 -- What every world of a run is, from which it is lawful.
-use Rattle.std.specs.Prelude.{◌≡◌, ℕ, ◌+◌, ◌-◌, ◌<◌, ◌≤◌, ◌^◌, ◌&&◌, ◌||◌, not, Bool, true, false, List, length, drop, nat_le, Option}
+use Rattle.std.specs.Prelude.{◌≡◌, ℕ, ◌+◌, ◌*◌, ◌<◌, ◌≤◌, ◌^◌, ◌&&◌, ◌||◌, not, Bool, true, false, List, length, drop, Option}
 use Rattle.std.specs.List.{list_any, list_all}
 use Rattle.ktm_base.specs.declared.id.Pid.{Pid}
 use Rattle.ktm_types.specs.declared.command.Command.{Command}
 use Rattle.ktm_types.specs.declared.command.Line.{Line}
 use Rattle.ktm_types.specs.declared.reply.Reply.{Reply}
-use Rattle.ktm_types.specs.Sizes.{log_size}
 use Rattle.ktm_world.specs.Decide.{decide}
-use Rattle.ktm_world.specs.Durable.{Durable, stand, events_apply, log_applies}
+use Rattle.ktm_world.specs.Durable.{Durable, is_worn, stand, events_apply, log_applies}
 use Rattle.ktm_world.specs.Files.{is_last_version}
 use Rattle.ktm_world.specs.Lawful.{IsLawful, works_apply, ends_version}
 use Rattle.ktm_world.specs.Laws.{FirstOpensLieWithin}
 use Rattle.ktm_world.specs.Logs.{Group}
 use Rattle.ktm_world.specs.OneOutcome.{HasOneOutcome, tellings}
-use Rattle.ktm_world.specs.Outcome.{is_full}
+use Rattle.ktm_world.specs.Present.{Present}
 use Rattle.ktm_world.specs.Transcript.{Step, Finds, Does, Transcript}
 use Rattle.ktm_world.specs.Tree.{IsWellFormed}
-use Rattle.ktm_world.specs.World.{World, OpenedAfter, first_open_now, present, extend, after, decide_tick, interrupted_by, crashed, own_group, interrupted_restart, found_full, opened, possible_logs}
+use Rattle.ktm_world.specs.World.{World, OpenedAfter, first_open_now, present, extend, after, decide_tick, interrupted_by, crashed, interrupted_restart, found_worn, opened, possible_logs}
 use Rattle.ktm_states.specs.GoodState.{IsGoodState}
 use Rattle.ktm_states.specs.Grammatical.{is_grammatical}
 use Rattle.ktm_records.specs.Kept.{IsKept}
+use Rattle.ktm_records.specs.Spelling.{most_at_once}
 use Rattle.ktm_laws.specs.Notes.{AreNotesTrue}
 use Rattle.ktm_limits.specs.LimitsKept.{AreVersionsFixed}
 
--- the log has fewer bytes than there are events and boots to the ends of their counts
-pub record IsRoomy (base : Durable) (room : ℕ) : Type 0 where
-  pub events : base.events + room < 2 ^ 63
-  pub boots : base.boots + room < 2 ^ 32
+-- the count of events does not end with the next command
+abbrev pub HasEventsLeft : Present → Type 0
+HasEventsLeft x = x.recorded.events + most_at_once < 2 ^ 63
+
+-- it does not end in so many lines, with restarts among them that start from states that are not worn
+pub record LastsFor (lines : ℕ) (w : World) : Type 0 where
+  pub now : w.recorded.events + most_at_once * lines < 2 ^ 63
+  pub restarted : 2 ^ 62 + most_at_once * (lines + 1) ≤ 2 ^ 63
 
 -- has the grammar every event of the log
 abbrev pub is_log_grammatical : List Group → Bool
 is_log_grammatical log = list_all (list_all is_grammatical) log
 
--- does the log apply, with events that the grammar has, if there is room for it at all
-abbrev pub is_good_log : Durable → ℕ → List Group → Bool
-is_good_log base room log = not (nat_le (log_size log) room) || (is_log_grammatical log && log_applies base log)
+-- does the log apply, with events that the grammar has
+abbrev pub is_good_log : Durable → List Group → Bool
+is_good_log base log = is_log_grammatical log && log_applies base log
 
 -- has no work ended the version of a first open, while that is the last version of its file
 abbrev pub is_last_since : World → OpenedAfter → Bool
@@ -45,8 +49,6 @@ is_last_since w o = not (is_last_version (present w).files (first_open_now w o))
 pub record IsRunning (w : World) : Type 0 where
   -- the image that the run began with is good
   pub base : IsGoodState w.base
-  -- the counts of the image that the run began with do not end
-  pub roomy : IsRoomy w.base w.room
   -- each first open is of works that the world has
   pub openings : FirstOpensLieWithin w
   -- what the machine keeps of what is so now
@@ -67,42 +69,41 @@ pub record IsRunning (w : World) : Type 0 where
   pub applies : log_applies w.base w.log ≡ true
   -- it comes to what was recorded
   pub comes_to : stand w.base w.log ≡ w.recorded
-  -- it has its room
-  pub fits : log_size w.log ≤ w.room
   -- no loss of power takes a group of it
   pub kept : w.kept ≡ length w.log
   -- each log that may be on the disk applies
-  pub possible : list_all (is_good_log w.base w.room) (possible_logs w) ≡ true
+  pub possible : list_all (is_good_log w.base) (possible_logs w) ≡ true
 
 -- every world of a run is such a world, and such a world is lawful
 pub record LawfulWorldsLaw : Type 0 where
-  -- it begins with a restart of a good image, with a log that applies and has room for what the restart records
-  pub begins : (base : Durable) (room : ℕ) (log : List Group) → IsGoodState base → IsRoomy base room → is_log_grammatical log ≡ true → log_applies base log ≡ true
-      → is_full (room - log_size log) (own_group (stand base log)) ≡ false → IsRunning (opened base room log)
+  -- it begins with a restart of a good image, with a log that applies and comes to a state that is not worn
+  pub begins : (base : Durable) (log : List Group) → IsGoodState base → is_good_log base log ≡ true → is_worn (stand base log) ≡ false → IsRunning (opened base log)
   -- a command was answered
-  pub commands : (w : World) (process : Pid) (command : Command) → IsRunning w → IsRunning (after w process command)
+  pub commands : (w : World) (process : Pid) (command : Command) → HasEventsLeft (present w) → IsRunning w → IsRunning (after w process command)
   -- time has passed
-  pub ticks : (w : World) (ms : ℕ) → IsRunning w → IsRunning (extend w (decide_tick (present w) ms))
+  pub ticks : (w : World) (ms : ℕ) → HasEventsLeft (present w) → IsRunning w → IsRunning (extend w (decide_tick (present w) ms))
   -- what a command records applies to what was recorded, and so does what the passing of time records
-  pub records : (w : World) (process : Pid) (command : Command) → IsRunning w → events_apply w.recorded (decide (present w) process command).events ≡ true
-  pub later_records : (w : World) (ms : ℕ) → IsRunning w → events_apply w.recorded (decide_tick (present w) ms).events ≡ true
+  pub records : (w : World) (process : Pid) (command : Command) → HasEventsLeft (present w) → IsRunning w → events_apply w.recorded (decide (present w) process command).events ≡ true
+  pub later_records : (w : World) (ms : ℕ) → HasEventsLeft (present w) → IsRunning w → events_apply w.recorded (decide_tick (present w) ms).events ≡ true
   -- the power went, in a command, while time passed, or while nothing was recorded
-  pub interrupted_commands : (w : World) (process : Pid) (command : Command) → IsRunning w → IsRunning (interrupted_by w (decide (present w) process command))
-  pub interrupted_ticks : (w : World) (ms : ℕ) → IsRunning w → IsRunning (interrupted_by w (decide_tick (present w) ms))
+  pub interrupted_commands : (w : World) (process : Pid) (command : Command) → HasEventsLeft (present w) → IsRunning w → IsRunning (interrupted_by w (decide (present w) process command))
+  pub interrupted_ticks : (w : World) (ms : ℕ) → HasEventsLeft (present w) → IsRunning w → IsRunning (interrupted_by w (decide_tick (present w) ms))
   pub crashes : (w : World) → IsRunning w → IsRunning (crashed w)
   -- the power went in a restart
   pub interrupted_restarts : (w : World) → IsRunning w → IsRunning (interrupted_restart w)
-  -- a restart found a log, with room for what it records or without
-  pub restarts : (w : World) (log : List Group) → Finds w log false → IsRunning w → IsRunning (opened w.base w.room log)
-  pub full_restarts : (w : World) (log : List Group) → Finds w log true → IsRunning w → IsRunning (found_full w log)
+  -- a restart found a log, which was not worn or was
+  pub restarts : (w : World) (log : List Group) → Finds w log false → IsRunning w → IsRunning (opened w.base log)
+  pub worn_restarts : (w : World) (log : List Group) → Finds w log true → IsRunning w → IsRunning (found_worn w log)
   -- a line came to its reply
-  pub lines : (w : World) (line : Option Line) (step : Step) (reply : Reply) (new : World) → Does w line step reply new → IsRunning w → IsRunning new
+  pub lines : (w : World) (line : Option Line) (step : Step) (reply : Reply) (new : World) → Does w line step reply new → HasEventsLeft (present w) → IsRunning w → IsRunning new
+  -- its count of events then lasts for the lines that are left
+  pub lasts : (w : World) (line : Option Line) (step : Step) (reply : Reply) (new : World) (lines : ℕ) → Does w line step reply new → IsRunning w → LastsFor (lines + 1) w → LastsFor lines new
   -- several lines came to their replies
-  pub transcripts : (w : World) (lines : List (Option Line)) (steps : List Step) (replies : List Reply) (new : World) → Transcript w lines steps replies new → IsRunning w → IsRunning new
+  pub transcripts : (w : World) (lines : List (Option Line)) (steps : List Step) (replies : List Reply) (new : World) → Transcript w lines steps replies new → LastsFor (length lines) w → IsRunning w → IsRunning new
   -- such a world is lawful
   pub lawful : (w : World) → IsRunning w → IsLawful w
 
--- no transcript tells a transaction two outcomes, from a world of a run
+-- no transcript tells a transaction two outcomes, from a world of a run whose count of events lasts for it
 abbrev pub OneOutcomeLaw : Type 0
 OneOutcomeLaw = (w : World) (lines : List (Option Line)) (steps : List Step) (replies : List Reply) (new : World)
-    → IsRunning w → Transcript w lines steps replies new → HasOneOutcome (tellings w lines steps replies)
+    → IsRunning w → LastsFor (length lines) w → Transcript w lines steps replies new → HasOneOutcome (tellings w lines steps replies)

@@ -7,7 +7,7 @@ ghost use Rattle.ktm_records.specs.SoundWorlds.{SoundWorldsLaw};
 use ktm_courses::{law_of_courses, law_of_kept_outcomes, law_of_named_objects};
 use ktm_limits::law_of_limits;
 use ktm_owned::{law_of_files_kept, law_of_own_keys};
-use ktm_records::{law_of_agreement, law_of_file_calls, law_of_recorded_facts};
+use ktm_records::{law_of_agreement, law_of_file_calls, law_of_recorded_facts, law_of_spelling};
 use ktm_states::{law_of_good_states, law_of_own_groups};
 use ktm_world::{law_of_first_opens, law_of_refusals, law_of_step};
 use txf_laws::{law_of_forms, law_of_lists};
@@ -47,6 +47,7 @@ pub fn law_of_lawful_worlds()
     law_of_own_keys();
     law_of_agreement();
     law_of_recorded_facts();
+    law_of_spelling();
     law_of_limits();
     law_of_notes();
 }

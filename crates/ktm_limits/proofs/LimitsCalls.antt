@@ -98,10 +98,6 @@ module _ (x : Present) (fits : Fits x) where
   pub stays-reply : (reply : Reply) → Stays x (only_reply x reply)
   stays-reply reply = stays-left (only_reply x reply) refl refl refl refl refl fits.live fits.enlisted no-managers fits.handles fits.last_transaction fits.last_manager fits.last_enlistment
 
-  -- the machine is down then
-  pub stays-down : (reply : Reply) → Stays x (record (only_reply x reply) { stops = true })
-  stays-down reply = stays-left (record (only_reply x reply) { stops = true }) refl refl refl refl refl fits.live fits.enlisted no-managers fits.handles fits.last_transaction fits.last_manager fits.last_enlistment
-
   -- one handle more
   handles-more : (process : Pid) (label : Label) (object : Object) → no_handle_left x.handles ≡ false → length (with_handle x.handles process label object) ≤ MOST_HANDLES
   handles-more process label object left =

@@ -1,13 +1,12 @@
 -- The limits hold after each event that a command records, and that the passing of time does.
-use Rattle.std.specs.Prelude.{if◌then◌else◌}
-use Rattle.std.proofs.Common.{◌≡◌, ℕ, ◌+◌, not, Bool, true, false, List, [], ◌∷◌, drop, length, take, Option, Some, None, is_none, refl, sym, ◌∙◌, ap, subst, inl, inr, ◌⊎◌}
+use Rattle.std.proofs.Common.{◌≡◌, ℕ, ◌+◌, not, true, List, [], ◌∷◌, drop, length, take, Option, Some, None, is_none, refl, sym, ◌∙◌, ap, subst, inl, inr, ◌⊎◌}
 use Rattle.std.proofs.lemmas.Bool.{and_parts, and_from, true≢false}
 use Rattle.std.specs.List.{list_all}
 use Rattle.ktm_base.specs.declared.id.Id.{Id}
 use Rattle.ktm_base.specs.declared.id.Label.{Label}
 use Rattle.ktm_base.specs.declared.id.Pid.{Pid}
 use Rattle.ktm_base.specs.declared.refusal.Refusal.{Refusal}
-use Rattle.ktm_base.specs.declared.refusal.Refusal.TheVariants.{LogFull, MachineDown}
+use Rattle.ktm_base.specs.declared.refusal.Refusal.TheVariants.{MachineDown}
 use Rattle.ktm_types.specs.declared.change.Change.{Change}
 use Rattle.ktm_types.specs.declared.command.Command.{Command}
 use Rattle.ktm_types.specs.declared.command.Command.TheVariants.{CreateTransaction, OpenTransaction, CommitTransaction, RollbackTransaction, GetTransactionInformation, CreateResourceManager, OpenResourceManager, RecoverResourceManager, GetNotificationResourceManager, CreateEnlistment, OpenEnlistment, RecoverEnlistment, PrePrepareComplete, PrepareComplete, ReadOnlyEnlistment, CommitComplete, RollbackComplete, SinglePhaseReject, RollbackEnlistment, PrePrepareEnlistment, PrepareEnlistment, CommitEnlistment, SetEnlistmentRecoveryInformation, GetEnlistmentRecoveryInformation, CreateFile, CreateFileTransacted, ReadFile, WriteFile, SetEndOfFile, GetFileSizeEx, FlushFileBuffers, DeleteFile, CreateDirectory, RemoveDirectory, MoveFile, DeleteFileTransacted, CreateDirectoryTransacted, RemoveDirectoryTransacted, MoveFileTransacted, FindFiles, FindFilesTransacted, KvSet, KvUnset, KvGet, KvList, CloseHandle, DuplicateHandle, Exit}
@@ -18,9 +17,9 @@ use Rattle.ktm_types.specs.declared.object.Object.{Object}
 use Rattle.ktm_types.specs.declared.object.Transaction.{Transaction}
 use Rattle.ktm_types.specs.declared.options.Durability.{Durability}
 use Rattle.ktm_types.specs.declared.options.EnlistmentKind.{EnlistmentKind}
-use Rattle.ktm_types.specs.declared.reply.Reply.TheVariants.{Contents as Bytes, Done, Refused, Size}
+use Rattle.ktm_types.specs.declared.reply.Reply.TheVariants.{Contents as Bytes, Done, Size}
 use Rattle.ktm_types.specs.declared.step.Owed.{Owed}
-use Rattle.ktm_world.specs.Decide.{of_files, opening, bound_file, on_file, caller, command_tests, command_effect, decide, events_of, refusal_of, with_room}
+use Rattle.ktm_world.specs.Decide.{of_files, opening, bound_file, on_file, caller, command_tests, command_effect, decide, events_of, refusal_of}
 use Rattle.ktm_world.specs.Durable.{Durable, after_event, after_events, fact_of, is_within_limits, without_recorded}
 use Rattle.ktm_world.specs.Enlistments.{Enlistment, Manager, owes_commit, owes_pre_prepare, owes_prepare}
 use Rattle.ktm_world.specs.FileCalls.{create_file, create_file_tests, read_file, write_file, set_end, get_size, flush_file, delete_file, create_directory, remove_directory, move_file, find_files}
@@ -30,7 +29,7 @@ use Rattle.ktm_world.specs.HandleCalls.{bind_to, duplicate_handle}
 use Rattle.ktm_world.specs.Handles.{object_at}
 use Rattle.ktm_world.specs.Labels.{transaction_named, manager_named, enlistment_named, file_named, transaction_tests}
 use Rattle.ktm_world.specs.Lawful.{Agrees, stage_in}
-use Rattle.ktm_world.specs.Outcome.{Outcome, only_reply, apply, first_refusal, refuse_or, is_full}
+use Rattle.ktm_world.specs.Outcome.{Outcome, apply, first_refusal, refuse_or}
 use Rattle.ktm_world.specs.Present.{Present}
 use Rattle.ktm_world.specs.Steps.{led, share_of}
 use Rattle.ktm_world.specs.TransactionCalls.{aborted_by, answering, before_pre_prepare, before_prepare, commit_of, commit_reply, commit_transaction, rollback_transaction, rollback_of, create_transaction, open_transaction, open_to_transaction, transaction_with, get_transaction_information, create_resource_manager, new_id, open_resource_manager, open_to_manager, manager_with, recover_resource_manager, recover_all, get_notification, take_first, create_enlistment, open_enlistment, open_to_enlistment, enlistment_with, course_of, enlistment_tests, superior_tests, is_voting, keep_information, may_vote, phase_passes, pre_prepare_complete, prepare_complete, read_only_enlistment, commit_complete, rollback_complete, single_phase_reject, rollback_enlistment, pre_prepare_enlistment, prepare_enlistment, commit_enlistment, recover_enlistment, set_information, get_information, tick, waits_for_superior, recovery_of}
@@ -65,7 +64,6 @@ use Rattle.txf_laws.proofs.offered.Tables.{Rises}
 use Rattle.ktm_records.proofs.offered.AgreementOfRollbacks.{is_undo, undoes-aborted, undoes-closing, undoes-led}
 use Rattle.ktm_records.proofs.offered.Stages.{early-pre_prepare, early-prepare, early-voting, voting-stage, waiting-held, waiting-recorded}
 use Rattle.ktm_courses.proofs.offered.HandlesAndTime.{close_handle-so, exit-so, tick-so}
-use Rattle.ktm_steps.proofs.offered.Ways.{if_cases}
 
 -- ---- what only undoes
 
@@ -315,32 +313,26 @@ module _ (agreeing : AgreeingLaw) (keeping : FilesKeptLaw) (lists : ListsLaw) (f
   effect-holds process Exit passes after = undoes (command_effect x process Exit) (exit-so _ _ undoes-closing x process tt)
 
   pub decided-holds : (process : Pid) (command : Command) → Holds (decide x process command)
-  decided-holds process command = room (is_full x.machine.left (with_room x process command).events) refl
+  decided-holds process command = refused (refusal_of x process command) refl
     where
       effect : Outcome
       effect = command_effect x process command
 
-      -- where there is room and no refusal the command does what it does
-      after : is_full x.machine.left (with_room x process command).events ≡ false → refusal_of x process command ≡ None → After effect
-      after free' none =
-          let is : decide x process command ≡ effect = ap (λ b. if b then record (only_reply x (Refused LogFull)) { stops = true } else with_room x process command) free' ∙ ap (λ r. refuse_or x r effect) none in
+      -- where it is not refused the command does what it does
+      after : refusal_of x process command ≡ None → After effect
+      after none =
+          let is : decide x process command ≡ effect = ap (λ r. refuse_or x r effect) none in
           record {
             agrees = subst (λ o. Agrees (apply x o)) is (agreeing.commands x process command kept.sound kept.good kept.carried_out kept.agrees).0;
             files = subst (λ o. IsSoundFiles (apply x o)) is (keeping.commands x process command kept.sound.course kept.sound.files);
           }
 
-      refused : (r : Option Refusal) → refusal_of x process command ≡ r → is_full x.machine.left (with_room x process command).events ≡ false → Holds (refuse_or x r effect)
-      refused (Some refusal) is free' = refl
-      refused None none free' = effect-holds process command (passed (record { none = none })).1 (after free' none)
-
-      room : (b : Bool) → is_full x.machine.left (with_room x process command).events ≡ b → Holds (if b then record (only_reply x (Refused LogFull)) { stops = true } else with_room x process command)
-      room true full = refl
-      room false free' = refused (refusal_of x process command) refl free'
+      refused : (r : Option Refusal) → refusal_of x process command ≡ r → Holds (refuse_or x r effect)
+      refused (Some refusal) is = refl
+      refused None none = effect-holds process command (passed (record { none = none })).1 (after none)
 
   pub later-holds : (ms : ℕ) → Holds (decide_tick x ms)
-  later-holds ms =
-      let o = refuse_or x (first_refusal ((not x.machine.is_up, MachineDown) ∷ [])) (tick x ms) in
-      if_cases Holds (is_full x.machine.left o.events) (record (only_reply x (Refused LogFull)) { stops = true }) o (λ full. refl) (λ free'. refused (first_refusal ((not x.machine.is_up, MachineDown) ∷ [])))
+  later-holds ms = refused (first_refusal ((not x.machine.is_up, MachineDown) ∷ []))
     where
       refused : (r : Option Refusal) → Holds (refuse_or x r (tick x ms))
       refused (Some refusal) = refl

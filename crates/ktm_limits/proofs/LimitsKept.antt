@@ -1,18 +1,17 @@
 -- Every command, and the passing of time, passes no limit, and leaves the versions fixed that were first opened.
-use Rattle.std.specs.Prelude.{if◌then◌else◌}
-use Rattle.std.proofs.Common.{◌≡◌, ℕ, not, Bool, true, false, List, [], ◌∷◌, length, take, drop, Option, Some, None, refl, sym, subst}
+use Rattle.std.proofs.Common.{◌≡◌, ℕ, not, Bool, List, [], ◌∷◌, length, take, drop, Option, Some, None, refl, sym, subst}
 use Rattle.ktm_base.specs.declared.id.Pid.{Pid}
 use Rattle.ktm_base.specs.declared.refusal.Refusal.{Refusal}
-use Rattle.ktm_base.specs.declared.refusal.Refusal.TheVariants.{LogFull, MachineDown}
+use Rattle.ktm_base.specs.declared.refusal.Refusal.TheVariants.{MachineDown}
 use Rattle.ktm_types.specs.declared.command.Command.{Command}
 use Rattle.ktm_types.specs.declared.command.Command.TheVariants.{CreateTransaction, OpenTransaction, CommitTransaction, RollbackTransaction, GetTransactionInformation, CreateResourceManager, OpenResourceManager, RecoverResourceManager, GetNotificationResourceManager, CreateEnlistment, OpenEnlistment, RecoverEnlistment, PrePrepareComplete, PrepareComplete, ReadOnlyEnlistment, CommitComplete, RollbackComplete, SinglePhaseReject, RollbackEnlistment, PrePrepareEnlistment, PrepareEnlistment, CommitEnlistment, SetEnlistmentRecoveryInformation, GetEnlistmentRecoveryInformation, CreateFile, CreateFileTransacted, ReadFile, WriteFile, SetEndOfFile, GetFileSizeEx, FlushFileBuffers, DeleteFile, CreateDirectory, RemoveDirectory, MoveFile, DeleteFileTransacted, CreateDirectoryTransacted, RemoveDirectoryTransacted, MoveFileTransacted, FindFiles, FindFilesTransacted, KvSet, KvUnset, KvGet, KvList, CloseHandle, DuplicateHandle, Exit}
 use Rattle.ktm_types.specs.declared.reply.Reply.TheVariants.{Contents as Bytes, Done, Refused, Size}
-use Rattle.ktm_world.specs.Decide.{opening, caller, command_tests, command_effect, decide, with_room}
+use Rattle.ktm_world.specs.Decide.{opening, caller, command_tests, command_effect, decide}
 use Rattle.ktm_world.specs.FileCalls.{create_file, create_file_tests, read_file, get_size, find_files}
 use Rattle.ktm_world.specs.Files.{bytes_seen}
 use Rattle.ktm_world.specs.KeyCalls.{kv_get, kv_list}
 use Rattle.ktm_world.specs.Labels.{transaction_named, manager_named, enlistment_named, file_named, viewer}
-use Rattle.ktm_world.specs.Outcome.{Outcome, only_reply, apply, first_refusal, refuse_or, is_full, within_log}
+use Rattle.ktm_world.specs.Outcome.{Outcome, apply, first_refusal, refuse_or}
 use Rattle.ktm_world.specs.Present.{Present}
 use Rattle.ktm_world.specs.TransactionCalls.{commit_transaction, rollback_transaction, get_transaction_information, information_of, recover_resource_manager, get_notification, pre_prepare_complete, prepare_complete, read_only_enlistment, commit_complete, rollback_complete, single_phase_reject, rollback_enlistment, pre_prepare_enlistment, prepare_enlistment, commit_enlistment, recover_enlistment, set_information, get_information, information_in, tick}
 use Rattle.ktm_world.specs.Uses.{file_room}
@@ -21,7 +20,7 @@ use Rattle.txf_laws.specs.Footprint.{ListsLaw}
 use Rattle.txf_laws.specs.Formed.{FormedLaw}
 use Rattle.ktm_records.specs.SoundWorlds.{IsSound}
 use Rattle.ktm_courses.proofs.offered.Calls.{Passes, passed, transaction-named, enlistment-named}
-use Rattle.ktm_limits.proofs.LimitsCalls.{Stays, stays-down, stays-reply, stays-recover_all, stays-take_first, stays-open_transaction, stays-open_manager, stays-open_enlistment, stays-duplicate, stays-information, stays-create_transaction, stays-create_manager, stays-create_enlistment, stays-set, stays-unset, stays-spent, stays-commit, stays-rollback, stays-pre_prepare_complete, stays-prepare_complete, stays-commit_complete, stays-rollback_complete, stays-read_only, stays-single_phase_reject, stays-rollback_enlistment, stays-pre_prepare_enlistment, stays-prepare_enlistment, stays-commit_enlistment, stays-recover_enlistment}
+use Rattle.ktm_limits.proofs.LimitsCalls.{Stays, stays-reply, stays-recover_all, stays-take_first, stays-open_transaction, stays-open_manager, stays-open_enlistment, stays-duplicate, stays-information, stays-create_transaction, stays-create_manager, stays-create_enlistment, stays-set, stays-unset, stays-spent, stays-commit, stays-rollback, stays-pre_prepare_complete, stays-prepare_complete, stays-commit_complete, stays-rollback_complete, stays-read_only, stays-single_phase_reject, stays-rollback_enlistment, stays-pre_prepare_enlistment, stays-prepare_enlistment, stays-commit_enlistment, stays-recover_enlistment}
 use Rattle.ktm_limits.proofs.LimitsFiles.{stays-answers, stays-create_file, stays-create_own, stays-delete, stays-remove, stays-move, stays-create_directory, stays-write, stays-set_end, stays-on_file}
 use Rattle.ktm_records.proofs.offered.NoMore.{Fits, no_more-fits}
 use Rattle.txf_laws.proofs.offered.OlderVersions.{AreFixed}
@@ -95,20 +94,11 @@ module _ (lists : ListsLaw) (formed : FormedLaw) (x : Present) (sound : IsSound 
       go (Some refusal) refused = stays-reply x fits (Refused refusal)
       go None none = is (record { none = none })
 
-  -- with room in the log or without
-  within_log-stays : (o : Outcome) → Stays x o → Stays x (within_log x o)
-  within_log-stays o stays = go (is_full x.machine.left o.events)
-    where
-      go : (b : Bool) → Stays x (if b then record (only_reply x (Refused LogFull)) { stops = true } else o)
-      go true = stays-down x fits (Refused LogFull)
-      go false = stays
-
   pub decided-stays : (process : Pid) (command : Command) → Stays x (decide x process command)
-  decided-stays process command = within_log-stays (with_room x process command)
-      (refuse_or-stays ((not x.machine.is_up, MachineDown) ∷ command_tests x process command) (command_effect x process command) (λ passes. effect-stays process command (passed passes).1))
+  decided-stays process command = refuse_or-stays ((not x.machine.is_up, MachineDown) ∷ command_tests x process command) (command_effect x process command) (λ passes. effect-stays process command (passed passes).1)
 
   pub later-stays : (ms : ℕ) → Stays x (decide_tick x ms)
-  later-stays ms = within_log-stays _ (refuse_or-stays ((not x.machine.is_up, MachineDown) ∷ []) (tick x ms) (λ passes. record {
+  later-stays ms = refuse_or-stays ((not x.machine.is_up, MachineDown) ∷ []) (tick x ms) (λ passes. record {
     fits = no_more-fits x (apply x (tick x ms)) (tick-less lists formed x ms order sound.files fixed) fits;
     fixed = tick-fixed lists formed x ms;
-  }))
+  })

@@ -18,5 +18,5 @@ limits_law agreeing keeping lists formed = record {
   versions = λ x process command kept fixed. record { same = (decided-stays lists formed x kept.sound (fits-within x kept.within) fixed.same process command).fixed fixed.same };
   later_versions = λ x ms kept fixed. record { same = (later-stays lists formed x kept.sound (fits-within x kept.within) fixed.same ms).fixed fixed.same };
   restarts = opened-within;
-  first_versions = λ base room log. record { same = λ a b there. absurd there };
+  first_versions = λ base log. record { same = λ a b there. absurd there };
 }

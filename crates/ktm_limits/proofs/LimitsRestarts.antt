@@ -92,15 +92,15 @@ length-back t =
 
 -- ---- all of it
 
-module _ (base : Durable) (room : ℕ) (log : List Group) (good : IsGoodState (stand base log)) where
+module _ (base : Durable) (log : List Group) (good : IsGoodState (stand base log)) where
   abbrev s : Durable
   s = stand base log
 
   abbrev x : Present
-  x = present (opened base room log)
+  x = present (opened base log)
 
   sound : IsSoundFiles x
-  sound = files-opened base room log good
+  sound = files-opened base log good
 
   limits : KeepsLimits s
   limits = limits-kept s good.limits

@@ -33,6 +33,6 @@ pub record LimitsLaw : Type 0 where
   -- versions stay fixed by the passing of time
   pub later_versions : (x : Present) (ms : ℕ) → IsKept x → AreVersionsFixed x → AreVersionsFixed (apply x (decide_tick x ms))
   -- after a restart of a good state
-  pub restarts : (base : Durable) (room : ℕ) (log : List Group) → IsGoodState (stand base log) → IsWithin (present (opened base room log))
+  pub restarts : (base : Durable) (log : List Group) → IsGoodState (stand base log) → IsWithin (present (opened base log))
   -- after a restart all versions are fixed
-  pub first_versions : (base : Durable) (room : ℕ) (log : List Group) → AreVersionsFixed (present (opened base room log))
+  pub first_versions : (base : Durable) (log : List Group) → AreVersionsFixed (present (opened base log))

@@ -1,2 +1,3 @@
 pub mod offered
 mod Serving
+mod WithoutQueues

@@ -1,2 +1,3 @@
 pub mod Managers
 pub mod Rising
+pub mod Durable

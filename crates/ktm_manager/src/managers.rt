@@ -4,9 +4,11 @@ ghost use Rattle.std.specs.List.{list_all};
 ghost use Rattle.ktm_world.specs.Durable.{is_before};
 ghost use Rattle.ktm_world.specs.Enlistments.{is_durable_at, manager_at};
 ghost use Rattle.ktm_world.specs.Outcome.{served};
+ghost use Rattle.ktm_manager.specs.Durable.{durable_in};
 ghost use Rattle.ktm_manager.specs.Managers.{first_of, note_of, KeepsManagers};
 ghost use Rattle.ktm_manager.specs.Rising.{are_rising, IsAt, IsNowhere};
 
+use crate::durable::DurableManagers;
 use crate::order::order_of;
 use ktm_base::{Id, NoMemory};
 use ktm_notify::{Note, Queues};
@@ -16,8 +18,8 @@ use std::marker::Model;
 /// A resource manager, without what waits for it.
 #[derive(Clone, Copy)]
 pub(crate) struct Listed {
-    id: Id,
-    is_durable: bool,
+    pub(crate) id: Id,
+    pub(crate) is_durable: bool,
 }
 
 /// The resource managers by rising Id. The notifications of the one at a place wait in the queue at that place.
@@ -90,6 +92,13 @@ impl Managers {
             Some(place) => self.listed[place].is_durable,
             None => false,
         }
+    }
+
+    /// The durable ones, one after another.
+    pub fn durable(&self) -> DurableManagers<'_>
+        ensures { result ≡ durable_in self.now.managers }
+    {
+        DurableManagers::new(&self.listed)
     }
 
     /// Makes room for one resource manager more.

@@ -15,7 +15,7 @@ use Rattle.ktm_memory.specs.Memory.{MemoryState, Settles, SettlesGood, Shows, Te
 
 -- ---- what memory shows
 
--- it shows what is the same but for how much of the log is left, too
+-- it shows what is the same, too
 pub shows-alike : (m : MemoryState) (y z : Present) → aside y ≡ aside z → y.recorded ≡ z.recorded → Shows m y → Shows m z
 shows-alike m y z same recorded shows = record {
   is_up = shows.is_up ∙ ap (λ (x : Present). x.machine.is_up) same;
@@ -29,10 +29,10 @@ shows-alike m y z same recorded shows = record {
   handles = shows.handles ∙ ap (λ (x : Present). x.handles) same;
 }
 
--- what it shows is the same but for what was recorded and how much of the log is left
+-- what it shows is the same but for what was recorded
 pub shown-alike : (m : MemoryState) (y z : Present) → Shows m y → Shows m z → aside y ≡ aside z
 shown-alike m y z one two i = record {
-  machine = record { is_up = (sym one.is_up ∙ two.is_up) i; left = 0 };
+  machine = record { is_up = (sym one.is_up ∙ two.is_up) i };
   recorded = empty_state 0 0;
   transactions = (sym one.transactions ∙ two.transactions) i;
   managers = (sym one.managers ∙ two.managers) i;
@@ -57,7 +57,7 @@ shows-held m kept = record {
 
 -- ---- outcomes that do not look at what was recorded
 
--- the outcome is the same, whatever was recorded and is left of the log
+-- the outcome is the same, whatever was recorded
 abbrev pub LooksAside : (Present → Outcome) → Type 0
 LooksAside f = (x : Present) → f (aside x) ≡ f x
 

@@ -1,5 +1,5 @@
 -- What becomes of labels, and what a call on files leaves.
-use Rattle.std.proofs.Common.{◌≡◌, ◌+◌, ℕ, [], Option, Some, None, refl, ◌∙◌, ap, arith}
+use Rattle.std.proofs.Common.{◌≡◌, ℕ, [], Option, Some, None, refl, ap, arith}
 use Rattle.ktm_base.specs.declared.id.Label.{Label}
 use Rattle.ktm_base.specs.declared.id.Pid.{Pid}
 use Rattle.ktm_base.specs.declared.id.Id.{Id}
@@ -28,7 +28,7 @@ use Rattle.ktm_memory.specs.declared.settlement.Labels.TheVariants.{Bind, Duplic
 -- a label bound to an object
 pub bound_leaves : (x : Present) (process : Pid) (label : Label) (object : Object) → apply x (opened_object x process label object) ≡ record x { handles = with_handle x.handles process label object }
 bound_leaves x process label object =
-    apply-kept x (opened_object x process label object) (record { records = refl; commits = refl; sends = refl; opens = refl; makes = refl; takes = refl; goes_on = refl }) refl
+    apply-kept x (opened_object x process label object) (record { records = refl; commits = refl; sends = refl; opens = refl; makes = refl; takes = refl }) refl
 
 -- what becomes of labels is done, and records nothing
 pub labels_done : (x : Present) (process : Pid) (labels : Labels) → IsSoundCourse x → IsDone (labels_outcome x process labels)
@@ -46,7 +46,7 @@ labels_done x process UnbindAll course = record { replies = (done_exit x process
 
 -- no events change nothing of what is so now
 pub no_group : (x : Present) → with_group x [] ≡ x
-no_group x = ap (λ (left : ℕ). record x { machine = record x.machine { left = left }; recorded = record x.recorded { events = x.recorded.events + 0 } }) (omega arith) ∙ ap (λ (n : ℕ). record x { recorded = record x.recorded { events = n } }) (omega arith)
+no_group x = ap (λ (n : ℕ). record x { recorded = record x.recorded { events = n } }) (omega arith)
 
 -- what a call on files leaves
 pub left_by : (x : Present) (process : Pid) (who : Option Id) (label : Option Label) (o : FileOutcome)

@@ -1,5 +1,5 @@
 -- How a transaction goes on is decided: by the row of what is seen of it.
-use Rattle.std.proofs.Common.{◌≡◌, ◌≢◌, ◌≤◌, All, Bool, true, false, cond, List, Option, None, refl, sym, ap, subst, ◌∙◌}
+use Rattle.std.proofs.Common.{◌≡◌, ◌≢◌, ◌≤◌, All, Bool, true, false, cond, List, Option, None, sum_by, refl, sym, ap, subst, ◌∙◌}
 use Rattle.arrayvec.specs.ArrayVec.{ArrayVec}
 use Rattle.std.specs.List.{list_any}
 use Rattle.ktm_base.specs.declared.id.Id.{Id}
@@ -19,6 +19,7 @@ use Rattle.ktm_trace.specs.Contents.{KeptLaw}
 use Rattle.ktm_trace.specs.Few.{AreFew, FewLaw}
 use Rattle.ktm_trace.specs.Recordings.{steps_room}
 use Rattle.ktm_trace.specs.declared.room.TheConstants.{MOST_NOTED}
+use Rattle.ktm_types.specs.Sizes.{event_size}
 use Rattle.ktm_types.specs.declared.input.PhaseInput.{PhaseInput}
 use Rattle.ktm_types.specs.declared.input.Seen.{Seen}
 use Rattle.ktm_types.specs.declared.object.Transaction.{Transaction}
@@ -26,7 +27,7 @@ use Rattle.ktm_types.specs.declared.reply.Reply.{Reply}
 use Rattle.ktm_types.specs.declared.reply.Reply.TheVariants.{Committed, Done, Pending, Refused}
 use Rattle.ktm_types.specs.declared.step.Step.{Step}
 use Rattle.ktm_world.specs.Enlistments.{Enlistment, is_ended}
-use Rattle.ktm_world.specs.Outcome.{Outcome, apply, is_full}
+use Rattle.ktm_world.specs.Outcome.{Outcome, apply}
 use Rattle.ktm_world.specs.Phases.{Course as Going}
 use Rattle.ktm_world.specs.Present.{Present}
 use Rattle.ktm_world.specs.Rows.{row}
@@ -106,49 +107,41 @@ module _ (kept : KeptLaw) (m : MemoryState) (t : Transaction) (caller : Option I
   same : course_then (present_of m) t caller steps.items ≡ course_to (present_of m) t caller input
   same = comes_to (present_of m) t caller input steps.items s (sees (present_of m) (caller_of m.tm.now.enlistments caller) (shows_present kept m)) is
 
-  can_go_on : IsReadyCourse (present_of m) t caller input → AreFew m.trace → steps_room steps.items ≤ MOST_NOTED → is_full (present_of m).machine.left (course_to (present_of m) t caller input).events ≡ false → CanGoOn m t caller steps.items
-  can_go_on ready few noted room = record {
+  can_go_on : IsReadyCourse (present_of m) t caller input → AreFew m.trace → steps_room steps.items ≤ MOST_NOTED → CanGoOn m t caller steps.items
+  can_go_on ready few noted = record {
     there = ready.there;
     leads = leads_on m t caller input steps.items s sees is;
     few = λ some. few;
     noted = noted;
     commits = λ commits.
-        may_commit (present_of m) t (ready.may (ap (list_any is_commit) (sym (is ∙ ap (λ (u : Seen). row u input) (sees (present_of m) None (shows_present kept m)))) ∙ commits) room);
+        may_commit (present_of m) t (ready.may (ap (list_any is_commit) (sym (is ∙ ap (λ (u : Seen). row u input) (sees (present_of m) None (shows_present kept m)))) ∙ commits));
   }
 
   -- what is left to do comes to what the call comes to
   pub course_decided : (reply : Reply) (events : EventsState) → reply ≡ reply_to input (course_to (present_of m) t caller input) → Holds events (course_then (present_of m) t caller steps.items).events
-      → is_full (present_of m).machine.left (course_then (present_of m) t caller steps.items).events ≡ false → IsReadyCourse (present_of m) t caller input → AreFew m.trace → steps_room steps.items ≤ MOST_NOTED
+      → IsReadyCourse (present_of m) t caller input → AreFew m.trace → steps_room steps.items ≤ MOST_NOTED
       → (let c = course_to (present_of m) t caller input in Decides (held m) (arrived (present_of m) c (reply_to input c)) reply (Course t caller steps) events m)
-  course_decided reply events says holds room ready few noted =
+  course_decided reply events says holds ready few noted =
       let x = present_of m in
       let c = course_to x t caller input in
       let d = course_then x t caller steps.items in
       let are : (arrived x c (reply_to input c)).events ≡ d.events = (arrival x c (reply_to input c)).events ∙ ap (λ (g : Going). g.events) (sym same) in
-      let fits : is_full x.machine.left (arrived x c (reply_to input c)).events ≡ false = ap (is_full x.machine.left) are ∙ room in
       record {
         says = says ∙ sym (arrived-reply x c (reply_to input c));
         records = subst (Holds events) (sym are) holds;
-        room = fits;
         journal = refl;
         group = (arrival x d Done).events ∙ sym are;
         tells = arrived-sent x d Done ∙ ap (λ (g : Going). g.sent) same ∙ sym (arrived-sent x c (reply_to input c));
         comes_to = ap (λ (g : Going). apply x (arrived x g Done)) same ∙ arrived-apply x c Done (reply_to input c);
-        may = can_go_on ready few noted (ap (λ (g : Going). is_full x.machine.left g.events) (sym same) ∙ room);
+        may = can_go_on ready few noted;
         waits = λ some. refl;
         answers = λ some refusal. subst (λ (r : Reply). r ≢ Refused refusal) (sym says) (answers input c refusal);
       }
 
-  -- where the log has no room for what it records, it has none for what the call records
-  pub course_is_full : is_full (present_of m).machine.left (course_then (present_of m) t caller steps.items).events ≡ true
-      → (let c = course_to (present_of m) t caller input in is_full (present_of m).machine.left (arrived (present_of m) c (reply_to input c)).events ≡ true)
-  course_is_full full =
-      let x = present_of m in
-      let c = course_to x t caller input in
-      ap (is_full x.machine.left) ((arrival x c (reply_to input c)).events ∙ ap (λ (g : Going). g.events) (sym same)) ∙ full
-
   -- what the course records has bytes
-  pub course_is_spelled : IsReadyCourse (present_of m) t caller input → is_full (present_of m).machine.left (course_then (present_of m) t caller steps.items).events ≡ false
-      → All IsSpellableEvent (course_then (present_of m) t caller steps.items).events
-  course_is_spelled ready room =
-      subst (λ (g : Going). All IsSpellableEvent g.events) (sym same) (ready.spelled (ap (λ (g : Going). is_full (present_of m).machine.left g.events) (sym same) ∙ room))
+  pub course_is_spelled : IsReadyCourse (present_of m) t caller input → All IsSpellableEvent (course_then (present_of m) t caller steps.items).events
+  course_is_spelled ready = subst (λ (g : Going). All IsSpellableEvent g.events) (sym same) ready.spelled
+
+  -- and it is of the same size
+  pub course_size : sum_by event_size (course_then (present_of m) t caller steps.items).events ≡ sum_by event_size (course_to (present_of m) t caller input).events
+  course_size = ap (λ (g : Going). sum_by event_size g.events) same

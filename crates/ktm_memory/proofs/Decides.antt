@@ -1,5 +1,5 @@
 -- Decisions of the layers.
-use Rattle.std.proofs.Common.{◌≡◌, ℕ, ◌-◌, false, List, [], Some, refl, sym, ◌∙◌, ap, subst}
+use Rattle.std.proofs.Common.{◌≡◌, ℕ, ◌-◌, List, [], Some, refl, sym, ◌∙◌, ap, subst}
 use Rattle.ktm_base.specs.declared.id.Label.{Label}
 use Rattle.ktm_base.specs.declared.id.ObjectKind.{ObjectKind}
 use Rattle.ktm_base.specs.declared.id.Pid.{Pid}
@@ -13,7 +13,7 @@ use Rattle.ktm_types.specs.declared.reply.Reply.TheVariants.{Done, Guid}
 use Rattle.ktm_world.specs.Decide.{of_keys}
 use Rattle.ktm_world.specs.FileUses.{file_changes_waiting}
 use Rattle.ktm_world.specs.KeyCalls.{KeyOutcome}
-use Rattle.ktm_world.specs.Outcome.{Outcome, is_full, only_reply}
+use Rattle.ktm_world.specs.Outcome.{Outcome, only_reply}
 use Rattle.ktm_world.specs.Present.{Present}
 use Rattle.ktm_world.specs.TransactionCalls.{create_transaction, get_transaction_information, information_of, tick}
 use Rattle.ktm_world.specs.Uses.{key_room}
@@ -43,7 +43,6 @@ pub keys_decided : (h : LayersNow) (n : MemoryState) (o : KeyOutcome) (reply : R
 keys_decided h n o reply events says same recorded holds = record {
   says = says;
   records = holds;
-  room = refl;
   journal = ap (λ (k : LayersNow). k.journal) same;
   group = refl;
   tells = refl;
@@ -62,11 +61,11 @@ information_is x t reply is = ap (only_reply x) (sym is)
 -- ---- time
 
 -- what is to be for the passing of time
-pub tick_decided : (m : MemoryState) (ms : ℕ) (events : EventsState) → IsStandingNow (present_of m) → Holds events (tick (present_of m) ms).events → is_full (present_of m).machine.left (tick (present_of m) ms).events ≡ false
+pub tick_decided : (m : MemoryState) (ms : ℕ) (events : EventsState) → IsStandingNow (present_of m) → Holds events (tick (present_of m) ms).events
     → Decides (held m) (tick (present_of m) ms) Done (Pass ms) events m
-tick_decided m ms events standing holds room =
+tick_decided m ms events standing holds =
     let x = present_of m in
-    decided (held m) m (tick x ms) Done (Pass ms) events (sym (done_tick x ms).says) holds room refl refl refl refl
+    decided (held m) m (tick x ms) Done (Pass ms) events (sym (done_tick x ms).says) holds refl refl refl refl
     ((kept x standing).sound.course.transactions.rise, (fits-within x (kept x standing).within).live) (λ some refusal e. absurd (cc))
 
 -- ---- CreateTransaction

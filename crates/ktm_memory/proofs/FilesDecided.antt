@@ -19,7 +19,7 @@ use Rattle.ktm_world.specs.Decide.{events_of}
 use Rattle.ktm_world.specs.FileOutcome.{FileOutcome, FileRoom, files_after}
 use Rattle.ktm_world.specs.Files.{FilesNow, OpenFile, changes_with, own_changes, tree_seen}
 use Rattle.ktm_world.specs.FileCalls.{Whereabouts, no_path, no_way, free, at_root, at_node, create_at, create_directory, create_file, delete_file, drop_at, find_files, find_path, get_size, make_at, move_at, move_file, read_file, remove_directory, set_end, write_file}
-use Rattle.ktm_world.specs.Outcome.{apply, first_refusal, is_full, only_reply}
+use Rattle.ktm_world.specs.Outcome.{apply, first_refusal, only_reply}
 use Rattle.ktm_world.specs.Keys.{changes_pending as keys_unset}
 use Rattle.ktm_world.specs.Present.{Present}
 use Rattle.ktm_world.specs.Uses.{file_room}
@@ -92,11 +92,11 @@ may_settle h n process label o opened copy same may ready is room unbound = (
 
 pub plain_decided : (h : LayersNow) (n : MemoryState) (process : Pid) (label : Option Label) (o : FileOutcome) (reply : Reply) (plan : FileOutcome) (copy : Option (List ℕ)) (events : EventsState)
     → reply ≡ o.reply → plan ≡ record o { reply = Done } → held n ≡ h → MaySettle n (PlainChange process label (record o { reply = Done }) copy) → Holds events (events_of None o.change)
-    → is_full (now_of h).machine.left (events_of None o.change) ≡ false → CanAnswer None o → Decides h (files_outcome (now_of h) process None label o) reply (PlainChange process label plan copy) events n
-plain_decided h n process label o reply plan copy events says is same may holds room answers =
+    → CanAnswer None o → Decides h (files_outcome (now_of h) process None label o) reply (PlainChange process label plan copy) events n
+plain_decided h n process label o reply plan copy events says is same may holds answers =
     let x = now_of h in
     let are = events_in x process None label o in
-    decided h n (files_outcome x process None label o) reply (PlainChange process label plan copy) events (says ∙ sym (reply_of x process None label o)) (subst (Holds events) (sym are) holds) (ap (is_full x.machine.left) are ∙ room) same
+    decided h n (files_outcome x process None label o) reply (PlainChange process label plan copy) events (says ∙ sym (reply_of x process None label o)) (subst (Holds events) (sym are) holds) same
     (ap (λ (p : FileOutcome). (files_outcome x process None label p).events) is ∙ events_in x process None label (record o { reply = Done }) ∙ sym are)
     (sends_none x process None label plan ∙ sym (sends_none x process None label o))
     (ap (λ (p : FileOutcome). apply x (files_outcome x process None label p)) is ∙ left_by x process None label (record o { reply = Done }) ∙ sym (left_by x process None label o))
@@ -150,7 +150,6 @@ own_decided h n process id label o opened events standing active same opens may 
     record {
       says = sym (reply_of x process (Some id) label o);
       records = subst (λ (es : List Event). Holds events es) (sym are) holds;
-      room = ap (is_full (now_of h).machine.left) are;
       journal = ap (λ (g : LayersNow). g.journal) same;
       group = bound_quiet (present_of n) process label opened ∙ sym are;
       tells = bound_sends (present_of n) process label opened ∙ sym (sends_none x process (Some id) label o);

@@ -84,7 +84,7 @@ settles-file m number files are = record { shows = shows; slots = λ x now. omeg
     closed fs = record fs { table = closed_file fs.table number }
 
     after : (x : Present) → apply x (last_handle_gone x (FileObject number)) ≡ record x { files = closed x.files }
-    after x = apply-kept x (last_handle_gone x (FileObject number)) (record { records = refl; commits = refl; sends = refl; opens = refl; makes = refl; takes = refl; goes_on = refl }) refl
+    after x = apply-kept x (last_handle_gone x (FileObject number)) (record { records = refl; commits = refl; sends = refl; opens = refl; makes = refl; takes = refl }) refl
 
     shows : (x : Present) → Shows m x → Unit {0} → Shows (record m { files = files }) (apply x (last_handle_gone x (FileObject number)))
     shows x now may = subst (λ (y : Present). Shows (record m { files = files }) y) (sym (after x)) (record {

@@ -1,4 +1,3 @@
-mod Rooms
 mod Behind
 mod HandlesLeft
 mod Telling

@@ -1,6 +1,5 @@
 -- What memory shows once something is made, and its label bound to it.
 use Rattle.std.proofs.Common.{◌≡◌, ℕ, ◌+◌, ◌++◌, true, List, [], ◌∷◌, map, Option, Some, None, is_some, refl, sym, ◌∙◌, ap, subst, append-nil}
-use Rattle.std.proofs.Math.Bool.{and-true}
 use Rattle.std.proofs.lemmas.Bool.{false≢true}
 use Rattle.ktm_base.specs.declared.id.Id.{Id}
 use Rattle.ktm_base.specs.declared.id.Label.{Label}
@@ -63,7 +62,7 @@ pub begun_shows : (m : MemoryState) (x : Present) (process : Pid) (label : Label
     → handles.handles ≡ with_handle m.handles.handles process label (TransactionObject (next_id m.tm.boot m.tm.now)) → Shows (record m { tm = tm; handles = handles }) (apply x (create_transaction x process label timeout))
 unfolding create_transaction
 begun_shows m x process label timeout tm handles shows boot now managers bound = made_shows m x (create_transaction x process label timeout) tm handles shows (record {
-  silent = record { records = refl; commits = refl; sends = refl; opens = refl; makes = refl; takes = refl; goes_on = refl };
+  silent = record { records = refl; commits = refl; sends = refl; opens = refl; makes = refl; takes = refl };
   forgets = refl;
   opens = refl;
   own = refl;
@@ -82,7 +81,7 @@ pub enlisted_shows : (m : MemoryState) (x : Present) (process : Pid) (label : La
 unfolding create_enlistment
 enlisted_shows m x process label manager transaction kind (Some u) (Some t) tm handles shows some_manager some_transaction manager_is transaction_is boot now managers bound =
     made_shows m x (create_enlistment x process label (Some u) (Some t) kind) tm handles shows (record {
-      silent = record { records = refl; commits = refl; sends = refl; opens = refl; makes = refl; takes = refl; goes_on = refl };
+      silent = record { records = refl; commits = refl; sends = refl; opens = refl; makes = refl; takes = refl };
       forgets = refl;
       opens = refl;
       own = refl;
@@ -119,7 +118,7 @@ unfolding create_resource_manager
 manager_shows m x process label durability tm handles shows boot now managers bound =
     let recorded = manager_aside x process label durability in
     record {
-      is_up = shows.is_up ∙ sym (and-true x.machine.is_up);
+      is_up = shows.is_up;
       boot = boot ∙ shows.boot ∙ sym recorded.boots;
       transactions = now ∙ ap (λ (ts : Transactions). record ts { last_manager = ts.last_manager + 1 }) shows.transactions;
       managers = managers ∙ (λ i. shows.managers i ++ record { id = id_after (shows.boot i) (shows.transactions i).last_manager; is_durable = is_durable durability; queue = [] } ∷ []) ∙ none_served _;

@@ -17,7 +17,7 @@ use Rattle.ktm_types.specs.declared.reply.Reply.{Reply}
 use Rattle.ktm_types.specs.declared.reply.Reply.TheVariants.{Contents, Done, Guid, Notification}
 use Rattle.ktm_world.specs.Enlistments.{Enlistment, Manager, Note, enlistment_at, manager_at}
 use Rattle.ktm_world.specs.Labels.{holds_of}
-use Rattle.ktm_world.specs.Outcome.{Outcome, first_refusal, is_full, only_reply, refuse_or}
+use Rattle.ktm_world.specs.Outcome.{Outcome, first_refusal, only_reply, refuse_or}
 use Rattle.ktm_world.specs.Present.{Present}
 use Rattle.ktm_world.specs.TransactionCalls.{create_enlistment, create_resource_manager, get_information, get_notification, has_empty_queue, note_reply, recover_resource_manager, set_information}
 use Rattle.ktm_world.specs.Transactions.{transaction_at}
@@ -43,14 +43,14 @@ manager_says h process label durability guid image id is image_is id_is = rw (is
 
 pub manager_decided : (h : LayersNow) (n : MemoryState) (process : Pid) (label : Label) (durability : Durability) (guid : List ℕ) (image : ℕ) (id : Id) (events : EventsState)
     → guid ≡ guid_of ObjectKind.Manager image id → image ≡ h.journal.image → id ≡ id_after h.boot h.transactions.last_manager
-    → held n ≡ h → MaySettle n (MakeManager process label durability) → Holds events (manager_events id durability) → is_full (now_of h).machine.left (manager_events id durability) ≡ false
+    → held n ≡ h → MaySettle n (MakeManager process label durability) → Holds events (manager_events id durability)
     → (o : Outcome) → o ≡ create_resource_manager (now_of h) process label durability → Decides h o (Guid guid) (MakeManager process label durability) events n
-manager_decided h n process label durability guid image id events is image_is id_is same may holds room o comes =
+manager_decided h n process label durability guid image id events is image_is id_is same may holds o comes =
     let made = create_resource_manager (now_of h) process label durability in
     let are = manager_records h process label durability id id_is in
     subst (λ o. Decides h o (Guid guid) (MakeManager process label durability) events n) (sym comes)
     (decided h n made (Guid guid) (MakeManager process label durability) events (manager_says h process label durability guid image id is image_is id_is) (subst (Holds events) are holds)
-    (ap (is_full (now_of h).machine.left) (sym are) ∙ room) same refl refl refl may (λ some refusal e. absurd (cc)))
+    same refl refl refl may (λ some refusal e. absurd (cc)))
 
 -- ---- RecoverResourceManager
 

@@ -1,6 +1,5 @@
 -- Labels that are bound, resource managers that recover and take what waits for them, and enlistments that are informed.
 use Rattle.std.proofs.Common.{◌≡◌, ◌≤◌, ◌+◌, ℕ, true, List, [], ◌∷◌, map, length, append-nil, Option, Some, None, is_some, refl, sym, ◌∙◌, ap, subst, inl, inr, arith}
-use Rattle.std.proofs.Math.Bool.{and-true}
 use Rattle.std.proofs.lemmas.Bool.{cases_Bool}
 use Rattle.std.specs.Option.{option_map}
 use Rattle.ktm_base.specs.declared.id.Id.{Id}
@@ -38,7 +37,7 @@ settles-bound m handles process label object are = record { shows = shows; slots
     shows : (x : Present) → Shows m x → Unit {0} → Shows (record m { handles = handles }) (apply x (opened_object x process label object))
     shows x now may =
         subst (λ (y : Present). Shows (record m { handles = handles }) y)
-        (sym (apply-kept x (opened_object x process label object) (record { records = refl; commits = refl; sends = refl; opens = refl; makes = refl; takes = refl; goes_on = refl }) refl))
+        (sym (apply-kept x (opened_object x process label object) (record { records = refl; commits = refl; sends = refl; opens = refl; makes = refl; takes = refl }) refl))
         (record {
           is_up = now.is_up;
           boot = now.boot;
@@ -76,7 +75,7 @@ telling x reply sent took all = record (only_reply x reply) { sent = sent; took 
 shows-told : (m : MemoryState) (tm : TmState) (x : Present) (reply : Reply) (sent : List Sent) (took : Option Id) (all : Transactions) → Shows m x → tm.boot ≡ m.tm.boot → tm.now ≡ all
     → tm.managers ≡ map (served took sent) m.tm.managers → Shows (record m { tm = tm }) (apply x (telling x reply sent took all))
 shows-told m tm x reply sent took all now boot is told = record {
-  is_up = now.is_up ∙ sym (and-true x.machine.is_up);
+  is_up = now.is_up;
   boot = boot ∙ now.boot;
   transactions = is;
   managers = told ∙ ap (λ (ms : List Manager). map (served took sent) ms) (now.managers ∙ sym (append-nil x.managers));

@@ -1,5 +1,5 @@
 -- A command that was decided: its reply, its events, and what is left to do in memory once they are recorded.
-use Rattle.std.specs.Prelude.{◌≡◌, ◌≢◌, true, false, List, [], ◌∷◌, cond, Option, Some, None}
+use Rattle.std.specs.Prelude.{◌≡◌, ◌≢◌, List, [], ◌∷◌, cond, Option, Some}
 use Rattle.ktm_base.specs.declared.id.Id.{Id}
 use Rattle.ktm_base.specs.declared.id.Label.{Label}
 use Rattle.ktm_base.specs.declared.id.Pid.{Pid}
@@ -12,9 +12,8 @@ use Rattle.ktm_types.specs.declared.reply.Reply.{Reply}
 use Rattle.ktm_types.specs.declared.reply.Reply.TheVariants.{Done, Refused}
 use Rattle.ktm_world.specs.Decide.{events_of}
 use Rattle.ktm_world.specs.FileOutcome.{FileOutcome}
-use Rattle.ktm_world.specs.Outcome.{Outcome, apply, is_full}
+use Rattle.ktm_world.specs.Outcome.{Outcome, apply}
 use Rattle.ktm_world.specs.TransactionCalls.{is_durable}
-use Rattle.ktm_memory.specs.declared.settlement.Decision.{Decision}
 use Rattle.ktm_memory.specs.declared.settlement.Settlement.{Settlement}
 use Rattle.ktm_memory.specs.declared.settlement.Settlement.TheVariants.{Nothing, Handles}
 use Rattle.ktm_memory.specs.declared.settlement.Labels.TheVariants.{Bind}
@@ -27,7 +26,6 @@ use Rattle.ktm_memory.specs.Settled.{left_to_do}
 pub record Decides (old : LayersNow) (o : Outcome) (reply : Reply) (then : Settlement) (events : EventsState) (new : MemoryState) : Type 0 where
   pub says : reply ≡ o.reply
   pub records : Holds events o.events
-  pub room : is_full (now_of old).machine.left o.events ≡ false
   pub journal : new.journal ≡ old.journal
   -- what is left to do has these events, tells this, and comes to what the outcome comes to
   pub group : (left_to_do (present_of new) then).events ≡ o.events
@@ -37,11 +35,6 @@ pub record Decides (old : LayersNow) (o : Outcome) (reply : Reply) (then : Settl
   pub waits : o.events ≢ [] → held new ≡ old
   -- what records something is not refused
   pub answers : o.events ≢ [] → (refusal : Refusal) → reply ≢ Refused refusal
-
--- the outcome is decided, or the log has no room for its events, and nothing has changed
-abbrev pub DecidesIf : LayersNow → Outcome → Option Decision → EventsState → MemoryState → Type 0
-DecidesIf old o None events new = (is_full (now_of old).machine.left o.events ≡ true) × (held new ≡ old)
-DecidesIf old o (Some d) events new = Decides old o d.reply d.settlement events new
 
 -- it is done, and records nothing
 pub record IsDone (o : Outcome) : Type 0 where

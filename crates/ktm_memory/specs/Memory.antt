@@ -1,5 +1,5 @@
 -- What the machine holds in memory, what that is of what is so now, and how a settlement changes that.
-use Rattle.std.specs.Prelude.{◌≡◌, ℕ, ◌+◌, ◌-◌, ◌≤◌, ◌||◌, not, if◌then◌else◌, Bool, true, false, List, [], filter, length, map, Option, Some, None, is_some, count_by}
+use Rattle.std.specs.Prelude.{◌≡◌, ℕ, ◌+◌, ◌≤◌, ◌||◌, not, if◌then◌else◌, Bool, true, false, List, [], filter, length, map, Option, Some, None, is_some, count_by}
 use Rattle.ktm_base.specs.declared.limits.TheConstants.{MOST_UNITS, MOST_LIVE}
 use Rattle.ktm_base.specs.declared.id.Label.{Label}
 use Rattle.ktm_base.specs.declared.id.Pid.{Pid}
@@ -110,7 +110,7 @@ recorded_of h = record {
 -- what is so now, by what the layers hold of it
 abbrev pub now_of : LayersNow → Present
 now_of h = record {
-  machine = record { is_up = h.is_up; left = h.journal.log.area.len - h.journal.log.end };
+  machine = record { is_up = h.is_up };
   recorded = recorded_of h;
   transactions = h.transactions;
   managers = h.managers;
@@ -123,8 +123,8 @@ now_of h = record {
 abbrev pub present_of : MemoryState → Present
 present_of m = now_of (held m)
 
--- memory shows what is so, but for how much of the log is left and how many events it has; what was recorded of files, keys, resource
--- managers and the work of transactions is not looked at, since it is as it stands now
+-- memory shows what is so, but for how many events the log has; what was recorded of files, keys, resource managers and the work of
+-- transactions is not looked at, since it is as it stands now
 pub record Shows (m : MemoryState) (x : Present) : Type 0 where
   pub is_up : m.is_up ≡ x.machine.is_up
   pub boot : m.tm.boot ≡ x.recorded.boots
@@ -231,7 +231,7 @@ MaySettle m (Enlist process label manager transaction kind) =
     × (is_some (manager_at m.tm.managers manager) ≡ true) × (is_some (transaction_at m.tm.now.items transaction) ≡ true)
 MaySettle m (Inform enlistment information) = Unit {0}
 
--- the list has room for each group that the log has room for, in an image of a size that there is
+-- the list has room for each group that fits an empty log, in an image of a size that there is
 pub record IsRoomy (j : JournalState) (events : EventsState) : Type 0 where
   pub most : j.units ≤ MOST_UNITS
   pub room : area_len j.units ≤ events.room + frame_size []

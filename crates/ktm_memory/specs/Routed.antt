@@ -16,7 +16,7 @@ use Rattle.ktm_world.specs.Decide.{of_keys}
 use Rattle.ktm_world.specs.Enlistments.{Enlistment, enlistment_at, manager_at}
 use Rattle.ktm_world.specs.Handles.{object_at}
 use Rattle.ktm_world.specs.Labels.{holds_of}
-use Rattle.ktm_world.specs.Outcome.{Outcome, first_refusal, is_full, refuse_or}
+use Rattle.ktm_world.specs.Outcome.{Outcome, first_refusal, refuse_or}
 use Rattle.ktm_world.specs.Phases.{Course as Going}
 use Rattle.ktm_world.specs.Present.{Present}
 use Rattle.ktm_world.specs.Rows.{row}
@@ -79,13 +79,13 @@ pub record IsReadyCall (x : Present) (process : Pid) (who : Option Id) (label : 
   pub active : IsActiveCaller x who
   pub may : first_refusal (file_tests x.files (file_room x) who call) ≡ None → MayMake x who (file_effect x.files who call)
 
--- the transaction is there, and is the caller's, if there is one; it has not ended, and what comes to it may: nothing that a superior asks, and
--- what it commits can be committed, where the log has room for what that records
+-- the transaction is there, and is the caller's, if there is one; what it commits can be committed, what it records has bytes, and it is active
+-- where it is to commit
 pub record IsReadyCourse (x : Present) (t : Transaction) (caller : Option Id) (input : PhaseInput) : Type 0 where
   pub there : transaction_at x.transactions.items t.id ≡ Some t
   pub called : (id : Id) → caller ≡ Some id → (e : Enlistment) × (enlistment_at x.transactions.enlistments id ≡ Some e) × (e.transaction ≡ t.id)
-  pub may : list_any is_commit (row (seen (course_of x t None)) input) ≡ true → is_full x.machine.left (course_to x t caller input).events ≡ false → MayCommitNow x t
-  pub spelled : is_full x.machine.left (course_to x t caller input).events ≡ false → All IsSpellableEvent (course_to x t caller input).events
+  pub may : list_any is_commit (row (seen (course_of x t None)) input) ≡ true → MayCommitNow x t
+  pub spelled : All IsSpellableEvent (course_to x t caller input).events
   pub active : input ≡ PhaseInput.CommitTransaction → is_active t ≡ true
 
 -- a label that is to be bound is free, and one that is to be duplicated is bound

@@ -1,9 +1,8 @@
 -- Which calls may take memory, once their labels are known: out of memory they alone may give up.
 use Rattle.std.specs.Prelude.{◌&&◌, ◌||◌, not, Bool, true, false, [], ◌∷◌, Option, is_none}
 use Rattle.ktm_base.specs.declared.id.Id.{Id}
-use Rattle.ktm_world.specs.Decide.{events_of}
 use Rattle.ktm_world.specs.FileOutcome.{FileOutcome}
-use Rattle.ktm_world.specs.Outcome.{first_refusal, is_full}
+use Rattle.ktm_world.specs.Outcome.{first_refusal}
 use Rattle.ktm_world.specs.Present.{Present}
 use Rattle.ktm_world.specs.TransactionCalls.{handle_test, no_enlistment_left, no_manager_left, no_transaction_left, quota_test}
 use Rattle.ktm_world.specs.Uses.{file_room, key_room}
@@ -19,13 +18,9 @@ use Rattle.ktm_memory.specs.declared.settlement.Labels.TheVariants.{Bind, Duplic
 abbrev pub is_quiet : FileOutcome → Bool
 is_quiet o = is_none o.change && is_none o.first && is_none o.opened
 
--- may it take memory to be made: not where it only answers, or the log has no room for it
-abbrev pub plan_takes_memory : Present → Option Id → FileOutcome → Bool
-plan_takes_memory x who o = not (is_quiet o) && not (is_full x.machine.left (events_of who o.change))
-
--- may a call on files take memory, to be decided or to be made
+-- may a call on files take memory, to be decided, or to be made where it does not only answer
 abbrev pub files_take_memory : Present → Option Id → FileCall → Bool
-files_take_memory x who call = decision_takes_memory call || plan_takes_memory x who (file_outcome x.files (file_room x) who call)
+files_take_memory x who call = decision_takes_memory call || not (is_quiet (file_outcome x.files (file_room x) who call))
 
 -- may it take memory to bind or to unbind labels: for a handle more, where nothing refuses it
 abbrev pub labels_take_memory : Present → Labels → Bool

@@ -1,17 +1,13 @@
-// Recording what a plain call has to record, where the log has room for it.
-ghost use Rattle.std.specs.Prelude.{◌≡◌, ℕ, ◌-◌, ◌^◌, ◌≤◌, ◌∷◌, min, sum_by, not, true, false, None, Some, [], All, IfSome};
-ghost use Rattle.ktm_event.specs.Kept.{EventsState, Holds};
+// Recording what a plain call has to record.
+ghost use Rattle.std.specs.Prelude.{◌≡◌, ◌≤◌, ◌∷◌, sum_by, None, Some, [], All};
+ghost use Rattle.ktm_event.specs.Kept.{Holds};
 ghost use Rattle.ktm_event.specs.Spelling.{IsSpellableEvent};
-ghost use Rattle.ktm_memory.specs.Memory.{IsRoomy};
 ghost use Rattle.ktm_types.specs.Sizes.{event_size};
 ghost use Rattle.ktm_types.specs.declared.change.Change.{Change as Made};
 ghost use Rattle.ktm_types.specs.declared.event.Event.{Event as Recorded};
 ghost use Rattle.ktm_world.specs.Decide.{events_of};
-ghost use Rattle.ktm_world.specs.Logs.{Group};
-ghost use Rattle.ktm_world.specs.Outcome.{is_full};
 
-use ktm_event::{Events, event_size};
-use ktm_journal::Journal;
+use ktm_event::Events;
 use ktm_types::{Change, Event};
 use txf_calls::Plan;
 
@@ -26,29 +22,29 @@ fn change_in(event: Event) -> Option<Change>
 }
 
 // Records a change of a plain call, and hands it back.
-fn record_change(journal: &Journal, events: &mut Events, change: Change) -> Option<Change>
+fn record_change(events: &mut Events, change: Change) -> Change
     requires empty { Holds events.old [] }
-    requires roomy { IsRoomy journal.now events.old }
-    requires spelled { is_full (journal.now.log.area.len - journal.now.log.end) (Recorded.Plain change ∷ []) ≡ false → IsSpellableEvent (Recorded.Plain change) }
-    ensures some { IfSome result (λ same. (same ≡ change) × Holds events.new (Recorded.Plain change ∷ []) × (is_full (journal.now.log.area.len - journal.now.log.end) (Recorded.Plain change ∷ []) ≡ false)) }
-    ensures none { result ≡ None → is_full (journal.now.log.area.len - journal.now.log.end) (Recorded.Plain change ∷ []) ≡ true }
+    requires spelled { IsSpellableEvent (Recorded.Plain change) }
+    requires fits { event_size (Recorded.Plain change) ≤ events.old.spare }
+    ensures same { result ≡ change }
+    ensures holds { Holds events.new (Recorded.Plain change ∷ []) }
     ensures room { events.new.room ≡ events.old.room }
 {
     let event = Event::Plain { change };
-    if !journal.has_room(event_size(&event)) {
-        return None;
-    }
     events.push(&event);
-    change_in(event)
+    let Some(change) = change_in(event) else {
+        unreachable!();
+    };
+    change
 }
 
-/// Records what a plain call has to record, and hands its plan back; there is none where the log has no room.
-pub(crate) fn record_plan(journal: &Journal, events: &mut Events, plan: Plan) -> Option<Plan>
+/// Records what a plain call has to record, and hands its plan back.
+pub(crate) fn record_plan(events: &mut Events, plan: Plan) -> Plan
     requires empty { Holds events.old [] }
-    requires roomy { IsRoomy journal.now events.old }
-    requires spelled { is_full (journal.now.log.area.len - journal.now.log.end) (events_of None plan.change) ≡ false → All IsSpellableEvent (events_of None plan.change) }
-    ensures some { IfSome result (λ same. (same ≡ plan) × Holds events.new (events_of None plan.change) × (is_full (journal.now.log.area.len - journal.now.log.end) (events_of None plan.change) ≡ false)) }
-    ensures none { result ≡ None → is_full (journal.now.log.area.len - journal.now.log.end) (events_of None plan.change) ≡ true }
+    requires spelled { All IsSpellableEvent (events_of None plan.change) }
+    requires fits { sum_by event_size (events_of None plan.change) ≤ events.old.spare }
+    ensures same { result ≡ plan }
+    ensures holds { Holds events.new (events_of None plan.change) }
     ensures room { events.new.room ≡ events.old.room }
 {
     let Plan {
@@ -57,29 +53,14 @@ pub(crate) fn record_plan(journal: &Journal, events: &mut Events, plan: Plan) ->
         first,
         opened,
     } = plan;
-    let Some(change) = change else {
-        return Some(Plan {
-            reply,
-            change: None,
-            first,
-            opened,
-        });
+    let change = match change {
+        Some(change) => Some(record_change(events, change)),
+        None => None,
     };
-    let Some(change) = record_change(journal, events, change) else {
-        return None;
-    };
-    Some(Plan {
+    Plan {
         reply,
-        change: Some(change),
+        change,
         first,
         opened,
-    })
-}
-
-/// Has the log room for events of this size, or is there none to have room for.
-pub(crate) fn has_room(journal: &Journal, size: usize) -> bool
-    ensures room { (group : Group) → min (sum_by event_size group) (2 ^ 64 - 1) ≡ size → result ≡ not (is_full (journal.now.log.area.len - journal.now.log.end) group) }
-    ensures fits { (events : EventsState) (taken : ℕ) → IsRoomy journal.now events → Holds events [] → size ≡ min taken (2 ^ 64 - 1) → result ≡ true → taken ≤ events.spare }
-{
-    size == 0 || journal.has_room(size)
+    }
 }

@@ -1,14 +1,15 @@
 // Deciding what a call comes to whose labels are known, and the passing of time.
-ghost use Rattle.std.specs.Prelude.{◌≡◌, ◌+◌, ◌≤◌, ◌∷◌, true, false, None, Some, [], IfOk, IsOk, OnErr, is_none, is_some};
+ghost use Rattle.std.specs.Prelude.{◌≡◌, ◌+◌, ◌≤◌, ◌∷◌, true, false, None, Some, [], IfOk, IsOk, OnErr, is_none, sum_by};
 ghost use Rattle.ktm_standing.specs.Standing.{IsStandingNow};
 ghost use Rattle.ktm_event.specs.Kept.{EventsState, Holds};
-ghost use Rattle.ktm_memory.specs.Decided.{Decides, DecidesIf, IsDone};
+ghost use Rattle.ktm_memory.specs.Decided.{Decides, IsDone};
 ghost use Rattle.ktm_memory.specs.Settled.{labels_outcome};
-ghost use Rattle.ktm_memory.specs.Memory.{IsRoomy, MayHandle, MemoryState, held, present_of};
+ghost use Rattle.ktm_memory.specs.Memory.{MayHandle, MemoryState, held, present_of};
 ghost use Rattle.ktm_memory.specs.Routed.{outcome_of, AreReady, IsActiveCaller, IsReadyFor};
 ghost use Rattle.ktm_slots.specs.Slots.{granted_in};
 ghost use Rattle.ktm_memory.specs.Takes.{labels_take_memory, routed_takes_memory};
 ghost use Rattle.ktm_memory.specs.declared.routed.Routed.TheVariants.{Create, Handles as OfLabels};
+ghost use Rattle.ktm_types.specs.Sizes.{event_size};
 ghost use Rattle.ktm_world.specs.Decide.{of_keys};
 ghost use Rattle.ktm_world.specs.Handles.{object_at};
 ghost use Rattle.ktm_world.specs.Outcome.{first_refusal, refuse_or};
@@ -16,11 +17,10 @@ ghost use Rattle.ktm_world.specs.TransactionCalls.{handle_test, information_of, 
 ghost use Rattle.ktm_world.specs.Uses.{key_room};
 ghost use Rattle.kv_rm.specs.Calls.{is_refused, key_outcome};
 
-use crate::commit::has_room;
 use crate::memory::Memory;
 use crate::routed::Routed;
 use crate::settlement::{Decision, Labels, Settlement};
-use crate::undone::{record_undone, undone_size};
+use crate::undone::record_undone;
 use ktm_base::{Id, Label, NoMemory, ObjectKind, Pid, Refusal, guid};
 use ktm_event::Events;
 use ktm_tm::state_of;
@@ -127,68 +127,63 @@ impl Memory {
         process: Pid,
         routed: Routed,
         events: &mut Events,
-    ) -> Result<Option<Decision>, NoMemory>
+    ) -> Result<Decision, NoMemory>
         requires up { self.old.is_up ≡ true }
         requires standing { IsStandingNow (present_of self.old) }
         requires ready { IsReadyFor (present_of self.old) process routed }
         requires empty { Holds events.old [] }
-        requires roomy { IsRoomy self.old.journal events.old }
-        ensures ok { IfOk result (λ d. DecidesIf (held self.old) (outcome_of (present_of self.old) process routed) d events.new self.new) }
-        ensures slots { IfOk result (λ d. is_some d ≡ true → self.old.tm.slots + granted_in (present_of self.old) (outcome_of (present_of self.old) process routed) ≤ self.new.tm.slots) }
+        requires fits { sum_by event_size (outcome_of (present_of self.old) process routed).events ≤ events.old.spare }
+        ensures ok { IfOk result (λ d. Decides (held self.old) (outcome_of (present_of self.old) process routed) d.reply d.settlement events.new self.new) }
+        ensures slots { IfOk result (λ d. self.old.tm.slots + granted_in (present_of self.old) (outcome_of (present_of self.old) process routed) ≤ self.new.tm.slots) }
         ensures grows { self.old.tm.slots ≤ self.new.tm.slots }
         ensures room { events.new.room ≡ events.old.room }
         ensures no_memory { OnErr result (held self.new ≡ held self.old) }
         ensures enough { routed_takes_memory (present_of self.old) routed ≡ false → IsOk result }
     {
         match routed {
-            Routed::Create { label, timeout } => Ok(Some(self.decide_create(
-                process, label, timeout,
-            )?)),
+            Routed::Create { label, timeout } => self.decide_create(process, label, timeout),
             Routed::Course {
                 transaction,
                 caller,
                 input,
             } => Ok(self.decide_course(transaction, caller, input, events)),
-            Routed::Information(t) => Ok(Some(Decision::only(self.information(&t)))),
+            Routed::Information(t) => Ok(Decision::only(self.information(&t))),
             Routed::MakeManager { label, durability } => {
                 self.decide_manager(process, label, durability, events)
             }
-            Routed::Recover(manager) => Ok(Some(self.decide_recovery(manager)?)),
-            Routed::Take(manager) => Ok(Some(self.decide_note(manager))),
+            Routed::Recover(manager) => self.decide_recovery(manager),
+            Routed::Take(manager) => Ok(self.decide_note(manager)),
             Routed::Enlist {
                 label,
                 manager,
                 transaction,
                 kind,
-            } => Ok(Some(self.decide_enlistment(process, label, manager, transaction, kind)?)),
+            } => self.decide_enlistment(process, label, manager, transaction, kind),
             Routed::Inform {
                 enlistment,
                 information,
-            } => Ok(Some(Decision::done(Settlement::Inform {
+            } => Ok(Decision::done(Settlement::Inform {
                 enlistment,
                 information,
-            }))),
-            Routed::Tell(enlistment) => Ok(Some(self.decide_told(alloc, enlistment)?)),
-            Routed::Handles(labels) => Ok(Some(self.decide_labels(process, labels)?)),
-            Routed::Keys { who, call } => Ok(Some(self.decide_keys(who, call)?)),
+            })),
+            Routed::Tell(enlistment) => self.decide_told(alloc, enlistment),
+            Routed::Handles(labels) => self.decide_labels(process, labels),
+            Routed::Keys { who, call } => self.decide_keys(who, call),
             Routed::Files { who, label, call } => {
                 self.decide_files(alloc, process, who, label, call, events)
             }
         }
     }
 
-    /// Time passes, where the log has room for what that records.
-    pub fn decide_tick(&self, ms: u32, events: &mut Events) -> Option<Decision>
+    /// Time passes, and what that records is one group.
+    pub fn decide_tick(&self, ms: u32, events: &mut Events) -> Decision
         requires standing { IsStandingNow (present_of self.now) }
         requires empty { Holds events.old [] }
-        requires roomy { IsRoomy self.now.journal events.old }
-        ensures ok { DecidesIf (held self.now) (tick (present_of self.now) ms) result events.new self.now }
+        requires fits { sum_by event_size (tick (present_of self.now) ms).events ≤ events.old.spare }
+        ensures decided { Decides (held self.now) (tick (present_of self.now) ms) result.reply result.settlement events.new self.now }
         ensures room { events.new.room ≡ events.old.room }
     {
-        if !has_room(&self.journal, undone_size(&self.tm, ms)) {
-            return None;
-        }
         record_undone(&self.tm, ms, events);
-        Some(Decision::done(Settlement::Pass(ms)))
+        Decision::done(Settlement::Pass(ms))
     }
 }

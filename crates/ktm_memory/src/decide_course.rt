@@ -1,55 +1,30 @@
 // Deciding how a transaction goes on by what comes to it.
-ghost use Rattle.std.specs.Prelude.{◌≡◌, ◌-◌, not, true, false, [], All};
+ghost use Rattle.std.specs.Prelude.{◌≡◌, ◌≤◌, true, [], All, sum_by};
 ghost use Rattle.ktm_standing.specs.Courses.{commits_at_once};
 ghost use Rattle.ktm_standing.specs.Standing.{IsStandingNow};
-ghost use Rattle.ktm_course.specs.Recorded.{IsBasis, IsCaller, IsEnlisted, IsSuperior};
+ghost use Rattle.ktm_course.specs.Recorded.{IsCaller, IsEnlisted, IsSuperior};
 ghost use Rattle.ktm_event.specs.Kept.{Holds};
 ghost use Rattle.ktm_event.specs.Spelling.{IsSpellableEvent};
-ghost use Rattle.ktm_memory.specs.Decided.{DecidesIf};
-ghost use Rattle.ktm_memory.specs.Memory.{IsRoomy, course_then, held, present_of};
-ghost use Rattle.ktm_memory.specs.Routed.{IsReadyCourse, outcome_of, reply_to};
+ghost use Rattle.ktm_memory.specs.Decided.{Decides};
+ghost use Rattle.ktm_memory.specs.Memory.{course_then, held, present_of};
+ghost use Rattle.ktm_memory.specs.Routed.{IsReadyCourse, course_to, outcome_of, reply_to};
 ghost use Rattle.ktm_memory.specs.declared.routed.Routed.TheVariants.{Course as OfCourse};
 ghost use Rattle.ktm_tm.specs.Courses.{caller_of};
+ghost use Rattle.ktm_types.specs.Sizes.{event_size};
 ghost use Rattle.ktm_world.specs.Enlistments.{is_durable_at, superior_of};
-ghost use Rattle.ktm_world.specs.Outcome.{is_full};
 ghost use Rattle.ktm_world.specs.Phases.{Course};
-ghost use Rattle.ktm_world.specs.Steps.{Basis, events_ahead, led, seen as seen_of};
+ghost use Rattle.ktm_world.specs.Steps.{led, seen as seen_of};
 
-use crate::commit::has_room;
 use crate::memory::Memory;
 use crate::settlement::{Decision, Settlement};
 use ktm_base::Id;
 use ktm_course::{Enlisted, Parts};
-use ktm_event::{Events, WrittenFiles};
-use ktm_journal::Journal;
+use ktm_event::Events;
 use ktm_phase::{Enlistment, step};
 use ktm_standing::law_of_kept as law_of_kept_worlds;
 use ktm_steps::law_of_events_ahead;
 use ktm_trace::{law_of_few, law_of_kept};
 use ktm_types::{PhaseInput, Reply, Seen, Step, Transaction};
-
-// Records what the steps of a transaction record, where the log has room for it.
-fn record_steps<F: WrittenFiles>(
-    journal: &Journal,
-    events: &mut Events,
-    parts: Parts<'_, F>,
-    t: &Transaction,
-    steps: &[Step],
-) -> bool
-    requires empty { Holds events.old [] }
-    requires roomy { IsRoomy journal.now events.old }
-    requires spelled { (b : Basis) → IsBasis F.files b t.now.id t.now.is_recorded parts → is_full (journal.now.log.area.len - journal.now.log.end) (events_ahead steps.now b) ≡ false → All IsSpellableEvent (events_ahead steps.now b) }
-    ensures recorded { (b : Basis) → IsBasis F.files b t.now.id t.now.is_recorded parts.entry → result ≡ true → Holds events.new (events_ahead steps.now b) }
-    ensures full { (b : Basis) → IsBasis F.files b t.now.id t.now.is_recorded parts.entry → result ≡ not (is_full (journal.now.log.area.len - journal.now.log.end) (events_ahead steps.now b)) }
-    ensures room { events.new.room ≡ events.old.room }
-{
-    let size = parts.size(t.id, t.is_recorded, steps);
-    if !has_room(journal, size) {
-        return false;
-    }
-    parts.record(t.id, t.is_recorded, steps, events);
-    true
-}
 
 // Has a transaction committed at once where that is asked.
 fn commits_at_once(seen: &Seen) -> bool
@@ -108,21 +83,18 @@ impl Memory {
         }
     }
 
-    // What the steps record is put into the list, where the log has room for it. No byte of the files that the transaction
-    // wrote is copied.
+    // What the steps record is put into the list. No byte of the files that the transaction wrote is copied.
     fn record_course(
         &self,
         t: &Transaction,
         caller: Option<Id>,
         steps: &[Step],
         events: &mut Events,
-    ) -> bool
+    )
         requires empty { Holds events.old [] }
-        requires roomy { IsRoomy self.now.journal events.old }
-        requires spelled { is_full (present_of self.now).machine.left (course_then (present_of self.now) t.now caller steps.now).events ≡ false
-            → All IsSpellableEvent (course_then (present_of self.now) t.now caller steps.now).events }
-        ensures recorded { result ≡ true → Holds events.new (course_then (present_of self.now) t.now caller steps.now).events }
-        ensures full { result ≡ not (is_full (present_of self.now).machine.left (course_then (present_of self.now) t.now caller steps.now).events) }
+        requires spelled { All IsSpellableEvent (course_then (present_of self.now) t.now caller steps.now).events }
+        requires fits { sum_by event_size (course_then (present_of self.now) t.now caller steps.now).events ≤ events.old.spare }
+        ensures holds { Holds events.new (course_then (present_of self.now) t.now caller steps.now).events }
         ensures room { events.new.room ≡ events.old.room }
     {
         law_of_events_ahead();
@@ -134,24 +106,24 @@ impl Memory {
             caller: self.calling(caller),
             superior: self.superior(t.id),
         };
-        record_steps(&self.journal, events, parts, t, steps)
+        parts.record(t.id, t.is_recorded, steps, events);
     }
 
-    /// The transaction goes on by what comes to it, from the enlistment, if one calls: what its steps record is one group, where
-    /// the log has room for it. It takes no memory: that of a commit was taken by the calls that changed and set something.
+    /// The transaction goes on by what comes to it, from the enlistment, if one calls: what its steps record is one group. It
+    /// takes no memory: that of a commit was taken by the calls that changed and set something.
     pub(crate) fn decide_course(
         &self,
         t: Transaction,
         caller: Option<Id>,
         input: PhaseInput,
         events: &mut Events,
-    ) -> Option<Decision>
+    ) -> Decision
         requires up { self.now.is_up ≡ true }
         requires standing { IsStandingNow (present_of self.now) }
         requires ready { IsReadyCourse (present_of self.now) t caller input }
         requires empty { Holds events.old [] }
-        requires roomy { IsRoomy self.now.journal events.old }
-        ensures decided { (process : _) → DecidesIf (held self.now) (outcome_of (present_of self.now) process (OfCourse t caller input)) result events.new self.now }
+        requires fits { sum_by event_size (course_to (present_of self.now) t caller input).events ≤ events.old.spare }
+        ensures decided { (process : _) → Decides (held self.now) (outcome_of (present_of self.now) process (OfCourse t caller input)) result.reply result.settlement events.new self.now }
         ensures room { events.new.room ≡ events.old.room }
     {
         law_of_kept();
@@ -159,16 +131,14 @@ impl Memory {
         law_of_kept_worlds();
         let seen = self.seen(&t);
         let steps = step(&seen, input);
-        if !self.record_course(&t, caller, steps.as_slice(), events) {
-            return None;
-        }
-        Some(Decision {
+        self.record_course(&t, caller, steps.as_slice(), events);
+        Decision {
             reply: reply_to(input, &seen),
             settlement: Settlement::Course {
                 transaction: t,
                 caller,
                 steps,
             },
-        })
+        }
     }
 }

@@ -1,16 +1,16 @@
 // Deciding the calls on files, and the room that files and keys have.
-ghost use Rattle.std.specs.Prelude.{◌≡◌, ◌-◌, ◌≤◌, true, false, None, Some, [], IfOk, IsOk, OnErr, OnOk, is_some};
+ghost use Rattle.std.specs.Prelude.{◌≡◌, ◌-◌, ◌≤◌, true, false, None, Some, [], IfOk, IsOk, OnErr, OnOk, is_some, sum_by};
 ghost use Rattle.ktm_standing.specs.Files.{MayMake};
 ghost use Rattle.ktm_standing.specs.Standing.{IsStandingNow};
 ghost use Rattle.ktm_event.specs.Kept.{EventsState, Holds};
-ghost use Rattle.ktm_memory.specs.Decided.{CanAnswer, Decides, DecidesIf, bind_opened};
-ghost use Rattle.ktm_memory.specs.Memory.{IsRoomy, held, present_of};
+ghost use Rattle.ktm_memory.specs.Decided.{CanAnswer, Decides, bind_opened};
+ghost use Rattle.ktm_memory.specs.Memory.{held, present_of};
 ghost use Rattle.ktm_memory.specs.Routed.{IsActiveCaller, IsFreeLabel, IsReadyCall, outcome_of};
 ghost use Rattle.ktm_memory.specs.Opening.{files_outcome};
 ghost use Rattle.ktm_memory.specs.declared.routed.Routed.TheVariants.{Files as OfFiles};
 ghost use Rattle.ktm_memory.specs.Takes.{files_take_memory, is_quiet};
+ghost use Rattle.ktm_types.specs.Sizes.{event_size};
 ghost use Rattle.ktm_world.specs.Decide.{events_of};
-ghost use Rattle.ktm_world.specs.Outcome.{is_full};
 ghost use Rattle.ktm_world.specs.Uses.{file_room, key_room};
 ghost use Rattle.txf_volume.specs.Plain.{IsReady};
 ghost use Rattle.txf_volume.specs.Transacted.{HasRoom};
@@ -87,33 +87,30 @@ impl Memory {
         self.handles.reserve(1)
     }
 
-    // A plain call has come to this plan: its change is recorded, where the log has room for it, and then it is to be made.
+    // A plain call has come to this plan: its change is recorded, and then it is to be made.
     fn decide_plain(
         &mut self,
         process: Pid,
         label: Option<Label>,
         plan: Plan,
         events: &mut Events,
-    ) -> Result<Option<Decision>, NoMemory>
+    ) -> Result<Decision, NoMemory>
         requires free { IsFreeLabel (present_of self.old) process label }
         requires may { MayMake (present_of self.old) None plan }
         requires answers { CanAnswer None plan }
         requires empty { Holds events.old [] }
-        requires roomy { IsRoomy self.old.journal events.old }
-        ensures ok { IfOk result (λ d. DecidesIf (held self.old) (files_outcome (present_of self.old) process None label plan) d events.new self.new) }
+        requires fits { sum_by event_size (events_of None plan.change) ≤ events.old.spare }
+        ensures ok { IfOk result (λ d. Decides (held self.old) (files_outcome (present_of self.old) process None label plan) d.reply d.settlement events.new self.new) }
         ensures slots { self.old.tm.slots ≤ self.new.tm.slots }
         ensures room { events.new.room ≡ events.old.room }
         ensures no_memory { OnErr result (held self.new ≡ held self.old) }
-        ensures full { is_full (present_of self.old).machine.left (events_of None plan.change) ≡ true → IsOk result }
         ensures enough { IsReady self.old.files plan None → (is_some plan.opened ≡ true → 1 ≤ self.old.handles.spare) → IsOk result }
     {
-        let Some(mut plan) = record_plan(&self.journal, events, plan) else {
-            return Ok(None);
-        };
+        let mut plan = record_plan(events, plan);
         self.reserve_for(plan.opened)?;
         let ready = self.files.prepare(&plan)?;
         let reply = replace(&mut plan.reply, Reply::Done);
-        Ok(Some(Decision {
+        Ok(Decision {
             reply,
             settlement: Settlement::Change {
                 process,
@@ -121,7 +118,7 @@ impl Memory {
                 plan,
                 ready,
             },
-        }))
+        })
     }
 
     // A call in a transaction has come to this plan, which is made at once, since nothing of it is recorded.
@@ -161,12 +158,12 @@ impl Memory {
         label: Option<Label>,
         call: FileCall,
         events: &mut Events,
-    ) -> Result<Option<Decision>, NoMemory>
+    ) -> Result<Decision, NoMemory>
         requires standing { IsStandingNow (present_of self.old) }
         requires ready { IsReadyCall (present_of self.old) process who label call }
         requires empty { Holds events.old [] }
-        requires roomy { IsRoomy self.old.journal events.old }
-        ensures ok { IfOk result (λ d. DecidesIf (held self.old) (outcome_of (present_of self.old) process (OfFiles who label call)) d events.new self.new) }
+        requires fits { sum_by event_size (outcome_of (present_of self.old) process (OfFiles who label call)).events ≤ events.old.spare }
+        ensures ok { IfOk result (λ d. Decides (held self.old) (outcome_of (present_of self.old) process (OfFiles who label call)) d.reply d.settlement events.new self.new) }
         ensures slots { self.old.tm.slots ≤ self.new.tm.slots }
         ensures room { events.new.room ≡ events.old.room }
         ensures no_memory { OnErr result (held self.new ≡ held self.old) }
@@ -176,10 +173,10 @@ impl Memory {
         let room = self.file_room();
         let plan = decide(alloc, &self.files, who, call, &room)?;
         if changes_nothing(&plan) {
-            return Ok(Some(Decision::only(plan.reply)));
+            return Ok(Decision::only(plan.reply));
         }
         match who {
-            Some(id) => Ok(Some(self.decide_own(process, id, label, plan)?)),
+            Some(id) => self.decide_own(process, id, label, plan),
             None => self.decide_plain(process, label, plan, events),
         }
     }

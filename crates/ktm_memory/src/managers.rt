@@ -1,55 +1,41 @@
 // Deciding the calls on resource managers.
-ghost use Rattle.std.specs.Prelude.{◌≡◌, ◌+◌, ◌≤◌, ◌-◌, not, true, false, None, [], IfOk, IsOk, OnErr, is_some, length, option_map};
+ghost use Rattle.std.specs.Prelude.{◌≡◌, ◌+◌, ◌≤◌, true, false, None, [], IfOk, IsOk, OnErr, is_some, length, option_map, sum_by};
 ghost use Rattle.ktm_base.specs.declared.id.ObjectKind.{ObjectKind};
 ghost use Rattle.ktm_base.specs.Guid.{guid_of};
 ghost use Rattle.ktm_types.specs.declared.reply.Reply.TheVariants.{Notification};
 ghost use Rattle.ktm_standing.specs.Standing.{IsStandingNow};
 ghost use Rattle.ktm_event.specs.Kept.{EventsState, Holds};
-ghost use Rattle.ktm_memory.specs.Decided.{Decides, DecidesIf};
-ghost use Rattle.ktm_memory.specs.Memory.{IsRoomy, held, present_of};
+ghost use Rattle.ktm_memory.specs.Decided.{Decides};
+ghost use Rattle.ktm_memory.specs.Memory.{held, present_of};
 ghost use Rattle.ktm_memory.specs.Routed.{outcome_of};
 ghost use Rattle.ktm_memory.specs.Takes.{routed_takes_memory};
 ghost use Rattle.ktm_memory.specs.declared.routed.Routed.TheVariants.{MakeManager, Recover as Recovery, Take as Taking};
 ghost use Rattle.ktm_event.specs.Spelling.{IsSpellableEvent};
 ghost use Rattle.ktm_memory.specs.Decided.{manager_events};
 ghost use Rattle.ktm_types.specs.declared.event.Event.{Event as Recorded};
-ghost use Rattle.ktm_world.specs.Outcome.{is_full};
+ghost use Rattle.ktm_types.specs.Sizes.{event_size};
 ghost use Rattle.ktm_world.specs.Enlistments.{manager_at};
 ghost use Rattle.ktm_world.specs.Handles.{object_at};
 ghost use Rattle.ktm_world.specs.TransactionCalls.{is_durable, recover_notes};
 
-use crate::commit::has_room;
 use crate::memory::Memory;
 use crate::settle::is_durable;
 use crate::settlement::{Decision, Settlement};
 use ktm_base::{Id, Label, NoMemory, Notify, ObjectKind, Pid, Refusal, guid};
-use ktm_event::{Events, event_size};
-use ktm_journal::Journal;
+use ktm_event::Events;
 use ktm_types::{Durability, Event, Reply};
 
-// Records that a durable resource manager is made, where the log has room for it; a volatile one is not recorded.
-fn record_manager(
-    journal: &Journal,
-    events: &mut Events,
-    manager: Id,
-    durability: Durability,
-) -> bool
+// Records that a durable resource manager is made; a volatile one is not recorded.
+fn record_manager(events: &mut Events, manager: Id, durability: Durability)
     requires empty { Holds events.old [] }
-    requires roomy { IsRoomy journal.now events.old }
     requires spelled { is_durable durability ≡ true → IsSpellableEvent (Recorded.MadeRm manager) }
-    ensures recorded { result ≡ true → Holds events.new (manager_events manager durability) }
-    ensures full { result ≡ not (is_full (journal.now.log.area.len - journal.now.log.end) (manager_events manager durability)) }
+    requires fits { sum_by event_size (manager_events manager durability) ≤ events.old.spare }
+    ensures holds { Holds events.new (manager_events manager durability) }
     ensures room { events.new.room ≡ events.old.room }
 {
-    if !is_durable(durability) {
-        return true;
+    if is_durable(durability) {
+        events.push(&Event::MadeRm { manager });
     }
-    let event = Event::MadeRm { manager };
-    if !has_room(journal, event_size(&event)) {
-        return false;
-    }
-    events.push(&event);
-    true
 }
 
 // The reply that tells a notification of this kind, and the enlistment that it is about, if it is about one.
@@ -76,35 +62,33 @@ impl Memory {
         label: Label,
         durability: Durability,
         events: &mut Events,
-    ) -> Result<Option<Decision>, NoMemory>
+    ) -> Result<Decision, NoMemory>
         requires up { self.old.is_up ≡ true }
         requires standing { IsStandingNow (present_of self.old) }
         requires free { object_at self.old.handles.handles process label ≡ None }
         requires empty { Holds events.old [] }
-        requires roomy { IsRoomy self.old.journal events.old }
-        ensures ok { IfOk result (λ d. DecidesIf (held self.old) (outcome_of (present_of self.old) process (MakeManager label durability)) d events.new self.new) }
+        requires fits { sum_by event_size (outcome_of (present_of self.old) process (MakeManager label durability)).events ≤ events.old.spare }
+        ensures ok { IfOk result (λ d. Decides (held self.old) (outcome_of (present_of self.old) process (MakeManager label durability)) d.reply d.settlement events.new self.new) }
         ensures slots { self.old.tm.slots ≤ self.new.tm.slots }
         ensures room { events.new.room ≡ events.old.room }
         ensures no_memory { OnErr result (held self.new ≡ held self.old) }
         ensures enough { routed_takes_memory (present_of self.old) (MakeManager label durability) ≡ false → IsOk result }
     {
         if self.handles.is_full() || self.tm.is_full_of_managers() {
-            return Ok(Some(Decision::only(Reply::Refused(Refusal::NotEnoughQuota))));
+            return Ok(Decision::only(Reply::Refused(Refusal::NotEnoughQuota)));
         }
         let id = self.tm.next_manager_id();
-        if !record_manager(&self.journal, events, id, durability) {
-            return Ok(None);
-        }
+        record_manager(events, id, durability);
         self.tm.reserve_manager()?;
         self.handles.reserve(1)?;
-        Ok(Some(Decision {
+        Ok(Decision {
             reply: Reply::Guid(guid(ObjectKind::Manager, self.journal.image(), id)),
             settlement: Settlement::MakeManager {
                 process,
                 label,
                 durability,
             },
-        }))
+        })
     }
 
     // A resource manager recovers: there is to be room for what it is told.

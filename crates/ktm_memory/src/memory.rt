@@ -103,6 +103,27 @@ impl Memory {
         &self.files
     }
 
+    /// The keys.
+    pub fn keys(&self) -> &KvRm
+        ensures { result.now ≡ self.now.keys }
+    {
+        &self.keys
+    }
+
+    /// Of the transactions that the log has, what is to be seen nowhere else.
+    pub fn trace(&self) -> &Trace
+        ensures { result.now ≡ self.now.trace }
+    {
+        &self.trace
+    }
+
+    /// The number of the next node, by what was recorded.
+    pub fn next_node(&self) -> u64
+        ensures { result ≡ self.now.next_node }
+    {
+        self.next_node
+    }
+
     /// The machine is down.
     pub fn fall(&mut self)
         ensures { self.new ≡ record self.old { is_up = false } }

@@ -1,5 +1,5 @@
 // What the passing of time records: the transactions whose timeouts are reached, and of which the log has something, roll back.
-ghost use Rattle.std.specs.Prelude.{◌≡◌, ◌+◌, ◌-◌, ◌^◌, ◌≤◌, ◌++◌, ◌∷◌, ◌&&◌, List, [], All, filter, min, sum_by};
+ghost use Rattle.std.specs.Prelude.{◌≡◌, ◌+◌, ◌≤◌, ◌++◌, ◌∷◌, ◌&&◌, List, [], All, filter, sum_by};
 ghost use Rattle.std.specs.List.{flat_map};
 ghost use Rattle.ktm_standing.specs.Effects.{undo_of};
 ghost use Rattle.ktm_event.specs.Kept.{Holds};
@@ -10,7 +10,7 @@ ghost use Rattle.ktm_world.specs.TransactionCalls.{is_due, later};
 ghost use Rattle.ktm_world.specs.Transactions.{is_live};
 
 use ktm_base::Id;
-use ktm_event::{Events, event_size};
+use ktm_event::Events;
 use ktm_tm::Tm;
 use ktm_types::{Event, Transaction};
 
@@ -19,13 +19,6 @@ fn is_undone(tm: &Tm, ms: u32, t: &Transaction) -> bool
     ensures { result ≡ (is_due (later tm.now.now.clock ms) t.now && t.now.is_recorded) }
 {
     tm.is_due_in(ms as u64, t) && t.is_recorded
-}
-
-// How many bytes the event takes.
-fn undo_size(transaction: Id) -> usize
-    ensures { result ≡ event_size (Recorded.Undo transaction) }
-{
-    event_size(&Event::Undo { transaction })
 }
 
 // Puts the event into the list.
@@ -50,30 +43,6 @@ fn record_one(tm: &Tm, ms: u32, t: &Transaction, events: &mut Events)
     if is_undone(tm, ms, t) {
         push_undo(t.id, events);
     }
-}
-
-// How many bytes it takes, where it is recorded.
-fn size_of_one(tm: &Tm, ms: u32, t: &Transaction) -> usize
-    ensures { result ≡ sum_by event_size (undo_of (later tm.now.now.clock ms) t.now) }
-{
-    if is_undone(tm, ms, t) {
-        undo_size(t.id)
-    } else {
-        0
-    }
-}
-
-/// How many bytes the events take, or 2^64 - 1, where they take more.
-pub(crate) fn undone_size(tm: &Tm, ms: u32) -> usize
-    ensures { result ≡ min (sum_by event_size (flat_map (undo_of (later tm.now.now.clock ms)) (filter is_live tm.now.now.items))) (2 ^ 64 - 1) }
-{
-    let mut size = 0usize;
-    for place in 0..tm.live_count() {
-        if let Some(t) = tm.live_at(place) {
-            size = size.saturating_add(size_of_one(tm, ms, &t));
-        }
-    }
-    size
 }
 
 /// Puts the events into the list, in order of creation.

@@ -11,9 +11,9 @@ pub enum OpenFault {
     /// opened.
     #[error("the disk has no power")]
     Down,
-    /// The log has no room for what a start records. The image is as it was.
-    #[error("the log is full")]
-    Full,
+    /// The image counts 2^32 - 2 boots or more, or 2^62 events or more. It is as it was.
+    #[error("worn image")]
+    Worn,
     /// Out of memory. Nothing was recorded.
     #[error("out of memory")]
     NoMemory,

@@ -9,7 +9,8 @@ ghost use Rattle.ktm_open.specs.Opening.{Prepared, open_fault_of};
 use crate::fault::OpenFault;
 use ktm_base::{Disk, Down, NEW_UNITS};
 use ktm_journal::Journal;
-use ktm_kernel::{Kernel, RestartFault, Restarted};
+use ktm_kernel::{Buffers, Kernel, RestartFault, Restarted};
+use ktm_restart::{law_of_bad_images, law_of_new_images, law_of_states};
 use std::alloc::Global;
 
 /// The number of an image that an opening makes itself.
@@ -25,6 +26,7 @@ fn prepare<D: Disk>(disk: &mut D) -> Result<(), Down>
     ensures calls { DeviceCalls (8 * MOST_UNITS + 65) (D.status disk.old) (D.status disk.new) (is_err result) }
     ensures few { IsSomeAnd (D.told disk.old) (λ s. 0 < length s.seen) → (D.status disk.new).calls ≤ (D.status disk.old).calls + 1 }
 {
+    law_of_new_images();
     let Ok(len) = disk.len() else {
         return Err(Down);
     };
@@ -43,7 +45,7 @@ fn open_fault(fault: RestartFault) -> OpenFault
     match fault {
         RestartFault::Down => OpenFault::Down,
         RestartFault::Bad(offset) => OpenFault::BadImage(offset),
-        RestartFault::Full => OpenFault::Full,
+        RestartFault::Worn => OpenFault::Worn,
         RestartFault::NoMemory => OpenFault::NoMemory,
     }
 }
@@ -56,11 +58,13 @@ pub fn open_kernel<D: Disk>(alloc: Global, disk: &mut D) -> Result<Restarted, Op
     ensures plan { (D.status disk.new).plan ≡ (D.status disk.old).plan }
     ensures downs { (D.status disk.old).downs ≤ (D.status disk.new).downs }
 {
+    law_of_states();
+    law_of_bad_images();
     if let Err(Down) = prepare(disk) {
         return Err(OpenFault::Down);
     }
-    let mut buffer = Vec::new(alloc);
-    match Kernel::restart(alloc, disk, &mut buffer) {
+    let mut buffers = Buffers::new(alloc);
+    match Kernel::restart(alloc, disk, &mut buffers) {
         Ok(restarted) => Ok(restarted),
         Err(fault) => Err(open_fault(fault)),
     }

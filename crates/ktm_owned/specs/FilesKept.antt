@@ -19,4 +19,4 @@ pub record FilesKeptLaw : Type 0 where
   -- by the passing of time
   pub ticks : (x : Present) (ms : ℕ) → IsSoundCourse x → IsSoundFiles x → IsSoundFiles (apply x (decide_tick x ms))
   -- by a restart of a good state
-  pub restarts : (base : Durable) (room : ℕ) (log : List Group) → IsGoodState (stand base log) → IsSoundFiles (present (opened base room log))
+  pub restarts : (base : Durable) (log : List Group) → IsGoodState (stand base log) → IsSoundFiles (present (opened base log))

@@ -15,5 +15,5 @@ use Rattle.txf_laws.specs.SoundFiles.{IsSoundKeys, all_set_apart}
 abbrev pub OwnKeysLaw : Type 0
 OwnKeysLaw = ((x : Present) (process : Pid) (command : Command) → IsSoundKeys x → IsSoundKeys (apply x (decide x process command)))
     × ((x : Present) (ms : ℕ) → IsSoundKeys x → IsSoundKeys (apply x (decide_tick x ms)))
-    × ((base : Durable) (room : ℕ) (log : List Group) → IsGoodState (stand base log) → IsSoundKeys (present (opened base room log)))
+    × ((base : Durable) (log : List Group) → IsGoodState (stand base log) → IsSoundKeys (present (opened base log)))
     × ((x : Present) → IsSoundKeys x → all_set_apart x ≡ true)

@@ -5,7 +5,7 @@ use Rattle.ktm_base.specs.declared.id.Id.{Id}
 use Rattle.ktm_base.specs.declared.id.Label.{Label}
 use Rattle.ktm_base.specs.declared.id.Pid.{Pid}
 use Rattle.ktm_base.specs.declared.refusal.Refusal.{Refusal}
-use Rattle.ktm_base.specs.declared.refusal.Refusal.TheVariants.{LogFull, MachineDown}
+use Rattle.ktm_base.specs.declared.refusal.Refusal.TheVariants.{MachineDown}
 use Rattle.ktm_types.specs.declared.command.Command.{Command}
 use Rattle.ktm_types.specs.declared.command.Command.TheVariants.{CommitEnlistment, CreateTransaction, OpenTransaction, RollbackTransaction, GetTransactionInformation, CreateResourceManager, OpenResourceManager, RecoverResourceManager, GetNotificationResourceManager, CreateEnlistment, OpenEnlistment, RecoverEnlistment, RollbackComplete, SinglePhaseReject, RollbackEnlistment, SetEnlistmentRecoveryInformation, GetEnlistmentRecoveryInformation, CreateFile, CreateFileTransacted, ReadFile, WriteFile, SetEndOfFile, GetFileSizeEx, FlushFileBuffers, DeleteFile, CreateDirectory, RemoveDirectory, MoveFile, DeleteFileTransacted, CreateDirectoryTransacted, RemoveDirectoryTransacted, MoveFileTransacted, FindFiles, FindFilesTransacted, KvSet, KvUnset, KvGet, KvList, CloseHandle, DuplicateHandle, Exit, CommitTransaction, PrePrepareComplete, PrepareComplete, ReadOnlyEnlistment, CommitComplete, PrePrepareEnlistment, PrepareEnlistment}
 use Rattle.ktm_types.specs.declared.input.PhaseInput.{PhaseInput}
@@ -15,7 +15,7 @@ use Rattle.ktm_types.specs.declared.object.Transaction.{Transaction}
 use Rattle.ktm_types.specs.declared.reply.Reply.{Reply}
 use Rattle.ktm_types.specs.declared.reply.Reply.TheVariants.{Done, Refused}
 use Rattle.ktm_types.specs.declared.step.Owed.{Owed}
-use Rattle.ktm_world.specs.Decide.{bound_file, caller, command_effect, command_tests, decide, of_files, of_keys, on_file, opening, with_room}
+use Rattle.ktm_world.specs.Decide.{bound_file, caller, command_effect, command_tests, decide, of_files, of_keys, on_file, opening}
 use Rattle.ktm_world.specs.Enlistments.{Enlistment, Manager, is_superior, owes_commit, owes_rollback, is_open_for_votes, owes_pre_prepare, owes_prepare}
 use Rattle.ktm_world.specs.FileCalls.{create_file, read_file, write_file, set_end, get_size, flush_file, delete_file, create_directory, remove_directory, move_file, find_files}
 use Rattle.ktm_world.specs.FileOutcome.{FileOutcome}
@@ -26,7 +26,7 @@ use Rattle.ktm_world.specs.KeyCalls.{kv_get, kv_list, with_setting}
 use Rattle.ktm_world.specs.Labels.{enlistment_named, file_named, file_tests, manager_named, transaction_named, transaction_tests, viewer, binding}
 use Rattle.ktm_world.specs.Lawful.{Agrees}
 use Rattle.ktm_world.specs.Laws.{StepLaw}
-use Rattle.ktm_world.specs.Outcome.{Outcome, apply, first_refusal, is_full, only_reply, refuse_or, within_log}
+use Rattle.ktm_world.specs.Outcome.{Outcome, apply, first_refusal, only_reply, refuse_or}
 use Rattle.ktm_world.specs.Phases.{is_single_phase}
 use Rattle.ktm_world.specs.Present.{Present, Transactions}
 use Rattle.ktm_world.specs.Steps.{led, share_of}
@@ -54,7 +54,6 @@ use Rattle.ktm_records.proofs.AgreementOfSilentSteps.{IsSilent, agreed-silent, s
 use Rattle.ktm_records.proofs.AgreementOfRestarts.{agreed-opened}
 use Rattle.ktm_records.proofs.offered.AgreementOfRollbacks.{agreed-aborted_by}
 use Rattle.ktm_records.proofs.offered.Stages.{early-pre_prepare, early-prepare, is_early, waiting-held, waiting-recorded}
-use Rattle.ktm_steps.proofs.offered.Ways.{if_cases}
 
 module _ (x : Present) (sound : IsSoundCourse x) (agreed : Agreed x) where
   replies : (reply : Reply) → Agreed (apply x (only_reply x reply))
@@ -163,13 +162,8 @@ module _ (x : Present) (sound : IsSoundCourse x) (agreed : Agreed x) where
       or_refused (Some refusal) refused = replies (Refused refusal)
       or_refused None none = is (record { none = none })
 
-  -- with room in the log or without
-  agreed-within_log : (o : Outcome) → Agreed (apply x o) → Agreed (apply x (within_log x o))
-  agreed-within_log o is = if_cases (λ o. Agreed (apply x o)) (is_full x.machine.left o.events) (record (only_reply x (Refused LogFull)) { stops = true }) o
-      (λ full. still (record (only_reply x (Refused LogFull)) { stops = true }) refl refl refl refl refl refl) (λ room. is)
-
   agreed-decide_tick : (ms : ℕ) → Agreed (apply x (decide_tick x ms))
-  agreed-decide_tick ms = agreed-within_log _ (agreed-refuse_or ((not x.machine.is_up, MachineDown) ∷ []) (tick x ms) (λ passes. agreed-tick x ms sound agreed))
+  agreed-decide_tick ms = agreed-refuse_or ((not x.machine.is_up, MachineDown) ∷ []) (tick x ms) (λ passes. agreed-tick x ms sound agreed)
 
   -- ---- commands that bring a transaction further
 
@@ -291,16 +285,14 @@ module _ (x : Present) (sound : IsSoundCourse x) (agreed : Agreed x) where
     agreed-command process (DuplicateHandle label from source) passes = bound process label (object_at x.handles from source)
     agreed-command process Exit passes = agreed-exit x process sound agreed
 
-    -- with room in the log or without
     agreed-decided : (process : Pid) (command : Command) → Agreed (apply x (decide x process command))
-    agreed-decided process command = agreed-within_log (with_room x process command)
-        (agreed-refuse_or ((not x.machine.is_up, MachineDown) ∷ command_tests x process command) (command_effect x process command) (λ passes. agreed-command process command (passed passes).1))
+    agreed-decided process command = agreed-refuse_or ((not x.machine.is_up, MachineDown) ∷ command_tests x process command) (command_effect x process command) (λ passes. agreed-command process command (passed passes).1)
 
 pub agreeing_law : StepLaw → AgreeingLaw
 agreeing_law step = record {
   commands = λ x process command sound good carried agrees. let is = agreed-decided x sound.course (record { agrees = agrees; carried = carried }) sound.files good process command in (is.agrees, is.carried);
   ticks = λ x ms sound carried agrees. let is = agreed-decide_tick x sound (record { agrees = agrees; carried = carried }) ms in (is.agrees, is.carried);
-  restarts = λ base room log good. let is = agreed-opened base room log good in (is.agrees, is.carried);
+  restarts = λ base log good. let is = agreed-opened base log good in (is.agrees, is.carried);
   worlds = λ w process command within sound good carried agrees.
       let is = agreed-decided (present w) sound.course (record { agrees = agrees; carried = carried }) sound.files good process command in
       subst (λ y. Agrees y × (are_carried_out y.recorded ≡ true)) (sym (step.1 w process command within)) (is.agrees, is.carried);

@@ -1,6 +1,6 @@
 -- What was recorded agrees with what is so now after a restart of a good state.
 use Rattle.std.specs.Prelude.{if◌then◌else◌}
-use Rattle.std.proofs.Common.{◌≡◌, ℕ, ◌&&◌, ◌||◌, not, Bool, true, false, List, [], ◌∷◌, ◌++◌, filter, map, Option, Some, None, is_some, refl, sym, ◌∙◌, ap, subst, arith, inl, inr}
+use Rattle.std.proofs.Common.{◌≡◌, ◌&&◌, ◌||◌, not, Bool, true, false, List, [], ◌∷◌, ◌++◌, filter, map, Option, Some, None, is_some, refl, sym, ◌∙◌, ap, subst, arith, inl, inr}
 use Rattle.std.proofs.lemmas.Bool.{cases_Bool, and_from, and_parts, not-true, not_from_false, or_left, true≢false, false_from_ne_true}
 use Rattle.std.proofs.lemmas.List.{append-nil}
 use Rattle.std.specs.List.{flat_map, list_all, list_any}
@@ -91,16 +91,16 @@ decided-stage : (stage : Stage) → is_decided stage ≡ true → stage ≡ Stag
 decided-stage Stage.Decided is = refl
 decided-stage _ is = absurd (true≢false (sym is))
 
-module _ (base : Durable) (room : ℕ) (log : List Group) (good : IsGoodState (stand base log)) where
+module _ (base : Durable) (log : List Group) (good : IsGoodState (stand base log)) where
   abbrev s : Durable
   s = stand base log
 
   abbrev x : Present
-  x = present (opened base room log)
+  x = present (opened base log)
 
   -- before the restart has recorded anything
   abbrev y : Present
-  y = present (reboot base room log)
+  y = present (reboot base log)
 
   abbrev es : List Enlistment
   es = x.transactions.enlistments
@@ -116,20 +116,20 @@ module _ (base : Durable) (room : ℕ) (log : List Group) (good : IsGoodState (s
 
   module _ (t : Recorded) (there : IsIn t s.transactions) (brought : is_brought_back t ≡ true) where
     in_back : (e : Enlistment) → IsIn e (flat_map (enlistment_back t.id) t.parts) → IsIn e es
-    in_back e below = in-es base room log good t there brought e (IsIn-right e (superior_back t.id t.superior) (flat_map (enlistment_back t.id) t.parts) below)
+    in_back e below = in-es base log good t there brought e (IsIn-right e (superior_back t.id t.superior) (flat_map (enlistment_back t.id) t.parts) below)
 
     enlistments-back : by_rising_id (flat_map (enlistment_back t.id) t.parts) ≡ course_enlistments (c t)
-    enlistments-back = rising-same (flat_map (enlistment_back t.id) t.parts) (map brought_back (filter (is_kept (c t)) es)) (differ-parts s good t there) (differ-kept (c t) (sound-opened base room log good).enlistments.rise)
+    enlistments-back = rising-same (flat_map (enlistment_back t.id) t.parts) (map brought_back (filter (is_kept (c t)) es)) (differ-parts s good t there) (differ-kept (c t) (sound-opened base log good).enlistments.rise)
         (λ e below.
         let from = IsIn-unflat (enlistment_back t.id) t.parts e below in
         let parts = back-parts t.id from.0 e from.2 in
         IsIn-rising _ e (subst (λ z. IsIn z (course_enlistments (c t))) (back-same t.id from.0 e from.2) (kept-into (c t) e (in_back e below)
-        (and_from _ _ (and_from _ _ (and_from _ _ parts.0 (durable-back base room log good e (in_back e below))) parts.1) (not_from_false _ parts.2)))))
+        (and_from _ _ (and_from _ _ (and_from _ _ parts.0 (durable-back base log good e (in_back e below))) parts.1) (not_from_false _ parts.2)))))
         (λ e kept.
         let from = kept-from (c t) e (IsIn-into_rising _ e kept) in
         let part = (and_parts (takes_part t.id from.0) _ (and_parts _ (from.0).is_prepared (and_parts _ (not (from.0).is_finished) from.2).0).0).0 in
         let ordinary = and_parts (same_id (from.0).transaction t.id) (not (is_superior from.0)) (and_parts _ (not (from.0).is_read_only) part).0 in
-        elim (IsIn-cases from.0 (superior_back t.id t.superior) (flat_map (enlistment_back t.id) t.parts) (own-within base room log good t there from.0 from.1 ordinary.0)) [
+        elim (IsIn-cases from.0 (superior_back t.id t.superior) (flat_map (enlistment_back t.id) t.parts) (own-within base log good t there from.0 from.1 ordinary.0)) [
           | inl above ↦ absurd (true≢false (sym (superior-above t.id t.superior from.0 above) ∙ not-true _ ordinary.1))
           | inr below ↦
               let of = IsIn-unflat (enlistment_back t.id) t.parts from.0 below in
@@ -141,14 +141,14 @@ module _ (base : Durable) (room : ℕ) (log : List Group) (good : IsGoodState (s
       where
         none-there : (o : Option Superior) → t.superior ≡ o → superior_of es t.id ≡ None → o ≡ None
         none-there None is none = refl
-        none-there (Some sup) is none = absurd (true≢false (sym (superior-there base room log good t there brought sup is) ∙ ap is_some none))
+        none-there (Some sup) is none = absurd (true≢false (sym (superior-there base log good t there brought sup is) ∙ ap is_some none))
 
         go : (o : Option Enlistment) → superior_of es t.id ≡ o → t.superior ≡ superior_now o
         go None none = none-there t.superior refl none
         go (Some e) found =
             let at = find-found (λ e. same_id e.transaction t.id && is_superior e) es e found in
             let both = and_parts (same_id e.transaction t.id) (is_superior e) at.1 in
-            (is-back t e (own-within base room log good t there e at.0 both.0)).superior both.1
+            (is-back t e (own-within base log good t there e at.0 both.0)).superior both.1
 
     -- one that waits for its superior
     held-back : is_held t.stage ≡ true → summary_of t ∷ [] ≡ summaries x (transaction_back t)
@@ -164,8 +164,8 @@ module _ (base : Durable) (room : ℕ) (log : List Group) (good : IsGoodState (s
           stage = stage t.stage held i;
           superior = superior-same i;
           enlistments = enlistments-back i;
-          changes = sym (own-back base room log good t there held) i;
-          settings = sym (set-back base room log good t there held) i;
+          changes = sym (own-back base log good t there held) i;
+          settings = sym (set-back base log good t there held) i;
         }
 
     -- one that commits

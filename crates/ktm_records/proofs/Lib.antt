@@ -9,6 +9,7 @@ mod AgreementOfRestarts
 mod AgreementOfSilentSteps
 mod AgreementOfUnprepared
 mod CallsMade
+mod CommittedTexts
 mod CourseFacts
 mod CourseRecords
 mod Facts

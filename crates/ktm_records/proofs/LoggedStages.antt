@@ -131,10 +131,10 @@ module _ (x : Present) (kept : IsKept x) (t : Transaction) (there : IsIn t x.tra
     has-one : t.is_recorded ≡ true → has_part (recorded_or_new x.recorded.transactions t.id) ≡ true
     has-one recorded =
         let r = recalled Stage.Ready recorded is refl in
-        let well = list_all-at (is_ready_well x.recorded) x.recorded.transactions kept.good.ready r.0 r.2 in
+        let well = list_all-at is_ready_well x.recorded.transactions kept.good.ready r.0 r.2 in
         ap has_part (found-known x.recorded.transactions t.id r.0 r.3) ∙ elim (or_cases (not (is_ready r.0.stage)) _ well) [
           | inl later ↦ absurd (true≢false (sym (ap (λ (s : Summary). is_ready s.stage) r.1) ∙ not-true _ later))
-          | inr both ↦ (and_parts (r.0.id.boot == x.recorded.boots) (has_part r.0) (and_parts (r.0.id.boot == x.recorded.boots && has_part r.0) (is_none r.0.superior) both).0).1
+          | inr both ↦ (and_parts (has_part r.0) (is_none r.0.superior) both).0
         ]
       where
         found-known : (ts : List Recorded) (id : Id) (r : Recorded) → recorded_at ts id ≡ Some r → recorded_or_new ts id ≡ r

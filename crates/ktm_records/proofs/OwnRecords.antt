@@ -1,5 +1,5 @@
 -- What each command records: at most six events of what it changes or of what one transaction has to commit, or rollbacks alone; and the keys that
--- transactions have set stay texts.
+-- transactions have set and commit stay texts.
 use Rattle.std.specs.Prelude.{⊤}
 use Rattle.std.proofs.Common.{◌≡◌, ℕ, ◌≤◌, not, Bool, true, List, [], ◌∷◌, ◌++◌, length, Option, Some, None, refl, sym, subst, arith, inl, inr, ◌⊎◌, ap}
 use Rattle.std.proofs.lemmas.Bool.{ltb-false}
@@ -8,7 +8,7 @@ use Rattle.ktm_base.specs.declared.id.Id.{Id}
 use Rattle.ktm_base.specs.declared.id.Label.{Label}
 use Rattle.ktm_base.specs.declared.id.Pid.{Pid}
 use Rattle.ktm_base.specs.declared.refusal.Refusal.{Refusal}
-use Rattle.ktm_base.specs.declared.refusal.Refusal.TheVariants.{LogFull, MachineDown}
+use Rattle.ktm_base.specs.declared.refusal.Refusal.TheVariants.{MachineDown}
 use Rattle.ktm_types.specs.declared.change.Change.{Change}
 use Rattle.ktm_types.specs.declared.change.Change.TheVariants.{Cut}
 use Rattle.ktm_types.specs.declared.command.Command.{Command}
@@ -25,17 +25,18 @@ use Rattle.ktm_types.specs.declared.reply.Reply.{Reply}
 use Rattle.ktm_types.specs.declared.reply.Reply.TheVariants.{Done, Refused}
 use Rattle.ktm_types.specs.Values.{IsCommand, IsText}
 use Rattle.ktm_types.specs.declared.input.PhaseInput.{PhaseInput}
-use Rattle.ktm_world.specs.Decide.{bound_file, caller, command_effect, command_tests, decide, events_of, of_files, of_keys, on_file, on_file_tests, opening, own_tests, with_room}
+use Rattle.ktm_world.specs.Decide.{bound_file, caller, command_effect, command_tests, decide, events_of, of_files, of_keys, on_file, on_file_tests, opening, own_tests}
+use Rattle.ktm_world.specs.Committed.{Work}
 use Rattle.ktm_world.specs.Enlistments.{Enlistment, Manager}
 use Rattle.ktm_world.specs.FileCalls.{Whereabouts, no_path, no_way, free, at_root, at_node, create_at, create_directory, create_file, delete_file, drop_at, empties, find_files, find_path, flush_file, get_size, make_at, move_at, move_file, read_file, remove_directory, set_end, write_file, write_file_tests}
-use Rattle.ktm_world.specs.FileOutcome.{FileOutcome}
+use Rattle.ktm_world.specs.FileOutcome.{FileOutcome, works_of}
 use Rattle.ktm_world.specs.Files.{OpenFile, own_changes, tree_seen}
 use Rattle.ktm_world.specs.HandleCalls.{bind_to, duplicate_handle}
 use Rattle.ktm_world.specs.Handles.{object_at}
 use Rattle.ktm_world.specs.KeyCalls.{with_setting}
 use Rattle.ktm_world.specs.Keys.{OwnSettings, own_settings}
 use Rattle.ktm_world.specs.Labels.{enlistment_named, file_named, file_tests, manager_named, transaction_named}
-use Rattle.ktm_world.specs.Outcome.{Outcome, first_refusal, is_full, only_reply, refuse_or, within_log}
+use Rattle.ktm_world.specs.Outcome.{Outcome, apply, first_refusal, only_reply, refuse_or}
 use Rattle.ktm_world.specs.Phases.{Course}
 use Rattle.ktm_world.specs.Present.{Present}
 use Rattle.ktm_world.specs.TransactionCalls.{answering, arrived, commit_complete, commit_enlistment, commit_of, commit_reply, commit_transaction, course_of, create_enlistment, create_resource_manager, create_transaction, enlist, enlistment_with, get_information, get_notification, get_transaction_information, keep_information, manager_with, open_enlistment, open_resource_manager, open_to_enlistment, open_to_manager, open_to_transaction, open_transaction, pre_prepare_complete, pre_prepare_enlistment, prepare_complete, prepare_enlistment, read_only_enlistment, recover_all, recover_enlistment, recover_resource_manager, rollback_complete, rollback_enlistment, rollback_of, rollback_transaction, set_information, single_phase_reject, take_first, tick, transaction_with, recovery_of}
@@ -43,22 +44,38 @@ use Rattle.ktm_world.specs.Steps.{led, share_of}
 use Rattle.ktm_world.specs.Transactions.{is_undecided}
 use Rattle.ktm_world.specs.Uses.{file_room}
 use Rattle.ktm_world.specs.World.{decide_tick}
+use Rattle.ktm_steps.proofs.offered.Recorded.{all-append}
 use Rattle.ktm_courses.proofs.offered.Calls.{Passes, passed, of-answering}
+use Rattle.ktm_records.specs.Spelling.{HaveTextKeys}
 use Rattle.ktm_records.proofs.offered.AgreementOfCourses.{arrival}
 use Rattle.ktm_records.proofs.OwnEvents.{IsOwnEvent, IsSpelledPut, few-led, own-led}
-use Rattle.ktm_records.proofs.OwnTexts.{Texts, texts-with_own, texts-without_own}
+use Rattle.ktm_records.proofs.CommittedTexts.{TextWorks, texts-led}
+use Rattle.ktm_records.proofs.OwnTexts.{Texts, texts-none, texts-own_settings, texts-with_own, texts-without_own}
 use Rattle.ktm_records.proofs.offered.AgreementOfRollbacks.{is_undo, undoes-aborted, undoes-closing}
 use Rattle.ktm_courses.proofs.offered.HandlesAndTime.{Closes, close_handle-so, exit-so, tick-so}
 use Rattle.ktm_steps.proofs.offered.Ways.{if_cases}
 
 -- ---- texts
 
--- an outcome leaves the keys that transactions have set texts
-abbrev KeepsTexts : Present → Outcome → Type 0
-KeepsTexts x o = Texts x.keys.own → Texts o.own
+-- the keys that transactions have set are texts after an outcome, and so are those that it commits
+pub record HasTexts (o : Outcome) : Type 0 where
+  pub own : Texts o.own
+  pub works : TextWorks o.works
 
-texts-arrived : (x : Present) (d : Course) (reply : Reply) → KeepsTexts x (arrived x d reply)
-texts-arrived x d reply = if_cases (λ o. KeepsTexts x o) (is_undecided d.transaction) _ _ (λ is texts. texts) (λ known texts. texts-without_own x.keys.own d.transaction.id texts)
+-- an outcome leaves the keys that transactions have set texts, and commits texts
+abbrev pub KeepsTexts : Present → Outcome → Type 0
+KeepsTexts x o = Texts x.keys.own → HasTexts o
+
+own-arrived : (x : Present) (d : Course) (reply : Reply) → Texts x.keys.own → Texts (arrived x d reply).own
+own-arrived x d reply texts = if_cases (λ (o : Outcome). Texts o.own) (is_undecided d.transaction) _ _ (λ is. texts) (λ known. texts-without_own x.keys.own d.transaction.id texts)
+
+texts-arrived : (x : Present) (input : PhaseInput) (t : Transaction) (caller : Option Enlistment) (reply : Reply) → KeepsTexts x (arrived x (led input (course_of x t caller)) reply)
+texts-arrived x input t caller reply texts =
+    let c = course_of x t caller in
+    record {
+      own = own-arrived x (led input c) reply texts;
+      works = subst TextWorks (sym (arrival x (led input c) reply).works) (texts-led input c (texts-own_settings x.keys.own t.id texts) tt);
+    }
 
 texts-setting : (x : Present) (who : Option Id) (key : List ℕ) (value : Option (List ℕ)) → IsText key → Texts x.keys.own → Texts (with_setting x.keys.own who key value)
 texts-setting x None key value text texts = texts
@@ -71,15 +88,18 @@ record Rolls (x : Present) (o : Outcome) : Type 0 where
   texts : KeepsTexts x o
   undos : list_all is_undo o.events ≡ true
 
-rolls-same : (x : Present) (o : Outcome) → o.own ≡ x.keys.own → o.events ≡ [] → Rolls x o
-rolls-same x o own none = record { texts = subst Texts (sym own); undos = ap (list_all is_undo) none }
+rolls-same : (x : Present) (o : Outcome) → o.own ≡ x.keys.own → o.works ≡ [] → o.events ≡ [] → Rolls x o
+rolls-same x o own works none = record {
+  texts = λ texts. record { own = subst Texts (sym own) texts; works = subst TextWorks (sym works) tt };
+  undos = ap (list_all is_undo) none;
+}
 
 rolls-reply : (x : Present) (reply : Reply) → Rolls x (only_reply x reply)
-rolls-reply x reply = rolls-same x (only_reply x reply) refl refl
+rolls-reply x reply = rolls-same x (only_reply x reply) refl refl refl
 
 rolls-back : (x : Present) (t : Transaction) (caller : Option Enlistment) (reply : Reply) → Rolls x (arrived x (led PhaseInput.Rollback (course_of x t caller)) reply)
 rolls-back x t caller reply = record {
-  texts = texts-arrived x (led PhaseInput.Rollback (course_of x t caller)) reply;
+  texts = texts-arrived x PhaseInput.Rollback t caller reply;
   undos = undoes-aborted x t caller reply;
 }
 
@@ -88,10 +108,15 @@ rolls-closing = record {
   rolls = record {
     reply = λ x asked. rolls-reply x Done;
     rolls = λ x t asked there can. rolls-back x t None Done;
-    goes_on = λ x a next first second. let rest = second tt in record { texts = λ texts. rest.texts (first.texts texts); undos = undoes-closing.rolls.goes_on x a next first.undos (λ asked. rest.undos) };
+    goes_on = λ x a next first second. let rest = second tt in record {
+      texts = λ texts.
+          let before = first.texts texts in let after = rest.texts before.own in
+          record { own = after.own; works = all-append (λ (w : Work). HaveTextKeys w.settings) a.works (next (apply x a)).works before.works after.works };
+      undos = undoes-closing.rolls.goes_on x a next first.undos (λ asked. rest.undos);
+    };
   };
-  unbinds = λ x process label asked. rolls-same x _ refl refl;
-  ends = λ x number asked. rolls-same x _ refl refl;
+  unbinds = λ x process label asked. rolls-same x _ refl refl refl;
+  ends = λ x number asked. rolls-same x _ refl refl refl;
 }
 
 rolls-tick : (x : Present) (ms : ℕ) → Rolls x (tick x ms)
@@ -119,28 +144,30 @@ module _ (Files : List Change → Type 0) (Keys : OwnSettings → Type 0) where
   abbrev pub IsShortGroup : List Event → Type 0
   IsShortGroup events = (list_all is_undo events ≡ true) ⊎ (AllByRecursion (IsOwnEvent Files Keys) events × (length events ≤ 6))
 
+-- the keys stay texts where this is so, by which a command has texts
+module _ (Files : List Change → Type 0) (Keys : OwnSettings → Type 0) (Asked : Type 0) where
   -- an outcome records such a group, and leaves the keys texts
   pub record Does (x : Present) (o : Outcome) : Type 0 where
-    pub texts : Texts x.keys.own → Texts o.own
-    pub group : IsShortGroup o.events
+    pub texts : Asked → KeepsTexts x o
+    pub group : IsShortGroup Files Keys o.events
 
   does-rolled : (x : Present) (o : Outcome) → Rolls x o → Does x o
-  does-rolled x o rolls = record { texts = rolls.texts; group = inl rolls.undos }
+  does-rolled x o rolls = record { texts = λ asked. rolls.texts; group = inl rolls.undos }
 
-  does-same : (x : Present) (o : Outcome) → o.own ≡ x.keys.own → o.events ≡ [] → Does x o
-  does-same x o own none = does-rolled x o (rolls-same x o own none)
+  does-same : (x : Present) (o : Outcome) → o.own ≡ x.keys.own → o.works ≡ [] → o.events ≡ [] → Does x o
+  does-same x o own works none = does-rolled x o (rolls-same x o own works none)
 
   does-reply : (x : Present) (reply : Reply) → Does x (only_reply x reply)
-  does-reply x reply = does-same x (only_reply x reply) refl refl
+  does-reply x reply = does-same x (only_reply x reply) refl refl refl
 
-  module _ (x : Present) (owned : Owned x) where
+  module _ (x : Present) (owned : Owned Files Keys x) where
     -- a row of any transaction
     does-led : (input : PhaseInput) (t : Transaction) (caller : Option Enlistment) (reply : Reply) → Does x (arrived x (led input (course_of x t caller)) reply)
     does-led input t caller reply =
         let c = course_of x t caller in
         record {
-          texts = texts-arrived x (led input c) reply;
-          group = subst IsShortGroup (sym (arrival x (led input c) reply).events) (inr (own-led Files Keys input c refl (owned.files t.id) (owned.keys t.id), few-led input c refl));
+          texts = λ asked. texts-arrived x input t caller reply;
+          group = subst (IsShortGroup Files Keys) (sym (arrival x (led input c) reply).events) (inr (own-led Files Keys input c refl (owned.files t.id) (owned.keys t.id), few-led input c refl));
         }
 
     does-commit : (o : Option Transaction) → Does x (commit_of x o)
@@ -158,49 +185,53 @@ module _ (Files : List Change → Type 0) (Keys : OwnSettings → Type 0) where
 
     opened-transaction : (process : Pid) (label : Label) (t : Option Transaction) → Does x (open_to_transaction x process label t)
     opened-transaction process label None = does-reply x Done
-    opened-transaction process label (Some t) = does-same x _ refl refl
+    opened-transaction process label (Some t) = does-same x _ refl refl refl
 
     opened-manager : (process : Pid) (label : Label) (m : Option Manager) → Does x (open_to_manager x process label m)
     opened-manager process label None = does-reply x Done
-    opened-manager process label (Some m) = does-same x _ refl refl
+    opened-manager process label (Some m) = does-same x _ refl refl refl
 
     opened-enlistment : (process : Pid) (label : Label) (e : Option Enlistment) → Does x (open_to_enlistment x process label e)
     opened-enlistment process label None = does-reply x Done
-    opened-enlistment process label (Some e) = does-same x _ refl refl
+    opened-enlistment process label (Some e) = does-same x _ refl refl refl
 
     enlisted : (process : Pid) (label : Label) (m : Option Manager) (t : Option Transaction) (kind : EnlistmentKind) → Does x (enlist x process label m t kind)
-    enlisted process label (Some m) (Some t) kind = does-same x _ refl refl
+    enlisted process label (Some m) (Some t) kind = does-same x _ refl refl refl
     enlisted process label None t kind = does-reply x Done
     enlisted process label (Some m) None kind = does-reply x Done
 
     told : (m : Option Manager) → Does x (recover_all x m)
     told None = does-reply x Done
-    told (Some m) = does-same x _ refl refl
+    told (Some m) = does-same x _ refl refl refl
 
     taken : (m : Option Manager) → Does x (take_first x m)
     taken None = does-reply x Done
-    taken (Some m) = does-same x _ refl refl
+    taken (Some m) = does-same x _ refl refl refl
 
     bound : (process : Pid) (label : Label) (object : Option Object) → Does x (bind_to x process label object)
     bound process label None = does-reply x Done
-    bound process label (Some object) = does-same x _ refl refl
+    bound process label (Some object) = does-same x _ refl refl refl
 
     informed : (e : Option Enlistment) (information : List ℕ) → Does x (keep_information x e information)
     informed None information = does-reply x Done
-    informed (Some e) information = does-same x _ refl refl
+    informed (Some e) information = does-same x _ refl refl refl
 
     made : (process : Pid) (label : Label) (durability : Durability) → Does x (create_resource_manager x process label durability)
     unfolding create_resource_manager
-    made process label Durability.Volatile = does-same x _ refl refl
-    made process label Durability.Durable = record { texts = λ texts. texts; group = inr ((tt, tt), omega arith) }
+    made process label Durability.Volatile = does-same x _ refl refl refl
+    made process label Durability.Durable = record { texts = λ asked texts. record { own = texts; works = tt }; group = inr ((tt, tt), omega arith) }
 
     -- ---- files
 
     does-of_files : (who : Option Id) (o : FileOutcome) → (who ≡ None → IsPut o.change) → Does x (of_files x who o)
-    does-of_files (Some id) o put = does-same x _ refl refl
-    does-of_files None o put = record { texts = λ texts. texts; group = go o.change (put refl) }
+    does-of_files (Some id) o put = does-same x _ refl refl refl
+    does-of_files None o put = record { texts = λ asked texts. record { own = texts; works = works o.change }; group = go o.change (put refl) }
       where
-        go : (change : Option Change) → IsPut change → IsShortGroup (events_of None change)
+        works : (change : Option Change) → TextWorks (works_of None change)
+        works None = tt
+        works (Some change) = (texts-none, tt)
+
+        go : (change : Option Change) → IsPut change → IsShortGroup Files Keys (events_of None change)
         go None put' = inl refl
         go (Some change) put' = inr ((put', tt), omega arith)
 
@@ -215,7 +246,7 @@ module _ (Files : List Change → Type 0) (Keys : OwnSettings → Type 0) where
 
         go : (opened : Option OpenFile) → Does x (bound_file process label opened (of_files x who o))
         go None = files
-        go (Some file) = record { texts = files.texts; group = files.group }
+        go (Some file) = record { texts = λ asked texts. let has = files.texts asked texts in record { own = has.own; works = has.works }; group = files.group }
 
     does-on_file : (o : Option OpenFile) (call : OpenFile → FileOutcome) → ((f : OpenFile) → o ≡ Some f → IsPut (call f).change) → Does x (on_file x o call)
     does-on_file None call put = does-reply x Done
@@ -304,18 +335,18 @@ module _ (Files : List Change → Type 0) (Keys : OwnSettings → Type 0) where
 
     -- ---- keys
 
-    does-setting : (who : Option Id) (key : List ℕ) (value : Option (List ℕ)) → IsText key → Does x (of_keys x (record { reply = Done; own = with_setting x.keys.own who key value }))
-    does-setting who key value text = record { texts = texts-setting x who key value text; group = inl refl }
+    does-setting : (who : Option Id) (key : List ℕ) (value : Option (List ℕ)) → (Asked → IsText key) → Does x (of_keys x (record { reply = Done; own = with_setting x.keys.own who key value }))
+    does-setting who key value text = record { texts = λ asked texts. record { own = texts-setting x who key value (text asked) texts; works = tt }; group = inl refl }
 
     -- ---- every call
 
-    does-command : (process : Pid) (command : Command) → IsCommand command → Passes (command_tests x process command) → Does x (command_effect x process command)
+    does-command : (process : Pid) (command : Command) → (Asked → IsCommand command) → Passes (command_tests x process command) → Does x (command_effect x process command)
     unfolding create_transaction open_transaction commit_transaction rollback_transaction get_transaction_information open_resource_manager recover_resource_manager get_notification create_enlistment open_enlistment recover_enlistment pre_prepare_complete prepare_complete read_only_enlistment commit_complete rollback_complete single_phase_reject rollback_enlistment pre_prepare_enlistment prepare_enlistment commit_enlistment set_information get_information duplicate_handle
-    does-command process (CreateTransaction label timeout) is passes = does-same x _ refl refl
+    does-command process (CreateTransaction label timeout) is passes = does-same x _ refl refl refl
     does-command process (OpenTransaction label guid) is passes = opened-transaction process label (transaction_with x guid)
     does-command process (CommitTransaction label) is passes = does-commit (transaction_named x process label)
     does-command process (RollbackTransaction label) is passes = does-rollback (transaction_named x process label)
-    does-command process (GetTransactionInformation label) is passes = does-same x _ refl refl
+    does-command process (GetTransactionInformation label) is passes = does-same x _ refl refl refl
     does-command process (CreateResourceManager label durability) is passes = made process label durability
     does-command process (OpenResourceManager label guid) is passes = opened-manager process label (manager_with x guid)
     does-command process (RecoverResourceManager label) is passes = told (manager_named x process label)
@@ -334,7 +365,7 @@ module _ (Files : List Change → Type 0) (Keys : OwnSettings → Type 0) where
     does-command process (PrepareEnlistment label) is passes = does-answering (enlistment_named x process label) (λ e. PhaseInput.Prepare)
     does-command process (CommitEnlistment label) is passes = does-answering (enlistment_named x process label) (λ e. PhaseInput.Commit)
     does-command process (SetEnlistmentRecoveryInformation label information) is passes = informed (enlistment_named x process label) information
-    does-command process (GetEnlistmentRecoveryInformation label) is passes = does-same x _ refl refl
+    does-command process (GetEnlistmentRecoveryInformation label) is passes = does-same x _ refl refl refl
     does-command process (CreateFile label path access share disposition) is passes = does-opening process label None (create_file x.files None path access share disposition) (put-created None path access share disposition)
     does-command process (CreateFileTransacted label path access share disposition transaction) is passes =
         let who = caller x process transaction in does-opening process label who (create_file x.files who path access share disposition) (put-created who path access share disposition)
@@ -353,10 +384,10 @@ module _ (Files : List Change → Type 0) (Keys : OwnSettings → Type 0) where
     does-command process (MoveFileTransacted source target transaction) is passes = let who = caller x process transaction in does-files who (move_file x.files who source target) (put-moved who source target)
     does-command process (FindFiles searched) is passes = does-files None (find_files x.files None searched) (put-found None searched)
     does-command process (FindFilesTransacted searched transaction) is passes = let who = caller x process transaction in does-files who (find_files x.files who searched) (put-found who searched)
-    does-command process (KvSet transaction key value) is passes = does-setting (caller x process transaction) key (Some value) is.1
-    does-command process (KvUnset transaction key) is passes = does-setting (caller x process transaction) key None is.1
-    does-command process (KvGet view key) is passes = does-same x _ refl refl
-    does-command process (KvList view) is passes = does-same x _ refl refl
+    does-command process (KvSet transaction key value) is passes = does-setting (caller x process transaction) key (Some value) (λ asked. (is asked).1)
+    does-command process (KvUnset transaction key) is passes = does-setting (caller x process transaction) key None (λ asked. (is asked).1)
+    does-command process (KvGet view key) is passes = does-same x _ refl refl refl
+    does-command process (KvList view) is passes = does-same x _ refl refl refl
     does-command process (CloseHandle label) is passes = does-rolled x _ (close_handle-so _ _ rolls-closing x process label tt)
     does-command process (DuplicateHandle label from source) is passes = bound process label (object_at x.handles from source)
     does-command process Exit is passes = does-rolled x _ (exit-so _ _ rolls-closing x process tt)
@@ -369,13 +400,8 @@ module _ (Files : List Change → Type 0) (Keys : OwnSettings → Type 0) where
         go (Some refusal) refused = does-reply x (Refused refusal)
         go None none = is (record { none = none })
 
-    -- with room in the log or without
-    does-within_log : (o : Outcome) → Does x o → Does x (within_log x o)
-    does-within_log o is = if_cases (λ o. Does x o) (is_full x.machine.left o.events) (record (only_reply x (Refused LogFull)) { stops = true }) o (λ full. does-same x _ refl refl) (λ room. is)
-
-    pub does-decided : (process : Pid) (command : Command) → IsCommand command → Does x (decide x process command)
-    does-decided process command is = does-within_log (with_room x process command)
-        (does-refuse_or ((not x.machine.is_up, MachineDown) ∷ command_tests x process command) (command_effect x process command) (λ passes. does-command process command is (passed passes).1))
+    pub does-decided : (process : Pid) (command : Command) → (Asked → IsCommand command) → Does x (decide x process command)
+    does-decided process command is = does-refuse_or ((not x.machine.is_up, MachineDown) ∷ command_tests x process command) (command_effect x process command) (λ passes. does-command process command is (passed passes).1)
 
     pub does-tick : (ms : ℕ) → Does x (decide_tick x ms)
-    does-tick ms = does-within_log _ (does-refuse_or ((not x.machine.is_up, MachineDown) ∷ []) (tick x ms) (λ passes. does-rolled x _ (rolls-tick x ms)))
+    does-tick ms = does-refuse_or ((not x.machine.is_up, MachineDown) ∷ []) (tick x ms) (λ passes. does-rolled x _ (rolls-tick x ms))

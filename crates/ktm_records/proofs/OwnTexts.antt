@@ -1,4 +1,4 @@
--- The keys that transactions set are texts, now and in what is recorded.
+-- The keys are texts, those that transactions have set and those that are recorded.
 use Rattle.std.proofs.Common.{◌≡◌, ℕ, ◌||◌, not, Bool, false, List, [], ◌∷◌, ◌++◌, map, filter, Option, Some, None, refl, sym, subst, inl, inr, ◌⊎◌}
 use Rattle.std.proofs.lemmas.Bool.{cases_Bool}
 use Rattle.std.proofs.lemmas.List.Elements.{All-from_recursion, recursion_from_All}
@@ -23,7 +23,8 @@ use Rattle.ktm_world.specs.Logs.{Group}
 use Rattle.ktm_world.specs.Transactions.{same_id}
 use Rattle.ktm_world.specs.World.{present, opened, in_doubt, has_own_settings}
 use Rattle.txf_laws.specs.Elements.{IsIn}
-use Rattle.ktm_records.specs.Spelling.{AreRecordedTexts, AreTexts, HaveTextKeys, settings_of_event}
+use Rattle.ktm_records.specs.Spelling.{AreRecordedTexts, AreTextKeys, AreTexts, HaveTextKeys, settings_of_event}
+use Rattle.ktm_records.proofs.CommittedTexts.{texts-stored_all}
 use Rattle.txf_laws.proofs.offered.Elements.{IsIn-filter, IsIn-flat_map, IsIn-unflat}
 use Rattle.txf_laws.proofs.offered.Lists.{IsIn-cases, IsIn-unmap}
 use Rattle.txf_laws.proofs.offered.CommitsOfOthers.{All-by, All-in}
@@ -171,18 +172,40 @@ texts-event s (Decide transaction) all texts = texts-decided s (recorded_at s.tr
 texts-event s (Undo transaction) all texts = texts-filter (λ t. not (same_id t.id transaction)) s.transactions all
 texts-event s (Done transaction done) all texts = texts-finished s done (recorded_at s.transactions transaction) (λ t is. (recorded_at-found s.transactions transaction t is).0) all
 
+-- the committed keys once a transaction is decided, or a part of it is done
+keys-decided : (s : Durable) (o : Option Recorded) → ((t : Recorded) → o ≡ Some t → HaveTextKeys (settings_of t)) → AreTextKeys s.keys → AreTextKeys (decide_recorded s o).keys
+keys-decided s None each all = all
+keys-decided s (Some t) each all = texts-stored_all s.keys (settings_of t) all (each t refl)
+
+keys-finished : (s : Durable) (done : DonePart) (o : Option Recorded) → AreTextKeys s.keys → AreTextKeys (finish_recorded s done o).keys
+keys-finished s done None all = all
+keys-finished s done (Some t) all = all
+
+keys-event : (s : Durable) (event : Event) → RecordedTexts s.transactions → HaveTextKeys (settings_of_event event) → AreTextKeys s.keys → AreTextKeys (after_event s event).keys
+keys-event s (Single transaction (Enlistment e m i)) each texts all = all
+keys-event s (Single transaction (Changes changes)) each texts all = all
+keys-event s (Single transaction (Settings settings)) each texts all = texts-stored_all s.keys settings all texts
+keys-event s (Decide transaction) each texts all = keys-decided s (recorded_at s.transactions transaction) (λ t is. each t (recorded_at-found s.transactions transaction t is).0) all
+keys-event s (Done transaction done) each texts all = keys-finished s done (recorded_at s.transactions transaction) all
+keys-event s _ each texts all = all
+
 pub recorded-texts : (s : Durable) (event : Event) → AreRecordedTexts s → HaveTextKeys (settings_of_event event) → AreRecordedTexts (after_event s event)
 recorded-texts s event all texts =
-    All-by (λ (t : Recorded). HaveTextKeys (settings_of t)) (after_event s event).transactions (texts-event s event (All-in (λ (t : Recorded). HaveTextKeys (settings_of t)) s.transactions all) texts)
+    let each = All-in (λ (t : Recorded). HaveTextKeys (settings_of t)) s.transactions all.settings in
+    record {
+      keys = keys-event s event each texts all.keys;
+      settings = All-by (λ (t : Recorded). HaveTextKeys (settings_of t)) (after_event s event).transactions (texts-event s event each texts);
+    }
 
 -- ---- a restart
 
-pub restarted-texts : (base : Durable) (room : ℕ) (log : List Group) → AreRecordedTexts (stand base log) → AreTexts (present (opened base room log))
-restarted-texts base room log all = record {
+pub restarted-texts : (base : Durable) (log : List Group) → AreRecordedTexts (stand base log) → AreTexts (present (opened base log))
+restarted-texts base log all = record {
+  store = all.keys;
   own = All-by (λ (o : Own). HaveTextKeys o.settings) _ (λ o there.
       let set = IsIn-filter has_own_settings (map set_of (in_doubt s)) o there in
       let of = IsIn-unmap set_of o (in_doubt s) set.0 in
-      subst (λ (p : Own). HaveTextKeys p.settings) of.1 (All-in (λ (t : Recorded). HaveTextKeys (settings_of t)) s.transactions all of.0 (IsIn-filter _ s.transactions of.0 of.2).0));
+      subst (λ (p : Own). HaveTextKeys p.settings) of.1 (All-in (λ (t : Recorded). HaveTextKeys (settings_of t)) s.transactions all.settings of.0 (IsIn-filter _ s.transactions of.0 of.2).0));
 }
   where
     s : Durable

@@ -1,12 +1,12 @@
 -- What a machine records applies, but for the limits, whatever command it is given, and whatever time passes.
-use Rattle.std.proofs.Common.{◌≡◌, ℕ, not, Bool, true, false, filter, List, [], ◌∷◌, ◌++◌, Option, Some, None, refl, sym, ◌∙◌, ap, subst}
+use Rattle.std.proofs.Common.{◌≡◌, ℕ, not, Bool, false, filter, List, [], ◌∷◌, ◌++◌, Option, Some, None, refl, sym, ◌∙◌, ap, subst}
 use Rattle.std.proofs.lemmas.Bool.{and_from, eq-eqb, not_from_false, true≢false}
 use Rattle.std.specs.List.{list_any}
 use Rattle.ktm_base.specs.declared.id.Id.{Id}
 use Rattle.ktm_base.specs.declared.id.Label.{Label}
 use Rattle.ktm_base.specs.declared.id.Pid.{Pid}
 use Rattle.ktm_base.specs.declared.refusal.Refusal.{Refusal}
-use Rattle.ktm_base.specs.declared.refusal.Refusal.TheVariants.{LogFull, MachineDown}
+use Rattle.ktm_base.specs.declared.refusal.Refusal.TheVariants.{MachineDown}
 use Rattle.ktm_types.specs.declared.command.Command.{Command}
 use Rattle.ktm_types.specs.declared.command.Command.TheVariants.{CreateTransaction, OpenTransaction, CommitTransaction, RollbackTransaction, GetTransactionInformation, CreateResourceManager, OpenResourceManager, RecoverResourceManager, GetNotificationResourceManager, CreateEnlistment, OpenEnlistment, RecoverEnlistment, PrePrepareComplete, PrepareComplete, ReadOnlyEnlistment, CommitComplete, RollbackComplete, SinglePhaseReject, RollbackEnlistment, PrePrepareEnlistment, PrepareEnlistment, CommitEnlistment, SetEnlistmentRecoveryInformation, GetEnlistmentRecoveryInformation, CreateFile, CreateFileTransacted, ReadFile, WriteFile, SetEndOfFile, GetFileSizeEx, FlushFileBuffers, DeleteFile, CreateDirectory, RemoveDirectory, MoveFile, DeleteFileTransacted, CreateDirectoryTransacted, RemoveDirectoryTransacted, MoveFileTransacted, FindFiles, FindFilesTransacted, KvSet, KvUnset, KvGet, KvList, CloseHandle, DuplicateHandle, Exit}
 use Rattle.ktm_types.specs.declared.event.Event.TheVariants.{MadeRm}
@@ -14,8 +14,7 @@ use Rattle.ktm_types.specs.declared.object.Object.{Object}
 use Rattle.ktm_types.specs.declared.object.Transaction.{Transaction}
 use Rattle.ktm_types.specs.declared.options.Durability.{Durability}
 use Rattle.ktm_types.specs.declared.options.EnlistmentKind.{EnlistmentKind}
-use Rattle.ktm_types.specs.declared.reply.Reply.TheVariants.{Refused}
-use Rattle.ktm_world.specs.Decide.{caller, command_effect, command_tests, decide, of_files, on_file, transacted, with_room}
+use Rattle.ktm_world.specs.Decide.{caller, command_effect, command_tests, decide, of_files, on_file, transacted}
 use Rattle.ktm_world.specs.Durable.{is_manager}
 use Rattle.ktm_world.specs.Enlistments.{Enlistment, Manager}
 use Rattle.ktm_world.specs.FileCalls.{create_directory, create_file, delete_file, find_files, flush_file, get_size, move_file, read_file, remove_directory}
@@ -24,7 +23,7 @@ use Rattle.ktm_world.specs.Files.{OpenFile}
 use Rattle.ktm_world.specs.HandleCalls.{bind_to, duplicate_handle}
 use Rattle.ktm_world.specs.Handles.{object_at}
 use Rattle.ktm_world.specs.Labels.{enlistment_named, file_named, id_of_named, manager_named, transaction_named, transaction_tests}
-use Rattle.ktm_world.specs.Outcome.{Outcome, first_refusal, is_full, only_reply, refuse_or, within_log}
+use Rattle.ktm_world.specs.Outcome.{Outcome, first_refusal, refuse_or}
 use Rattle.ktm_world.specs.Present.{Present}
 use Rattle.ktm_world.specs.TransactionCalls.{commit_enlistment, commit_complete, commit_transaction, create_enlistment, create_resource_manager, create_transaction, enlist, enlistment_with, get_information, get_notification, get_transaction_information, keep_information, manager_with, new_id, open_enlistment, open_resource_manager, open_to_enlistment, open_to_manager, open_to_transaction, open_transaction, pre_prepare_complete, pre_prepare_enlistment, prepare_complete, prepare_enlistment, read_only_enlistment, recover_all, recover_enlistment, recover_resource_manager, rollback_complete, rollback_enlistment, rollback_transaction, set_information, single_phase_reject, take_first, tick, transaction_with}
 use Rattle.ktm_world.specs.Transactions.{same_id}
@@ -47,7 +46,6 @@ use Rattle.ktm_records.proofs.offered.PlainFacts.{MayLand, facts-of_files, facts
 use Rattle.ktm_owned.proofs.offered.PlainCalls.{plain-deleted, plain-made, plain-moved, plain-removed}
 use Rattle.ktm_records.proofs.UndoFacts.{FactsOf, facts-closed, facts-exit, facts-tick}
 use Rattle.std.proofs.lemmas.Option.{none-some}
-use Rattle.ktm_steps.proofs.offered.Ways.{if_cases}
 
 module _ (lists : ListsLaw) (formed : FormedLaw) (x : Present) (kept : IsKept x) where
   -- ---- what records nothing
@@ -203,17 +201,13 @@ module _ (lists : ListsLaw) (formed : FormedLaw) (x : Present) (kept : IsKept x)
       or_refused (Some refusal) refused = refl
       or_refused None none = is none
 
-  -- with room in the log or without
-  facts-within_log : (o : Outcome) → FactsOf x o → FactsOf x (within_log x o)
-  facts-within_log o is = if_cases (λ o. FactsOf x o) (is_full x.machine.left o.events) (record (only_reply x (Refused LogFull)) { stops = true }) o (λ full. refl) (λ room. is)
-
   facts-decided : (process : Pid) (command : Command) → FactsOf x (decide x process command)
-  facts-decided process command = facts-within_log (with_room x process command) (facts-refuse_or ((not x.machine.is_up, MachineDown) ∷ command_tests x process command) (command_effect x process command) (λ none.
+  facts-decided process command = facts-refuse_or ((not x.machine.is_up, MachineDown) ∷ command_tests x process command) (command_effect x process command) (λ none.
       let all : Passes ((not x.machine.is_up, MachineDown) ∷ command_tests x process command) = record { none = none } in
-      facts-command process command none (passed all).1))
+      facts-command process command none (passed all).1)
 
   facts-decide_tick : (ms : ℕ) → FactsOf x (decide_tick x ms)
-  facts-decide_tick ms = facts-within_log _ (facts-refuse_or ((not x.machine.is_up, MachineDown) ∷ []) (tick x ms) (λ none. facts-tick x ms kept.sound.course agreed))
+  facts-decide_tick ms = facts-refuse_or ((not x.machine.is_up, MachineDown) ∷ []) (tick x ms) (λ none. facts-tick x ms kept.sound.course agreed)
 
 pub recorded_facts_law : ListsLaw → FormedLaw → RecordedFactsLaw
 recorded_facts_law lists formed = record {

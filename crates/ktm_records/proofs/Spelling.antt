@@ -17,6 +17,8 @@ use Rattle.ktm_types.specs.declared.event.Part.TheVariants.{Enlistment, Changes,
 use Rattle.ktm_world.specs.Changes.{applies, changes_apply, is_empty_list}
 use Rattle.ktm_world.specs.Decide.{decide}
 use Rattle.ktm_world.specs.Durable.{Durable, Recorded, after_event, fact_applies, has_undone, is_decided, is_new_enlistment, is_new_in, is_sole, is_within_limits, may_get_ready, part_applies, recorded_at}
+use Rattle.ktm_world.specs.Keys.{OwnSettings}
+use Rattle.ktm_world.specs.Outcome.{Outcome, apply, committed_now}
 use Rattle.ktm_world.specs.Present.{Present}
 use Rattle.ktm_world.specs.Transactions.{same_id}
 use Rattle.ktm_world.specs.Tree.{Tree, is_file}
@@ -28,11 +30,12 @@ use Rattle.ktm_states.specs.Grammatical.{ids_done, ids_in, names_objects}
 use Rattle.ktm_records.specs.Kept.{facts_apply}
 use Rattle.ktm_courses.specs.NamedObjects.{NamedLaw}
 use Rattle.ktm_records.specs.RecordedFacts.{RecordedFactsLaw}
-use Rattle.ktm_records.specs.Spelling.{AreSpelled, SpellingLaw}
+use Rattle.ktm_records.specs.Spelling.{AreSpelled, AreTexts, SpellingLaw, most_at_once}
+use Rattle.ktm_records.proofs.CommittedTexts.{texts-committed}
 use Rattle.ktm_records.proofs.offered.DurableLimits.{limits-kept}
 use Rattle.txf_laws.proofs.offered.Elements.{list_all-at, list_any-at, length-filter-less}
 use Rattle.ktm_records.proofs.OwnEvents.{IsOwnEvent, IsSpelledPut}
-use Rattle.ktm_records.proofs.OwnRecords.{IsShortGroup, Owned, does-decided, does-tick}
+use Rattle.ktm_records.proofs.OwnRecords.{IsShortGroup, KeepsTexts, Owned, does-decided, does-tick}
 use Rattle.ktm_records.proofs.offered.OwnSizes.{spelled-name, spelled-owned}
 use Rattle.ktm_records.proofs.OwnTexts.{grouped-texts, recorded-texts, restarted-texts, spelled-texts}
 use Rattle.ktm_records.proofs.offered.AgreementOfRollbacks.{is_undo}
@@ -192,27 +195,44 @@ spelled-restart s good =
 
 -- ---- all of it
 
+module _ (Files : List Change → Type 0) (Keys : OwnSettings → Type 0) where
+  few-group : (s : Durable) (events : List Event) → is_within_limits s ≡ true → facts_apply s events ≡ true → IsShortGroup Files Keys events → length events ≤ most_at_once
+  few-group s events limits is (inl undos) = let few = few-undos events s is undos in let most = (limits-kept s limits).transactions in omega (arith, few, most)
+  few-group s events limits is (inr short) = omega (arith, short.1)
+
+own-group : (events : List Event) → IsShortGroup AreSpellableChanges AreSpellableSettings events → AllByRecursion IsOwn events
+own-group events (inl undos) = own-undos events undos
+own-group events (inr short) = short.0
+
 spelled-group : (s : Durable) (events : List Event) → is_within_limits s ≡ true → facts_apply s events ≡ true → list_all names_objects events ≡ true → IsShortGroup AreSpellableChanges AreSpellableSettings events → AreSpelled events
-spelled-group s events limits is named (inl undos) =
-    let few = few-undos events s is undos in
-    let most = (limits-kept s limits).transactions in
-    (All-from_recursion IsSpellableEvent events (spelled-events events s is named (own-undos events undos)), omega (arith, few, most))
-spelled-group s events limits is named (inr short) = (All-from_recursion IsSpellableEvent events (spelled-events events s is named short.0), omega (arith, short.1))
+spelled-group s events limits is named group =
+    (All-from_recursion IsSpellableEvent events (spelled-events events s is named (own-group events group)), few-group AreSpellableChanges AreSpellableSettings s events limits is group)
 
 -- of a transaction nothing is asked
 free : (x : Present) → Owned (λ changes. ⊤) (λ settings. ⊤) x
 free x = record { files = λ id. tt; keys = λ id. tt }
 
+-- after an outcome that leaves the keys texts they are so
+kept-texts : (x : Present) (o : Outcome) → KeepsTexts x o → AreTexts x → AreTexts (apply x o)
+kept-texts x o keeps texts =
+    let has = keeps (recursion_from_All _ _ texts.own) in
+    record { store = texts-committed (committed_now x) o.works texts.store has.works; own = All-from_recursion _ _ has.own }
+
 pub spelling_law : NamedLaw → RecordedFactsLaw → SpellingLaw
 spelling_law named facts = record {
   commands = λ x process command kept texts units is.
       spelled-group x.recorded (decide x process command).events kept.good.limits (facts.commands x process command kept) (named.commands x process command kept.sound.course)
-      (does-decided AreSpellableChanges AreSpellableSettings x (spelled-owned x kept texts units) process command is).group;
+      (does-decided AreSpellableChanges AreSpellableSettings ⊤ x (spelled-owned x kept texts units) process command (λ asked. is)).group;
   ticks = λ x ms kept texts units.
       spelled-group x.recorded (decide_tick x ms).events kept.good.limits (facts.ticks x ms kept) (named.ticks x ms kept.sound.course)
-      (does-tick AreSpellableChanges AreSpellableSettings x (spelled-owned x kept texts units) ms).group;
-  stay = λ x process command is texts. record { own = All-from_recursion _ _ ((does-decided (λ changes. ⊤) (λ settings. ⊤) x (free x) process command is).texts (recursion_from_All _ _ texts.own)) };
-  stay_later = λ x ms texts. record { own = All-from_recursion _ _ ((does-tick (λ changes. ⊤) (λ settings. ⊤) x (free x) ms).texts (recursion_from_All _ _ texts.own)) };
+      (does-tick AreSpellableChanges AreSpellableSettings ⊤ x (spelled-owned x kept texts units) ms).group;
+  few = λ x process command kept.
+      few-group (λ changes. ⊤) (λ settings. ⊤) x.recorded (decide x process command).events kept.good.limits (facts.commands x process command kept)
+      (does-decided (λ changes. ⊤) (λ settings. ⊤) ⊥ x (free x) process command (λ none. absurd none)).group;
+  few_later = λ x ms kept.
+      few-group (λ changes. ⊤) (λ settings. ⊤) x.recorded (decide_tick x ms).events kept.good.limits (facts.ticks x ms kept) (does-tick (λ changes. ⊤) (λ settings. ⊤) ⊥ x (free x) ms).group;
+  stay = λ x process command is. kept-texts x (decide x process command) ((does-decided (λ changes. ⊤) (λ settings. ⊤) ⊤ x (free x) process command (λ asked. is)).texts tt);
+  stay_later = λ x ms. kept-texts x (decide_tick x ms) ((does-tick (λ changes. ⊤) (λ settings. ⊤) ⊤ x (free x) ms).texts tt);
   restarts = restarted-texts;
   events = recorded-texts;
   grammar = spelled-texts;

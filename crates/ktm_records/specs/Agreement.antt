@@ -24,7 +24,7 @@ pub record AgreeingLaw : Type 0 where
   pub ticks : (x : Present) (ms : ℕ) → IsSoundCourse x → are_carried_out x.recorded ≡ true → Agrees x
       → Agrees (apply x (decide_tick x ms)) × (are_carried_out (apply x (decide_tick x ms)).recorded ≡ true)
   -- by a restart of a good state
-  pub restarts : (base : Durable) (room : ℕ) (log : List Group) → IsGoodState (stand base log) → Agrees (present (opened base room log)) × (are_carried_out (opened base room log).recorded ≡ true)
+  pub restarts : (base : Durable) (log : List Group) → IsGoodState (stand base log) → Agrees (present (opened base log)) × (are_carried_out (opened base log).recorded ≡ true)
   -- in worlds, by a command
   pub worlds : (w : World) (process : Pid) (command : Command) → FirstOpensLieWithin w → IsSound (present w) → IsGoodState w.recorded → are_carried_out w.recorded ≡ true → Agrees (present w)
       → Agrees (present (after w process command)) × (are_carried_out (after w process command).recorded ≡ true)

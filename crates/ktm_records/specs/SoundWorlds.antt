@@ -25,7 +25,7 @@ pub record IsSoundWorld (w : World) : Type 0 where
 -- a restart of a good state makes a sound world, and it stays sound, whatever command it is given, whatever time passes, and where it falls
 pub record SoundWorldsLaw : Type 0 where
   -- by a restart of a good state
-  pub restarts : (base : Durable) (room : ℕ) (log : List Group) → IsGoodState (stand base log) → IsSoundWorld (opened base room log)
+  pub restarts : (base : Durable) (log : List Group) → IsGoodState (stand base log) → IsSoundWorld (opened base log)
   -- by a command
   pub commands : (w : World) (process : Pid) (command : Command) → IsSoundWorld w → IsSoundWorld (after w process command)
   -- by the passing of time

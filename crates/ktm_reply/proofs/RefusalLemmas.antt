@@ -1,7 +1,7 @@
 -- A refusal is read from its name alone.
 use Rattle.std.proofs.Common.{◌≡◌, ℕ, List, Some, refl}
 use Rattle.ktm_base.specs.declared.refusal.Refusal.{Refusal}
-use Rattle.ktm_base.specs.declared.refusal.Refusal.TheVariants.{BadLine, MachineDown, MachineUp, InvalidHandle, HandleNoLongerValid, TransactionAlreadyCommitted, TransactionAlreadyAborted, TransactionNotActive, EnlistmentNotSuperior, TransactionRequestNotValid, InvalidParameter, InvalidName, TransactionNotFound, ResourceManagerNotFound, EnlistmentNotFound, NotFound, PathNotFound, FileNotFound, FileExists, AlreadyExists, TransactionSuperiorExists, AccessDenied, Directory, DirNotEmpty, TransactionalConflict, SharingViolation, WaitTimeout, NotEnoughQuota, DiskFull, LogFull}
+use Rattle.ktm_base.specs.declared.refusal.Refusal.TheVariants.{BadLine, MachineDown, MachineUp, InvalidHandle, HandleNoLongerValid, TransactionAlreadyCommitted, TransactionAlreadyAborted, TransactionNotActive, EnlistmentNotSuperior, TransactionRequestNotValid, InvalidParameter, InvalidName, TransactionNotFound, ResourceManagerNotFound, EnlistmentNotFound, NotFound, PathNotFound, FileNotFound, FileExists, AlreadyExists, TransactionSuperiorExists, AccessDenied, Directory, DirNotEmpty, TransactionalConflict, SharingViolation, WaitTimeout, NotEnoughQuota, DiskFull, ImageWorn}
 use Rattle.ktm_reply.specs.declared.refusal.TheConstants.{REFUSALS}
 use Rattle.ktm_reply.specs.Reading.{refusal_named}
 use Rattle.ktm_reply.specs.Refusals.{refusal_name}
@@ -42,4 +42,4 @@ refusal_again SharingViolation = refl
 refusal_again WaitTimeout = refl
 refusal_again NotEnoughQuota = refl
 refusal_again DiskFull = refl
-refusal_again LogFull = refl
+refusal_again ImageWorn = refl

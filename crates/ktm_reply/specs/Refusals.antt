@@ -1,7 +1,7 @@
 -- The names of refusals.
 use Rattle.std.specs.Prelude.{ℕ, List, codes}
 use Rattle.ktm_base.specs.declared.refusal.Refusal.{Refusal}
-use Rattle.ktm_base.specs.declared.refusal.Refusal.TheVariants.{BadLine, MachineDown, MachineUp, InvalidHandle, HandleNoLongerValid, TransactionAlreadyCommitted, TransactionAlreadyAborted, TransactionNotActive, EnlistmentNotSuperior, TransactionRequestNotValid, InvalidParameter, InvalidName, TransactionNotFound, ResourceManagerNotFound, EnlistmentNotFound, NotFound, PathNotFound, FileNotFound, FileExists, AlreadyExists, TransactionSuperiorExists, AccessDenied, Directory, DirNotEmpty, TransactionalConflict, SharingViolation, WaitTimeout, NotEnoughQuota, DiskFull, LogFull}
+use Rattle.ktm_base.specs.declared.refusal.Refusal.TheVariants.{BadLine, MachineDown, MachineUp, InvalidHandle, HandleNoLongerValid, TransactionAlreadyCommitted, TransactionAlreadyAborted, TransactionNotActive, EnlistmentNotSuperior, TransactionRequestNotValid, InvalidParameter, InvalidName, TransactionNotFound, ResourceManagerNotFound, EnlistmentNotFound, NotFound, PathNotFound, FileNotFound, FileExists, AlreadyExists, TransactionSuperiorExists, AccessDenied, Directory, DirNotEmpty, TransactionalConflict, SharingViolation, WaitTimeout, NotEnoughQuota, DiskFull, ImageWorn}
 
 -- a refusal's name
 abbrev pub refusal_name : Refusal → List ℕ
@@ -34,4 +34,4 @@ refusal_name SharingViolation = codes "ERROR_SHARING_VIOLATION"
 refusal_name WaitTimeout = codes "WAIT_TIMEOUT"
 refusal_name NotEnoughQuota = codes "ERROR_NOT_ENOUGH_QUOTA"
 refusal_name DiskFull = codes "ERROR_DISK_FULL"
-refusal_name LogFull = codes "ERROR_LOG_FULL"
+refusal_name ImageWorn = codes "IMAGE_WORN"

@@ -29,7 +29,7 @@ worked_replies =
     ∷ (Refused refusal.MachineDown, codes "MACHINE_DOWN")
     ∷ (Refused refusal.ResourceManagerNotFound, codes "ERROR_RESOURCEMANAGER_NOT_FOUND")
     ∷ (Refused refusal.WaitTimeout, codes "WAIT_TIMEOUT")
-    ∷ (Refused refusal.LogFull, codes "ERROR_LOG_FULL")
+    ∷ (Refused refusal.ImageWorn, codes "IMAGE_WORN")
     ∷ (Done, codes "ok")
     ∷ (Committed, codes "ok committed")
     ∷ (Pending, codes "ok pending")

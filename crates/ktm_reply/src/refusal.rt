@@ -35,7 +35,7 @@ const REFUSALS: [Refusal; 30] = [
     Refusal::WaitTimeout,
     Refusal::NotEnoughQuota,
     Refusal::DiskFull,
-    Refusal::LogFull,
+    Refusal::ImageWorn,
 ];
 
 pub fn refusal_name(refusal: Refusal) -> &'static [u8]
@@ -71,7 +71,7 @@ pub fn refusal_name(refusal: Refusal) -> &'static [u8]
         Refusal::WaitTimeout => b"WAIT_TIMEOUT",
         Refusal::NotEnoughQuota => b"ERROR_NOT_ENOUGH_QUOTA",
         Refusal::DiskFull => b"ERROR_DISK_FULL",
-        Refusal::LogFull => b"ERROR_LOG_FULL",
+        Refusal::ImageWorn => b"IMAGE_WORN",
     }
 }
 

@@ -1,21 +1,25 @@
 -- What the loading of a log says of a load, which reads the header and the snapshot before it.
 use Rattle.std.specs.Prelude.{IfSome}
-use Rattle.std.proofs.Common.{◌≡◌, ℕ, ◌+◌, ◌≤◌, Bool, false, true, Result, Ok, Err, Option, Vec, refl, ◌∙◌, subst, arith}
+use Rattle.std.proofs.Common.{◌≡◌, ℕ, ◌+◌, ◌≤◌, Bool, false, true, Result, Ok, Err, Option, Vec, refl, sym, ◌∙◌, subst, arith}
 use Rattle.ktm_base.specs.Disk.{DiskState, DiskStatus, OnlyReads}
 use Rattle.ktm_base.proofs.offered.Images.{calls_law}
 use Rattle.ktm_journal.specs.Bad.{HasNoHeader, load_went_down}
-use Rattle.ktm_journal.specs.Image.{IsHeaded, empty_snapshot, half_of, snapshot_area}
+use Rattle.ktm_journal.specs.Image.{IsHeaded, half_of, snapshot_area}
 use Rattle.ktm_journal.specs.Snapshot.{IsSnapshotRead, SnapshotLeaves}
 use Rattle.ktm_journal.specs.declared.fault.LoadFault.{LoadFault}
 use Rattle.ktm_journal.specs.declared.fault.LoadFault.TheVariants.{Down, Bad, NoMemory}
 use Rattle.ktm_journal.specs.declared.header.Header.{Header}
 use Rattle.ktm_log.specs.OnDisk.{OnDisk, ReadsInto, WasRead, on}
 use Rattle.ktm_log.proofs.Reading.{reads_most}
+use Rattle.ktm_world.specs.Durable.{Durable}
 use Rattle.ktm_restart.specs.declared.replay.Loaded.{Loaded}
-use Rattle.ktm_restart.specs.Loads.{FaultLeaves, IsAtStart, IsLoaded, KnowsLog, LoadLeaves}
-use Rattle.ktm_restart.specs.Bad.{IsBadAt}
+use Rattle.ktm_restart.specs.Loads.{FaultLeaves, IsLoaded, KnowsState, LoadLeaves}
+use Rattle.ktm_restart.specs.Bad.{IsBadAt, IsBadSnapshot}
+use Rattle.ktm_restart.specs.Starts.{IsAtStart}
 use Rattle.ktm_restart.specs.Logs.{StandsFor}
-use Rattle.ktm_restart.proofs.LogLoads.{bad_start, good_start, headless_told, no_start, other_start}
+use Rattle.ktm_restart.proofs.LogLoads.{bad_snapshot, good_snapshot, headless_told, no_snapshot}
+use Rattle.ktm_saved.specs.Saved.{IsSaved, state_of}
+use Rattle.ktm_saved.specs.declared.saved.Saved.{Saved}
 
 -- something was read before, and the disk is still up
 module _ {Z : Type 0} (old mid new : OnDisk (Vec ℕ Z)) (first then most : ℕ) (before : WasRead first old mid) (few : first + then ≤ most) where
@@ -39,7 +43,7 @@ module _ {Z : Type 0} (old mid new : OnDisk (Vec ℕ Z)) (first then most : ℕ)
     room = is.room;
     stands = subst (λ x. IfSome x (λ s. StandsFor loaded.state s.seen)) before.reads.reads.same is.stands;
     headed = is.headed;
-    knows = subst (λ x. KnowsLog loaded.state.units loaded.state.image x new.told loaded.journal) before.reads.reads.same is.knows;
+    knows = subst (λ x. KnowsState x new.told loaded.journal) before.reads.reads.same is.knows;
     read = read_behind is.read;
   }
 
@@ -73,13 +77,17 @@ module _ {Z : Type 0} (buffer : Vec ℕ Z) (o m : Option DiskState) (s t : DiskS
 
 -- the snapshot was read behind this header, or was not
 module _ {Z : Type 0} (header : Header) (old new : OnDisk (Vec ℕ Z)) (headed : IfSome old.told (λ s. IsHeaded header.units header.image header.selector s.seen)) where
-  pub started : IsSnapshotRead header old new → new.it.items ≡ empty_snapshot → IsAtStart header old new
-  started is empty = record { formatted = good_start header old.told new.it.items empty headed is.snapshot; read = is.read }
+  pub started : IsSnapshotRead header old new → (saved : Saved) → IsSaved header.units header.image new.it.items saved → (state : Durable) → state ≡ state_of header.units header.image saved → IsAtStart header old new state
+  started is saved good state same = subst (λ (s : Durable). IsAtStart header old new s) (sym same) (record {
+    of_header = record { units = refl; image = refl; good = good.good; texts = good.texts };
+    begins = good_snapshot header old.told headed (state_of header.units header.image saved) new.it.items refl refl good.spelled good.good is.snapshot;
+    read = is.read;
+  })
 
-  pub not_started : (offset : ℕ) → IsSnapshotRead header old new → (new.it.items ≡ empty_snapshot → ⊥) → offset ≡ (snapshot_area header.units (half_of header.selector)).at → FaultLeaves 2 old new (Bad offset)
-  not_started offset is other at = record { bad = bad_start header old.told offset headed (other_start header old.told new.it.items other is.snapshot) at; read = is.read }
+  pub not_started : (offset : ℕ) → IsSnapshotRead header old new → IsBadSnapshot header.units header.image new.it.items → offset ≡ (snapshot_area header.units (half_of header.selector)).at → FaultLeaves 2 old new (Bad offset)
+  not_started offset is bad at = record { bad = bad_snapshot header old.told headed offset new.it.items bad is.snapshot at; read = is.read }
 
   pub unread : (fault : LoadFault) → SnapshotLeaves header old new (Err fault) → FaultLeaves 2 old new fault
   unread Down read = read
-  unread (Bad offset) is = record { bad = bad_start header old.told offset headed (no_start header old.told is.none) is.at; read = is.read }
+  unread (Bad offset) is = record { bad = no_snapshot header old.told headed offset is.none is.at; read = is.read }
   unread NoMemory short = reads_most 0 2 old new (omega arith) false short.reads

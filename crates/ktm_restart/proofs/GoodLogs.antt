@@ -1,18 +1,20 @@
--- The log that payloads hold comes to a good state, whose keys are texts.
-use Rattle.std.proofs.Common.{◌≡◌, ℕ, suc, get_or, ◌≤◌, ◌<◌, ◌^◌, true, List, [], ◌∷◌, refl, sym, subst, arith}
+-- The log that payloads hold comes to a good state, whose keys are texts, where the first state was one.
+use Rattle.std.proofs.Common.{◌≡◌, ℕ, suc, get_or, ◌<◌, true, List, [], ◌∷◌, refl, sym, ◌∙◌, subst}
 use Rattle.std.proofs.lemmas.Bool.{and_from}
 use Rattle.std.specs.List.{list_all}
-use Rattle.ktm_base.specs.declared.limits.TheConstants.{LEAST_UNITS}
 use Rattle.ktm_base.specs.Bytes.{AreBytes}
 use Rattle.ktm_states.specs.GoodState.{IsGoodState}
 use Rattle.ktm_states.specs.GoodStates.{GoodStatesLaw}
 use Rattle.ktm_states.specs.Grammatical.{GrammarLaw, is_grammatical}
+use Rattle.ktm_journal.specs.declared.header.Header.{Header}
 use Rattle.ktm_log.specs.Log.{payloads_in}
 use Rattle.ktm_records.specs.Spelling.{AreRecordedTexts, SpellingLaw}
-use Rattle.ktm_world.specs.Durable.{Durable, after_events, empty_state, stand}
+use Rattle.ktm_world.specs.Durable.{Durable, after_events, stand}
 use Rattle.ktm_world.specs.Logs.{Group}
 use Rattle.ktm_restart.specs.Logs.{AreSpelled}
 use Rattle.ktm_restart.specs.Payloads.{ComesTo}
+use Rattle.ktm_restart.specs.Starts.{IsOfHeader}
+use Rattle.ktm_restart.proofs.LogLoads.{comes_to_image, comes_to_units}
 use Rattle.ktm_restart.proofs.Spelled.{groups_spelled, payload_bytes}
 
 -- numbers that are bytes at each place
@@ -27,11 +29,10 @@ spelled_grammatical law (group ∷ log) spelled =
     let (bytes, are_bytes, is) = spelled.0 in
     and_from (list_all is_grammatical group) (list_all (list_all is_grammatical) log) (law.1 group bytes are_bytes is) (spelled_grammatical law log spelled.1)
 
-pub comes_to_good : GrammarLaw → GoodStatesLaw → (units image : ℕ) (bytes : List ℕ) (state : Durable) → LEAST_UNITS ≤ units → image < 2 ^ 16 → AreBytes bytes
-    → ComesTo units image (payloads_in bytes) state → IsGoodState state
-comes_to_good grammar good units image bytes state least number are_bytes comes =
+comes_to_good : GrammarLaw → GoodStatesLaw → (first : Durable) (bytes : List ℕ) (state : Durable) → IsGoodState first → AreBytes bytes → ComesTo first (payloads_in bytes) state → IsGoodState state
+comes_to_good grammar good first bytes state is_good are_bytes comes =
     let spelled = groups_spelled comes.log (payloads_in bytes) comes.groups (payload_bytes bytes are_bytes) in
-    subst IsGoodState (sym comes.is) (good.3 (empty_state units image) comes.log (good.0 units image least number) (spelled_grammatical grammar comes.log spelled) comes.applies)
+    subst IsGoodState (sym comes.is) (good.3 first comes.log is_good (spelled_grammatical grammar comes.log spelled) comes.applies)
 
 -- groups that bytes spell leave recorded texts texts
 texts_stay : SpellingLaw → (s : Durable) (log : List Group) → AreSpelled log → AreRecordedTexts s → AreRecordedTexts (stand s log)
@@ -40,7 +41,16 @@ texts_stay law s (group ∷ log) spelled texts =
     let (bytes, are_bytes, is) = spelled.0 in
     texts_stay law (after_events s group) log spelled.1 (law.groups s group bytes texts is)
 
-pub comes_to_texts : SpellingLaw → (units image : ℕ) (bytes : List ℕ) (state : Durable) → AreBytes bytes → ComesTo units image (payloads_in bytes) state → AreRecordedTexts state
-comes_to_texts law units image bytes state are_bytes comes =
+comes_to_texts : SpellingLaw → (first : Durable) (bytes : List ℕ) (state : Durable) → AreRecordedTexts first → AreBytes bytes → ComesTo first (payloads_in bytes) state → AreRecordedTexts state
+comes_to_texts law first bytes state texts are_bytes comes =
     let spelled = groups_spelled comes.log (payloads_in bytes) comes.groups (payload_bytes bytes are_bytes) in
-    subst AreRecordedTexts (sym comes.is) (texts_stay law (empty_state units image) comes.log spelled (λ i t inside. absurd (omega arith)))
+    subst AreRecordedTexts (sym comes.is) (texts_stay law first comes.log spelled texts)
+
+-- the state that they come to is of the image whose header it is
+pub comes_to_header : GrammarLaw → GoodStatesLaw → SpellingLaw → (header : Header) (first : Durable) (bytes : List ℕ) (state : Durable) → IsOfHeader header first → AreBytes bytes → ComesTo first (payloads_in bytes) state → IsOfHeader header state
+comes_to_header grammar good spelling header first bytes state of_header are_bytes comes = record {
+  units = comes_to_units first (payloads_in bytes) state comes ∙ of_header.units;
+  image = comes_to_image first (payloads_in bytes) state comes ∙ of_header.image;
+  good = comes_to_good grammar good first bytes state of_header.good are_bytes comes;
+  texts = comes_to_texts spelling first bytes state of_header.texts are_bytes comes;
+}

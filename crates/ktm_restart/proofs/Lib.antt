@@ -1,10 +1,10 @@
 mod Past
 mod OwnDones
-mod GoodLogs
 mod Spelled
 mod Folds
 mod Taking
 mod LogLoads
+mod GoodLogs
 mod Replays
 mod BehindHeader
 pub mod offered

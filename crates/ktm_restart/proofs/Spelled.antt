@@ -1,14 +1,11 @@
 -- What was read as bytes spells the groups that it holds.
-use Rattle.std.specs.Prelude.{IfSome, IsSomeAnd}
-use Rattle.std.proofs.Common.{ℕ, zero, suc, ◌+◌, Bool, true, false, if◌then◌else◌, length, take, drop, Option, None, Some, List, [], ◌∷◌}
+use Rattle.std.proofs.Common.{ℕ, zero, suc, ◌+◌, Bool, true, false, if◌then◌else◌, length, take, drop, None, Some, List, [], ◌∷◌}
 use Rattle.std.specs.List.{AllByRecursion}
 use Rattle.ktm_base.specs.Bytes.{AreBytes}
-use Rattle.ktm_base.specs.Disk.{DiskState}
-use Rattle.ktm_log.specs.Log.{IsLog, area_bytes, followed, payloads_in, payloads_up_to, size_at}
+use Rattle.ktm_log.specs.Log.{followed, payloads_in, payloads_up_to, size_at}
 use Rattle.ktm_world.specs.Logs.{Group}
-use Rattle.ktm_journal.specs.Image.{HoldGroups, IsHeaded, empty_snapshot, half_of, log_area}
-use Rattle.ktm_journal.proofs.offered.OneImage.{image_payloads}
-use Rattle.ktm_restart.specs.Logs.{AreSpelled, HoldsLog}
+use Rattle.ktm_journal.specs.Image.{HoldGroups}
+use Rattle.ktm_restart.specs.Logs.{AreSpelled}
 
 bytes_taken : (n : ℕ) (bytes : List ℕ) → AreBytes bytes → AreBytes (take n bytes)
 bytes_taken zero bytes all = tt
@@ -41,11 +38,3 @@ pub groups_spelled : (log : List Group) (payloads : List (List ℕ)) → HoldGro
 groups_spelled [] payloads hold all = tt
 groups_spelled (group ∷ log) [] hold all = absurd hold
 groups_spelled (group ∷ log) (p ∷ ps) hold all = ((p, all.0, hold.0), groups_spelled log ps hold.1 all.1)
-
--- whichever log the image holds, where the buffer has what was read of it
-pub spelled_told : (units image selector : ℕ) (buffer : List ℕ) → AreBytes buffer → (o : Option DiskState) → IfSome o (λ s. IsHeaded units image selector s.seen)
-    → IfSome o (λ s. IsLog (payloads_in buffer) (area_bytes (log_area units (half_of selector)) s.seen))
-    → (log : List Group) → IsSomeAnd o (λ s. HoldsLog units image log s.seen) → AreSpelled log
-spelled_told units image selector buffer all None headed read log holds = absurd holds
-spelled_told units image selector buffer all (Some s) headed read log holds =
-    groups_spelled log (payloads_in buffer) (image_payloads units image selector empty_snapshot log (payloads_in buffer) s.seen headed holds.is read) (payload_bytes buffer all)

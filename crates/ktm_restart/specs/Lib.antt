@@ -3,3 +3,4 @@ pub mod Bad
 pub mod Payloads
 pub mod Replayed
 pub mod Loads
+pub mod Starts

@@ -1,28 +1,43 @@
--- The log of an image, and the durable state that it comes to.
-use Rattle.std.specs.Prelude.{◌≡◌, ℕ, ◌*◌, ◌≤◌, IsTrue, List}
+-- The durable state for which an image stands: that of its snapshot, once its log is applied.
+use Rattle.std.specs.Prelude.{◌≡◌, ℕ, IsTrue, List}
 use Rattle.std.specs.List.{AllByRecursion}
 use Rattle.ktm_base.specs.Bytes.{AreBytes}
-use Rattle.ktm_world.specs.Logs.{Group}
+use Rattle.ktm_base.specs.Disk.{DiskState, IsSafe}
+use Rattle.ktm_journal.specs.Image.{IsImage, JournalAt, JournalState}
+use Rattle.ktm_snapshot.specs.StateGrammar.{IsStateOf}
+use Rattle.ktm_states.specs.GoodState.{IsGoodState}
 use Rattle.ktm_types.specs.EventGrammar.{IsGroupOf}
-use Rattle.ktm_world.specs.Durable.{Durable, empty_state, stand, log_applies}
-use Rattle.ktm_journal.specs.Image.{IsImage, empty_snapshot}
+use Rattle.ktm_world.specs.Durable.{Durable, stand, log_applies}
+use Rattle.ktm_world.specs.Logs.{Group}
 
 -- each group is spelled by some list of bytes
 abbrev pub AreSpelled : List Group → Type 0
 AreSpelled log = AllByRecursion (λ group. (bytes : List ℕ) × AreBytes bytes × IsGroupOf group bytes) log
 
--- the bytes are this image with the snapshot of a new one, its groups are these, and they apply one after another
-pub record HoldsLog (units image : ℕ) (log : List Group) (bytes : List ℕ) : Type 0 where
-  pub is : IsImage units image empty_snapshot log bytes
-  pub applies : IsTrue (log_applies (empty_state units image) log)
+-- a snapshot and the groups behind it come to this durable state: the snapshot is that of a good state, to which the groups apply one after another
+pub record ComeTo (state : Durable) (snapshot : List ℕ) (log : List Group) : Type 0 where
+  pub first : Durable
+  pub spelled : IsStateOf first snapshot
+  pub good : IsGoodState first
+  pub applies : IsTrue (log_applies first log)
+  pub is : state ≡ stand first log
 
--- the bytes stand for this durable state: it is what the groups of the image come to
+-- the bytes stand for this durable state: its snapshot and its log come to it
 pub record StandsFor (state : Durable) (bytes : List ℕ) : Type 0 where
+  pub snapshot : List ℕ
   pub log : List Group
-  pub holds : HoldsLog state.units state.image log bytes
-  pub comes_to : state ≡ stand (empty_state state.units state.image) log
+  pub is : IsImage state.units state.image snapshot log bytes
+  pub come : ComeTo state snapshot log
 
--- all events of the state are in a log that ends here: each takes five bytes of it at least, and each boot is one of them
-pub record AreInLog (state : Durable) (end : ℕ) : Type 0 where
-  pub boots : state.boots ≤ state.events
-  pub events : 5 * state.events ≤ end
+-- the disk, all of which is safe, stands for this state
+abbrev pub IsSafeFor : Durable → DiskState → Type 0
+IsSafeFor state s = IsSafe s × StandsFor state s.seen
+
+-- the journal is that of the disk, all of which is safe, and its snapshot and its groups come to this state
+pub record JournalFor (j : JournalState) (state : Durable) (s : DiskState) : Type 0 where
+  pub units : state.units ≡ j.units
+  pub image : state.image ≡ j.image
+  pub snapshot : List ℕ
+  pub log : List Group
+  pub at : JournalAt j snapshot log s
+  pub come : ComeTo state snapshot log

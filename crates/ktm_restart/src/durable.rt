@@ -2,10 +2,12 @@
 ghost use Rattle.std.specs.Prelude.{◌≡◌, ℕ, ◌+◌, ◌-◌, ◌^◌, ◌<◌, ◌≤◌, List, [], ◌∷◌, ◌++◌, Ok, true, All, IfOk, IsOk, length, min, sum_by};
 ghost use Rattle.ktm_event.specs.Kept.{Holds};
 ghost use Rattle.ktm_event.specs.Spelling.{IsSpellableEvent};
+ghost use Rattle.ktm_saved.specs.Saved.{state_of};
 ghost use Rattle.ktm_types.specs.declared.event.Event.{Event as Recording};
 ghost use Rattle.ktm_types.specs.declared.event.Event.TheVariants.{Boot};
 ghost use Rattle.ktm_types.specs.Sizes.{event_size};
-ghost use Rattle.ktm_world.specs.Durable.{after_events, empty_state, events_apply};
+ghost use Rattle.ktm_waiting.specs.Waiting.{AreHeld};
+ghost use Rattle.ktm_world.specs.Durable.{after_events, events_apply};
 ghost use Rattle.ktm_world.specs.Tree.{bytes_or_none, units_of};
 ghost use Rattle.ktm_world.specs.World.{own_group};
 ghost use Rattle.txf_tree.specs.TreeState.{tree_of, versions_of};
@@ -15,6 +17,7 @@ use crate::replayed::Replayed;
 use ktm_base::{Bytes, Id, NoMemory};
 use ktm_event::Events;
 use ktm_keyed::KeyedList;
+use ktm_saved::Saved;
 use ktm_types::Event;
 use ktm_world::Recorded;
 use std::alloc::Global;
@@ -34,7 +37,8 @@ pub struct DurableParts {
     pub transactions: Vec<Recorded>,
 }
 
-/// What the groups of an image's log stand for. They are applied in place: neither a change nor a key or a value is copied.
+/// What an image stands for. The groups of its log are applied in place to the state of its snapshot: neither a change nor a key or
+/// a value is copied.
 #[derive(Drop)]
 pub struct Durable {
     replayed: Replayed,
@@ -49,12 +53,13 @@ impl Model for Durable {
 }
 
 impl Durable {
-    /// The state of an image that was just formatted.
-    pub fn empty(alloc: Global, units: u32, image: u16) -> Self
-        ensures { result ≡ empty_state units image }
+    /// The state of a snapshot of an image with so many units and this number.
+    pub(crate) fn from(alloc: Global, saved: Saved, units: u32, image: u16) -> Self
+        requires { AreHeld saved.waiting (tree_of saved.files.tree) saved.transactions.transactions }
+        ensures { result ≡ state_of units image saved }
     {
         Durable {
-            replayed: Replayed::empty(alloc, units, image),
+            replayed: Replayed::from(alloc, saved, units, image),
         }
     }
 

@@ -1,5 +1,5 @@
-//! What the groups of an image come to: its log is read, and each group that it holds is applied in place to the state of a
-//! new image, up to the durable state that a machine starts from.
+//! What an image stands for: its snapshot is read, and each group of its log is applied in place to the state of the snapshot,
+//! up to the durable state that a machine starts from.
 #![tactic(auto)]
 
 mod durable;
@@ -9,5 +9,7 @@ mod replay;
 mod replayed;
 
 pub use durable::{Durable, DurableParts};
-pub use laws::{law_of_bad_images, law_of_bad_places, law_of_one_log, law_of_states};
+pub use laws::{
+    law_of_bad_images, law_of_bad_places, law_of_journals, law_of_new_images, law_of_states,
+};
 pub use replay::{Loaded, load};

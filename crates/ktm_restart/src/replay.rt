@@ -1,27 +1,26 @@
-// Reading an image, and what its log comes to.
-ghost use Rattle.std.specs.Prelude.{IsErrOf, ◌≡◌, ◌↔◌, ℕ, ◌+◌, ◌*◌, ◌≤◌, Ok, IfOk, IfSome, IsSomeAnd, OnOk, IsTrue, false, true};
+// Reading an image: the state of its snapshot, and what its log makes of that.
+ghost use Rattle.std.specs.Prelude.{IsErrOf, ◌≡◌, ℕ, ◌+◌, ◌*◌, ◌≤◌, Ok, IfOk, IfSome, IsSomeAnd, OnOk, IsTrue, false, true};
 ghost use Rattle.ktm_base.specs.declared.limits.TheConstants.{LEAST_UNITS, MOST_UNITS};
-ghost use Rattle.ktm_base.specs.Bytes.{AreBytes};
 ghost use Rattle.ktm_log.specs.Log.{payloads_in};
 ghost use Rattle.ktm_log.specs.OnDisk.{on};
-ghost use Rattle.ktm_world.specs.Durable.{after_events, empty_state, events_apply};
+ghost use Rattle.ktm_world.specs.Durable.{after_events, events_apply};
 ghost use Rattle.ktm_world.specs.Logs.{Group};
-ghost use Rattle.ktm_records.specs.Spelling.{AreRecordedTexts};
-ghost use Rattle.ktm_states.specs.GoodState.{IsGoodState};
 ghost use Rattle.ktm_types.specs.EventGrammar.{IsGroupOf};
-ghost use Rattle.ktm_journal.specs.Image.{IsFormatted, IsHeaded, empty_snapshot, half_of, log_area};
+ghost use Rattle.ktm_journal.specs.Image.{IsHeaded, half_of, log_area};
 ghost use Rattle.ktm_journal.specs.Bad.{load_went_down};
 ghost use Rattle.ktm_journal.specs.Open.{log_reads};
-ghost use Rattle.ktm_restart.specs.Bad.{IsBadPayload};
+ghost use Rattle.ktm_restart.specs.Bad.{BeginsAs, IsBadPayload};
 ghost use Rattle.ktm_restart.specs.Payloads.{ComesTo, IsFirstBad};
-ghost use Rattle.ktm_restart.specs.Loads.{LoadLeaves, ReplayLeaves, StartLeaves};
+ghost use Rattle.ktm_restart.specs.Loads.{LoadLeaves};
+ghost use Rattle.ktm_restart.specs.Starts.{IsOfHeader, ReplayLeaves, StartLeaves};
 
 use crate::durable::Durable;
 use ktm_base::{Disk, NoMemory};
 use ktm_event::{EventFault, read_group};
-use ktm_journal::{Header, Journal, LoadFault, empty_snapshot, read_snapshot};
+use ktm_journal::{Header, Journal, LoadFault, read_snapshot};
 use ktm_log::{first_payload, frame_len};
 use ktm_records::law_of_spelling;
+use ktm_saved::read_state;
 use ktm_states::{law_of_good_states, law_of_grammar};
 use std::alloc::Global;
 
@@ -44,16 +43,13 @@ fn apply(alloc: Global, state: &mut Durable, payload: &[u8]) -> Result<bool, NoM
     }
 }
 
-// Makes of the state of a new image what the payloads of its log say, which are read where they lie in its bytes.
+// Makes of the state of a snapshot what the payloads of the log behind it say, which are read where they lie in its bytes.
 fn replay(alloc: Global, header: Header, bytes: &[u8], state: &mut Durable) -> Result<(), LoadFault>
-    requires least { LEAST_UNITS ≤ header.units }
     requires most { header.units ≤ MOST_UNITS }
-    requires empty { state.old ≡ empty_state header.units header.image }
-    ensures good { OnOk result (ComesTo header.units header.image (payloads_in bytes.now) state.new) }
-    ensures sound { OnOk result (IsGoodState state.new) }
-    ensures texts { OnOk result (AreRecordedTexts state.new) }
-    ensures read { AreBytes bytes.now }
-    ensures bad { (offset : ℕ) → IsErrOf result (LoadFault.Bad offset) → IsFirstBad header.units header.image (log_area header.units (half_of header.selector)).at (payloads_in bytes.now) offset }
+    requires of_header { IsOfHeader header state.old }
+    ensures good { OnOk result (ComesTo state.old (payloads_in bytes.now) state.new) }
+    ensures of_header { OnOk result (IsOfHeader header state.new) }
+    ensures bad { (offset : ℕ) → IsErrOf result (LoadFault.Bad offset) → IsFirstBad state.old (log_area header.units (half_of header.selector)).at (payloads_in bytes.now) offset }
     ensures up { load_went_down result ≡ false }
 {
     let mut at = 0;
@@ -70,7 +66,7 @@ fn replay(alloc: Global, header: Header, bytes: &[u8], state: &mut Durable) -> R
     Ok(())
 }
 
-// Reads the log behind this header, and makes of the state of a new image what the log says.
+// Reads the log behind this header, and makes of the state of the snapshot what the log says.
 fn replay_log<D: Disk>(
     alloc: Global,
     disk: &mut D,
@@ -80,8 +76,8 @@ fn replay_log<D: Disk>(
 ) -> Result<Journal, LoadFault>
     requires least { LEAST_UNITS ≤ header.units }
     requires most { header.units ≤ MOST_UNITS }
-    requires formatted { IfSome (D.told disk.old) (λ s. IsFormatted header.units header.image header.selector empty_snapshot s.seen) }
-    requires empty { state.old ≡ empty_state header.units header.image }
+    requires begins { IfSome (D.told disk.old) (λ s. BeginsAs header.units header.image header.selector state.old s.seen) }
+    requires of_header { IsOfHeader header state.old }
     ensures { ReplayLeaves header state.new (on buffer.old (D.told disk.old) (D.status disk.old)) (on buffer.new (D.told disk.new) (D.status disk.new)) result }
 {
     match Journal::open(disk, header, buffer) {
@@ -100,20 +96,20 @@ fn replay_log<D: Disk>(
     }
 }
 
-// Reads the log behind this header, and gives its journal with the state that it comes to.
+// Reads the log behind this header, and gives its journal with what the log makes of the state of the snapshot.
 fn load_log<D: Disk>(
     alloc: Global,
     disk: &mut D,
     header: Header,
     buffer: &mut Vec<u8>,
+    mut state: Durable,
 ) -> Result<Loaded, LoadFault>
     requires least { LEAST_UNITS ≤ header.units }
     requires most { header.units ≤ MOST_UNITS }
-    requires formatted { IfSome (D.told disk.old) (λ s. IsFormatted header.units header.image header.selector empty_snapshot s.seen) }
-    ensures leaves { LoadLeaves (log_reads header.units) (on buffer.old (D.told disk.old) (D.status disk.old)) (on buffer.new (D.told disk.new) (D.status disk.new)) result }
-    ensures header { IfOk result (λ loaded. (loaded.state.units ≡ header.units) × (loaded.state.image ≡ header.image)) }
+    requires begins { IfSome (D.told disk.old) (λ s. BeginsAs header.units header.image header.selector state s.seen) }
+    requires of_header { IsOfHeader header state }
+    ensures { LoadLeaves (log_reads header.units) (on buffer.old (D.told disk.old) (D.status disk.old)) (on buffer.new (D.told disk.new) (D.status disk.new)) result }
 {
-    let mut state = Durable::empty(alloc, header.units, header.image);
     match replay_log(alloc, disk, header, buffer, &mut state) {
         Ok(mut journal) => {
             journal.count_from(state.events());
@@ -126,15 +122,13 @@ fn load_log<D: Disk>(
     }
 }
 
-// Is this the snapshot of a new image?
-fn is_empty(snapshot: &[u8]) -> bool
-    ensures { IsTrue result ↔ (snapshot.now ≡ empty_snapshot) }
-{
-    snapshot[..] == empty_snapshot()[..]
-}
-
-// Reads the snapshot behind this header, which has to be that of a new image.
-fn read_start<D: Disk>(disk: &mut D, header: Header, buffer: &mut Vec<u8>) -> Result<(), LoadFault>
+// Reads the snapshot behind this header, and gives the state that it stands for.
+fn read_start<D: Disk>(
+    alloc: Global,
+    disk: &mut D,
+    header: Header,
+    buffer: &mut Vec<u8>,
+) -> Result<Durable, LoadFault>
     requires most { header.units ≤ MOST_UNITS }
     requires headed { IfSome (D.told disk.old) (λ s. IsHeaded header.units header.image header.selector s.seen) }
     ensures { StartLeaves header (on buffer.old (D.told disk.old) (D.status disk.old)) (on buffer.new (D.told disk.new) (D.status disk.new)) result }
@@ -142,10 +136,11 @@ fn read_start<D: Disk>(disk: &mut D, header: Header, buffer: &mut Vec<u8>) -> Re
     if let Err(fault) = read_snapshot(disk, header, buffer) {
         return Err(fault);
     }
-    if !is_empty(buffer.as_slice()) {
-        return Err(LoadFault::Bad(header.snapshot_at()));
+    match read_state(alloc, buffer.as_slice(), header.units, header.image) {
+        Ok(Some(saved)) => Ok(Durable::from(alloc, saved, header.units, header.image)),
+        Ok(None) => Err(LoadFault::Bad(header.snapshot_at())),
+        Err(NoMemory) => Err(LoadFault::NoMemory),
     }
-    Ok(())
 }
 
 // Reads the snapshot and the log behind this header, and gives the journal with the state that they come to.
@@ -158,17 +153,17 @@ fn load_half<D: Disk>(
     requires least { LEAST_UNITS ≤ header.units }
     requires most { header.units ≤ MOST_UNITS }
     requires headed { IfSome (D.told disk.old) (λ s. IsHeaded header.units header.image header.selector s.seen) }
-    ensures leaves { LoadLeaves (log_reads header.units + 2) (on buffer.old (D.told disk.old) (D.status disk.old)) (on buffer.new (D.told disk.new) (D.status disk.new)) result }
-    ensures header { IfOk result (λ loaded. (loaded.state.units ≡ header.units) × (loaded.state.image ≡ header.image)) }
+    ensures { LoadLeaves (log_reads header.units + 2) (on buffer.old (D.told disk.old) (D.status disk.old)) (on buffer.new (D.told disk.new) (D.status disk.new)) result }
 {
-    if let Err(fault) = read_start(disk, header, buffer) {
-        return Err(fault);
-    }
-    load_log(alloc, disk, header, buffer)
+    let state = match read_start(alloc, disk, header, buffer) {
+        Ok(state) => state,
+        Err(fault) => return Err(fault),
+    };
+    load_log(alloc, disk, header, buffer, state)
 }
 
-/// Reads the image of a disk, and gives its journal with the state that it stands for. It writes nothing. The log is read
-/// into the buffer, which is made as long as the log's area, and afterwards has room for whatever can be appended.
+/// Reads the image of a disk, and gives its journal with the state that it stands for. It writes nothing. The snapshot and then
+/// the log are read into the buffer, which is made as long as an area, and afterwards has room for whatever can be appended.
 pub fn load<D: Disk>(alloc: Global, disk: &mut D, buffer: &mut Vec<u8>) -> Result<Loaded, LoadFault>
     ensures leaves { LoadLeaves (8 * MOST_UNITS + 64) (on buffer.old (D.told disk.old) (D.status disk.old)) (on buffer.new (D.told disk.new) (D.status disk.new)) result }
     ensures few { (units image selector : ℕ) → IsSomeAnd (D.told disk.old) (λ s. IsHeaded units image selector s.seen) → (D.status disk.new).calls ≤ (D.status disk.old).calls + (8 * units + 64) }

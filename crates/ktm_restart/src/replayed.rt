@@ -1,4 +1,4 @@
-// The durable state in memory while a log is read, and what each event makes of it.
+// The durable state in memory while an image is read, and what each event makes of it.
 ghost use Rattle.std.specs.Prelude.{◌≡◌, ◌&&◌, ◌+◌, ◌^◌, ◌<◌, ◌≤◌, [], ◌∷◌, Ok, None, Some, not, false, true, IfOk, IsOk, OnOk, is_none, length, nat_eq, nat_le, nat_lt, sum_by};
 ghost use Rattle.std.specs.List.{flat_map, list_all};
 ghost use Rattle.ktm_types.specs.declared.event.Event.{Event as Recording};
@@ -6,13 +6,14 @@ ghost use Rattle.ktm_types.specs.declared.event.Event.TheVariants.{Boot, MadeRm,
 ghost use Rattle.ktm_base.specs.declared.id.Id.{Id as Number};
 ghost use Rattle.ktm_base.specs.declared.limits.TheConstants.{MOST_LIVE};
 ghost use Rattle.ktm_world.specs.Changes.{changes_apply};
-ghost use Rattle.ktm_world.specs.Durable.{after_event, after_events, are_recorded_changes, empty_state, event_applies, events_apply, fact_of, has_changes_part, has_settings_part, has_undone, hold_recorded, is_new_enlistment, is_new_in, is_ready, is_within_limits, may_get_ready, part_applies, recorded_at, recorded_changes_apply, recorded_or_new, settings_apply, stage_passes, with_committed, with_part};
+ghost use Rattle.ktm_world.specs.Durable.{after_event, after_events, are_recorded_changes, event_applies, events_apply, fact_of, has_changes_part, has_settings_part, has_undone, hold_recorded, is_new_enlistment, is_new_in, is_ready, is_within_limits, may_get_ready, part_applies, recorded_at, recorded_changes_apply, recorded_or_new, settings_apply, stage_passes, with_committed, with_part};
 ghost use Rattle.ktm_world.specs.Holds.{holds_by};
 ghost use Rattle.ktm_world.specs.Keys.{are_good_settings};
 ghost use Rattle.ktm_world.specs.Tree.{IsWellFormed, bytes_or_none, units_of};
 ghost use Rattle.ktm_world.specs.World.{own_events, own_group};
 ghost use Rattle.ktm_restart.specs.Replayed.{CanChange, CanCommit, CanTake, CanTakePart, Takes, passes_units};
-ghost use Rattle.ktm_waiting.specs.Waiting.{AreKept, AreSpared, committed, others_change};
+ghost use Rattle.ktm_saved.specs.Saved.{state_of};
+ghost use Rattle.ktm_waiting.specs.Waiting.{AreHeld, AreKept, AreSpared, committed, others_change};
 ghost use Rattle.txf_durable.specs.State.{CanMake, CanMakeAll};
 ghost use Rattle.txf_reserve.specs.ReserveState.{IsSameHold, holds_in};
 ghost use Rattle.txf_tree.specs.TreeState.{tree_of, versions_of};
@@ -21,6 +22,7 @@ use crate::durable::DurableParts;
 use crate::own::first_own;
 use ktm_base::{Bytes, Id, MOST_INFORMATION_BYTES, MOST_LIVE, NoMemory, UNIT_BYTES};
 use ktm_keyed::KeyedList;
+use ktm_saved::Saved;
 use ktm_types::{Change, DonePart, Event, Part, Setting, Superior};
 use ktm_waiting::{
     Amounts, Managers, Transactions, changes_in, fits_in, hold_changes, limits, others_change,
@@ -37,7 +39,7 @@ use txf_tree::bytes_in;
 /// The most events that an image may ever record.
 const MOST_EVENTS: u64 = (1 << 63) - 1;
 
-/// What the events that were read so far stand for, with the memory that is there for the next one.
+/// What a snapshot and the events that were read so far stand for, with the memory that is there for the next one.
 #[derive(Drop)]
 pub(crate) struct Replayed {
     alloc: Global,
@@ -112,21 +114,31 @@ fn forget(alloc: Global, waiting: &mut Waiting, transactions: &mut Transactions)
 }
 
 impl Replayed {
-    // The state of an image that was just formatted.
-    pub(crate) fn empty(alloc: Global, units: u32, image: u16) -> Self
-        ensures { result.state ≡ empty_state units image }
+    // The state of a snapshot of an image with so many units and this number.
+    pub(crate) fn from(alloc: Global, saved: Saved, units: u32, image: u16) -> Self
+        requires { AreHeld saved.waiting (tree_of saved.files.tree) saved.transactions.transactions }
+        ensures { result.state ≡ state_of units image saved }
     {
+        let Saved {
+            events,
+            boots,
+            files,
+            keys,
+            managers,
+            transactions,
+            waiting,
+        } = saved;
         Replayed {
             alloc,
             units,
             image,
-            events: 0,
-            boots: 0,
-            files: DurableFiles::new(alloc),
-            keys: KeyedList::new(alloc),
-            managers: Managers::new(alloc),
-            transactions: Transactions::new(alloc),
-            waiting: Waiting::new(alloc),
+            events,
+            boots,
+            files,
+            keys,
+            managers,
+            transactions,
+            waiting,
             written: FileNumbers::new(alloc),
         }
     }

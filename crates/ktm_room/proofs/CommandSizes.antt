@@ -1,5 +1,5 @@
 -- What a command records fits an empty log.
-use Rattle.std.proofs.Common.{◌≡◌, ℕ, ◌*◌, ◌≤◌, true, nat_le, length, List, [], Option, Some, None, refl, ◌∙◌, ap, arith}
+use Rattle.std.proofs.Common.{◌≡◌, ℕ, ◌*◌, ◌≤◌, nat_le, length, List, [], Option, Some, None, refl, ◌∙◌, ap, arith}
 use Rattle.std.proofs.lemmas.Bool.{leb-true}
 use Rattle.std.proofs.lemmas.Option.{none-some}
 use Rattle.ktm_base.specs.declared.id.Id.{Id}
@@ -7,7 +7,6 @@ use Rattle.ktm_base.specs.declared.id.Label.{Label}
 use Rattle.ktm_base.specs.declared.id.Pid.{Pid}
 use Rattle.ktm_base.specs.declared.limits.TheConstants.{MOST_INFORMATION_BYTES}
 use Rattle.ktm_base.specs.declared.refusal.Refusal.{Refusal}
-use Rattle.ktm_base.specs.declared.refusal.Refusal.TheVariants.{LogFull}
 use Rattle.ktm_types.specs.declared.command.Command.{Command}
 use Rattle.ktm_types.specs.declared.command.Command.TheVariants.{CreateTransaction, OpenTransaction, CommitTransaction, RollbackTransaction, GetTransactionInformation, CreateResourceManager, OpenResourceManager, RecoverResourceManager, GetNotificationResourceManager, CreateEnlistment, OpenEnlistment, RecoverEnlistment, PrePrepareComplete, PrepareComplete, ReadOnlyEnlistment, CommitComplete, RollbackComplete, SinglePhaseReject, RollbackEnlistment, PrePrepareEnlistment, PrepareEnlistment, CommitEnlistment, SetEnlistmentRecoveryInformation, GetEnlistmentRecoveryInformation, CreateFile, CreateFileTransacted, ReadFile, WriteFile, SetEndOfFile, GetFileSizeEx, FlushFileBuffers, DeleteFile, CreateDirectory, RemoveDirectory, MoveFile, DeleteFileTransacted, CreateDirectoryTransacted, RemoveDirectoryTransacted, MoveFileTransacted, FindFiles, FindFilesTransacted, KvSet, KvUnset, KvGet, KvList, CloseHandle, DuplicateHandle, Exit}
 use Rattle.ktm_types.specs.declared.event.Event.TheVariants.{MadeRm}
@@ -17,8 +16,8 @@ use Rattle.ktm_types.specs.declared.object.Transaction.{Transaction}
 use Rattle.ktm_types.specs.declared.options.Durability.{Durability}
 use Rattle.ktm_types.specs.declared.options.EnlistmentKind.{EnlistmentKind}
 use Rattle.ktm_types.specs.declared.reply.Reply.{Reply}
-use Rattle.ktm_types.specs.declared.reply.Reply.TheVariants.{Done, Refused}
-use Rattle.ktm_world.specs.Decide.{bound_file, caller, command_effect, of_files, on_file, opening, refusal_of, with_room}
+use Rattle.ktm_types.specs.declared.reply.Reply.TheVariants.{Done}
+use Rattle.ktm_world.specs.Decide.{bound_file, caller, command_effect, decide, of_files, on_file, opening, refusal_of}
 use Rattle.ktm_world.specs.Enlistments.{Enlistment, Manager}
 use Rattle.ktm_world.specs.FileCalls.{create_directory, create_file, delete_file, find_files, flush_file, get_size, move_file, read_file, remove_directory, set_end, write_file}
 use Rattle.ktm_world.specs.FileOutcome.{FileOutcome}
@@ -26,7 +25,7 @@ use Rattle.ktm_world.specs.Files.{OpenFile}
 use Rattle.ktm_world.specs.HandleCalls.{bind_to, close_handle, duplicate_handle, exit}
 use Rattle.ktm_world.specs.Handles.{object_at}
 use Rattle.ktm_world.specs.Labels.{enlistment_named, file_named, manager_named, transaction_named}
-use Rattle.ktm_world.specs.Outcome.{Outcome, is_full, only_reply, refuse_or, within_log}
+use Rattle.ktm_world.specs.Outcome.{Outcome, refuse_or}
 use Rattle.ktm_world.specs.Present.{Present}
 use Rattle.ktm_world.specs.Steps.{basis, led, share_of}
 use Rattle.ktm_world.specs.TransactionCalls.{answering, arrived, commit_complete, commit_enlistment, commit_of, commit_reply, commit_transaction, course_of, create_enlistment, create_resource_manager, create_transaction, enlist, enlistment_with, get_information, get_notification, get_transaction_information, keep_information, manager_with, new_id, open_enlistment, open_resource_manager, open_to_enlistment, open_to_manager, open_to_transaction, open_transaction, pre_prepare_complete, pre_prepare_enlistment, prepare_complete, prepare_enlistment, read_only_enlistment, recover_all, recover_enlistment, recover_resource_manager, recovery_of, rollback_complete, rollback_enlistment, rollback_of, rollback_transaction, set_information, single_phase_reject, take_first, transaction_with}
@@ -38,7 +37,6 @@ use Rattle.ktm_records.specs.FileCallsMade.{FileCallsLaw, IsRightCall, file_call
 use Rattle.ktm_records.specs.Kept.{IsKept}
 use Rattle.ktm_records.proofs.offered.AgreementOfCourses.{arrival}
 use Rattle.ktm_records.proofs.offered.NoMore.{fits-within}
-use Rattle.ktm_steps.proofs.offered.Ways.{if_cases}
 use Rattle.ktm_room.specs.Frames.{FitsEmptyLog}
 use Rattle.ktm_room.proofs.CourseSizes.{IsBrief, led-size, one-sized, sizes}
 use Rattle.ktm_room.proofs.FileCallSizes.{IsShort, file-size, short-created, short-cut, short-deleted, short-directory, short-found, short-moved, short-read, short-removed, short-sized, short-written}
@@ -217,13 +215,9 @@ module _ (x : Present) (kept : IsKept x) where
         let few = exit-size x process in let handles = (fits-within x kept.within).handles in small (exit x process) (omega (arith, few, handles))
 
     -- refused or not
-    pub fit-with_room : (process : Pid) (command : Command) → Fit (with_room x process command)
-    fit-with_room process command = go (refusal_of x process command) refl
+    pub fit-decided : (process : Pid) (command : Command) → Fit (decide x process command)
+    fit-decided process command = go (refusal_of x process command) refl
       where
         go : (refusal : Option Refusal) → refusal_of x process command ≡ refusal → Fit (refuse_or x refusal (command_effect x process command))
         go (Some refusal) refused = silent
         go None none = fit-effect process command none
-
-  -- in the log as it is
-  pub fit-within_log : (o : Outcome) → Fit o → Fit (within_log x o)
-  fit-within_log o fit = if_cases Fit (is_full x.machine.left o.events) (record (only_reply x (Refused LogFull)) { stops = true }) o (λ full. silent) (λ room. fit)

@@ -2,7 +2,6 @@
 use Rattle.std.proofs.Common.{ℕ, not, Option, Some, None, [], ◌∷◌, arith}
 use Rattle.ktm_base.specs.declared.refusal.Refusal.{Refusal}
 use Rattle.ktm_base.specs.declared.refusal.Refusal.TheVariants.{MachineDown}
-use Rattle.ktm_world.specs.Decide.{with_room}
 use Rattle.ktm_world.specs.Outcome.{first_refusal, refuse_or}
 use Rattle.ktm_world.specs.Present.{Present}
 use Rattle.ktm_world.specs.TransactionCalls.{tick}
@@ -10,25 +9,20 @@ use Rattle.ktm_world.specs.World.{decide_tick}
 use Rattle.ktm_records.specs.FileCallsMade.{FileCallsLaw}
 use Rattle.ktm_records.specs.Kept.{IsKept}
 use Rattle.ktm_room.specs.Frames.{FitsEmptyLog, FramesLaw}
-use Rattle.ktm_room.proofs.CommandSizes.{Fit, fit-with_room, fit-within_log}
+use Rattle.ktm_room.proofs.CommandSizes.{Fit, fit-decided}
 use Rattle.ktm_room.proofs.RestartSizes.{restart-fits}
 use Rattle.ktm_room.proofs.TickSizes.{tick-fits}
 
 decided-tick : (x : Present) (ms : ℕ) → IsKept x → FitsEmptyLog x.recorded.units (decide_tick x ms).events
-decided-tick x ms kept = fit-within_log x kept (refuse_or x down (tick x ms)) (go down)
+decided-tick x ms kept = go (first_refusal ((not x.machine.is_up, MachineDown) ∷ []))
   where
-    down : Option Refusal
-    down = first_refusal ((not x.machine.is_up, MachineDown) ∷ [])
-
     go : (refusal : Option Refusal) → Fit x kept (refuse_or x refusal (tick x ms))
     go (Some refusal) = omega arith
     go None = tick-fits x ms kept
 
 pub frames_law : FileCallsLaw → FramesLaw
 frames_law calls = record {
-  effects = λ x process command kept. fit-with_room x kept calls process command;
-  commands = λ x process command kept. fit-within_log x kept (with_room x process command) (fit-with_room x kept calls process command);
-  times = tick-fits;
+  commands = λ x process command kept. fit-decided x kept calls process command;
   ticks = decided-tick;
   restarts = restart-fits;
 }

@@ -4,10 +4,9 @@ use Rattle.ktm_base.specs.declared.id.Pid.{Pid}
 use Rattle.ktm_types.specs.declared.command.Command.{Command}
 use Rattle.ktm_types.specs.declared.event.Event.{Event}
 use Rattle.ktm_types.specs.Sizes.{area_len, frame_size}
-use Rattle.ktm_world.specs.Decide.{decide, with_room}
+use Rattle.ktm_world.specs.Decide.{decide}
 use Rattle.ktm_world.specs.Durable.{Durable}
 use Rattle.ktm_world.specs.Present.{Present}
-use Rattle.ktm_world.specs.TransactionCalls.{tick}
 use Rattle.ktm_world.specs.World.{decide_tick, own_group}
 use Rattle.ktm_states.specs.GoodState.{IsGoodState}
 use Rattle.ktm_records.specs.Kept.{IsKept}
@@ -18,13 +17,9 @@ FitsEmptyLog units events = frame_size events + 1 ≤ area_len units
 
 -- what is recorded at once in a kept machine fits an empty log
 pub record FramesLaw : Type 0 where
-  -- by a command, however much of the log is left
-  pub effects : (x : Present) (process : Pid) (command : Command) → IsKept x → FitsEmptyLog x.recorded.units (with_room x process command).events
-  -- by a command in the log as it is
+  -- by a command
   pub commands : (x : Present) (process : Pid) (command : Command) → IsKept x → FitsEmptyLog x.recorded.units (decide x process command).events
-  -- by the passing of time, however much of the log is left
-  pub times : (x : Present) (ms : ℕ) → IsKept x → FitsEmptyLog x.recorded.units (tick x ms).events
-  -- by the passing of time in the log as it is
+  -- by the passing of time
   pub ticks : (x : Present) (ms : ℕ) → IsKept x → FitsEmptyLog x.recorded.units (decide_tick x ms).events
   -- by a restart from a good state
   pub restarts : (s : Durable) → IsGoodState s → FitsEmptyLog s.units (own_group s)

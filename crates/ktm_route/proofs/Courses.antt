@@ -1,11 +1,12 @@
 -- Commands by which something comes to a transaction: what they come to has bytes, and what they commit can be committed.
-use Rattle.std.proofs.Common.{◌≡◌, cond, Bool, true, false, All, Option, Some, None, refl, ◌∙◌, ap, subst, inl, inr}
+use Rattle.std.proofs.Common.{◌≡◌, true, All, Option, Some, None, refl, ◌∙◌, ap, subst, inl, inr}
 use Rattle.std.specs.List.{list_any}
 use Rattle.std.proofs.lemmas.Bool.{false≢true}
 use Rattle.ktm_base.specs.declared.id.Id.{Id}
 use Rattle.ktm_base.specs.declared.id.Label.{Label}
 use Rattle.ktm_base.specs.declared.id.Pid.{Pid}
-use Rattle.ktm_base.specs.declared.refusal.Refusal.TheVariants.{LogFull, TransactionAlreadyAborted, TransactionAlreadyCommitted}
+use Rattle.ktm_base.specs.declared.refusal.Refusal.TheVariants.{TransactionAlreadyAborted, TransactionAlreadyCommitted}
+use Rattle.ktm_laws.specs.Running.{HasEventsLeft}
 use Rattle.ktm_standing.specs.Laws.{FilesLaw, SpelledLaw}
 use Rattle.ktm_standing.specs.Standing.{IsStandingNow}
 use Rattle.ktm_standing.proofs.offered.Named.{named_law}
@@ -21,11 +22,10 @@ use Rattle.ktm_types.specs.declared.command.Command.{Command}
 use Rattle.ktm_types.specs.declared.command.Command.TheVariants.{CommitTransaction, RollbackTransaction}
 use Rattle.ktm_types.specs.declared.input.PhaseInput.{PhaseInput}
 use Rattle.ktm_types.specs.declared.object.Transaction.{Transaction}
-use Rattle.ktm_types.specs.declared.reply.Reply.TheVariants.{Refused}
-use Rattle.ktm_world.specs.Decide.{decide, with_room}
+use Rattle.ktm_world.specs.Decide.{decide}
 use Rattle.ktm_world.specs.Enlistments.{Enlistment, enlistment_at}
 use Rattle.ktm_world.specs.Labels.{transaction_named, transaction_tests}
-use Rattle.ktm_world.specs.Outcome.{Outcome, first_refusal, is_full, only_reply, within_log}
+use Rattle.ktm_world.specs.Outcome.{Outcome, first_refusal}
 use Rattle.ktm_world.specs.Present.{Present}
 use Rattle.ktm_world.specs.Rows.{row}
 use Rattle.ktm_world.specs.Steps.{seen}
@@ -40,26 +40,20 @@ abbrev pub IsCaller : Present → Transaction → Option Id → Type 0
 IsCaller x t caller = (id : Id) → caller ≡ Some id → (e : Enlistment) × (enlistment_at x.transactions.enlistments id ≡ Some e) × (e.transaction ≡ t.id)
 
 -- a command by which something comes to a transaction, from this enlistment, if one calls
-module _ (x : Present) (process : Pid) (command : Command) (t : Transaction) (caller : Option Id) (input : PhaseInput) (comes : with_room x process command ≡ outcome_of x process (Course t caller input)) where
-  -- where the log has room for them, its events are those of the course
-  course_events : is_full x.machine.left (course_to x t caller input).events ≡ false → (decide x process command).events ≡ (course_to x t caller input).events
-  course_events room =
-      let c = course_to x t caller input in
-      let o = outcome_of x process (Course t caller input) in
-      let same : o.events ≡ c.events = (arrival x c (reply_to input c)).events in
-      ap (λ (o : Outcome). (within_log x o).events) comes
-      ∙ ap (λ (full : Bool). (cond full (record (only_reply x (Refused LogFull)) { stops = true }) o).events) (ap (is_full x.machine.left) same ∙ room)
-      ∙ same
+module _ (x : Present) (process : Pid) (command : Command) (t : Transaction) (caller : Option Id) (input : PhaseInput) (comes : decide x process command ≡ outcome_of x process (Course t caller input)) where
+  -- its events are those of the course
+  course_events : (decide x process command).events ≡ (course_to x t caller input).events
+  course_events = let c = course_to x t caller input in ap (λ (o : Outcome). o.events) comes ∙ (arrival x c (reply_to input c)).events
 
   -- the course is ready, where the transaction is there, the caller is its own, and it is not decided where it commits
-  pub ready_course : SpelledLaw → FilesLaw → IsStandingNow x → IsCommand command → transaction_at x.transactions.items t.id ≡ Some t → IsCaller x t caller
+  pub ready_course : SpelledLaw → FilesLaw → IsStandingNow x → HasEventsLeft x → IsCommand command → transaction_at x.transactions.items t.id ≡ Some t → IsCaller x t caller
       → (list_any is_commit (row (seen (course_of x t None)) input) ≡ true → is_undecided t ≡ true) → (input ≡ PhaseInput.CommitTransaction → is_active t ≡ true)
       → IsReadyCourse x t caller input
-  ready_course spelled files standing is there called undecided active = record {
+  ready_course spelled files standing left is there called undecided active = record {
     there = there;
     called = called;
-    may = λ commits room. files.commits x t standing there (undecided commits);
-    spelled = λ room. subst (All IsSpellableEvent) (course_events room) (spelled.commands x process command standing is);
+    may = λ commits. files.commits x t standing left there (undecided commits);
+    spelled = subst (All IsSpellableEvent) course_events (spelled.commands x process command standing is);
     active = active;
   }
 
@@ -77,23 +71,23 @@ passed_undecided t passed =
 
 module _ (x : Present) (process : Pid) (up : x.machine.is_up ≡ true) (label : Label) (t : Transaction) (named : transaction_named x process label ≡ Some t) where
   -- a transaction that is asked to commit
-  pub commit_comes : first_refusal (transaction_tests (Some t)) ≡ None → with_room x process (CommitTransaction label) ≡ outcome_of x process (Course t None PhaseInput.CommitTransaction)
+  pub commit_comes : first_refusal (transaction_tests (Some t)) ≡ None → decide x process (CommitTransaction label) ≡ outcome_of x process (Course t None PhaseInput.CommitTransaction)
   unfolding commit_transaction
   commit_comes passed = commit_routed x process up label t named passed
 
   -- a transaction that is rolled back
-  pub rollback_comes : first_refusal (rollback_transaction_tests (Some t)) ≡ None → with_room x process (RollbackTransaction label) ≡ outcome_of x process (Course t None PhaseInput.Rollback)
+  pub rollback_comes : first_refusal (rollback_transaction_tests (Some t)) ≡ None → decide x process (RollbackTransaction label) ≡ outcome_of x process (Course t None PhaseInput.Rollback)
   unfolding rollback_transaction
   rollback_comes passed = rollback_routed x process up label t named passed
 
-  module _ (spelled : SpelledLaw) (files : FilesLaw) (standing : IsStandingNow x) where
+  module _ (spelled : SpelledLaw) (files : FilesLaw) (standing : IsStandingNow x) (left : HasEventsLeft x) where
     pub commit_ready : IsCommand (CommitTransaction label) → first_refusal (transaction_tests (Some t)) ≡ None → IsReadyCourse x t None PhaseInput.CommitTransaction
     commit_ready is passed =
-        ready_course x process (CommitTransaction label) t None PhaseInput.CommitTransaction (commit_comes passed) spelled files standing is (named_law.transactions x process label t named) (none_calls x t)
+        ready_course x process (CommitTransaction label) t None PhaseInput.CommitTransaction (commit_comes passed) spelled files standing left is (named_law.transactions x process label t named) (none_calls x t)
         (λ commits. passed_undecided t passed) (λ asked. passed_active t passed)
 
     -- a rollback commits nothing
     pub rollback_ready : IsCommand (RollbackTransaction label) → first_refusal (rollback_transaction_tests (Some t)) ≡ None → IsReadyCourse x t None PhaseInput.Rollback
     rollback_ready is passed =
-        ready_course x process (RollbackTransaction label) t None PhaseInput.Rollback (rollback_comes passed) spelled files standing is (named_law.transactions x process label t named) (none_calls x t)
+        ready_course x process (RollbackTransaction label) t None PhaseInput.Rollback (rollback_comes passed) spelled files standing left is (named_law.transactions x process label t named) (none_calls x t)
         (λ commits. absurd (false≢true commits)) (λ asked. absurd (cc))

@@ -13,7 +13,7 @@ use Rattle.ktm_base.specs.declared.refusal.Refusal.{Refusal}
 use Rattle.ktm_base.specs.declared.refusal.Refusal.TheVariants.{EnlistmentNotFound, EnlistmentNotSuperior, InvalidHandle, InvalidParameter, TransactionRequestNotValid, TransactionSuperiorExists}
 use Rattle.ktm_types.specs.Values.{IsCommand}
 use Rattle.ktm_types.specs.declared.command.Command.{Command}
-use Rattle.ktm_types.specs.declared.command.Command.TheVariants.{CommitComplete, CreateEnlistment, GetEnlistmentRecoveryInformation, OpenEnlistment, PrePrepareComplete, PrepareComplete, RecoverEnlistment, RollbackComplete, SetEnlistmentRecoveryInformation, SinglePhaseReject}
+use Rattle.ktm_types.specs.declared.command.Command.TheVariants.{CreateEnlistment, GetEnlistmentRecoveryInformation, OpenEnlistment, RecoverEnlistment, SetEnlistmentRecoveryInformation}
 use Rattle.ktm_types.specs.declared.input.PhaseInput.{PhaseInput}
 use Rattle.ktm_types.specs.declared.input.Seen.{Seen}
 use Rattle.ktm_types.specs.declared.object.Object.TheVariants.{Enlistment as EnlistmentObject}
@@ -26,12 +26,12 @@ use Rattle.ktm_types.specs.declared.reply.Reply.{Reply}
 use Rattle.ktm_types.specs.declared.reply.Reply.TheVariants.{Done, Refused}
 use Rattle.ktm_types.specs.declared.step.Owed.{Owed}
 use Rattle.ktm_event.specs.Spelling.{IsSpellableEvent}
-use Rattle.ktm_world.specs.Decide.{command_effect, command_tests, decide, with_room}
+use Rattle.ktm_world.specs.Decide.{command_effect, command_tests, decide}
 use Rattle.ktm_world.specs.Durable.{is_before}
 use Rattle.ktm_world.specs.Enlistments.{Enlistment, Manager, enlistment_at, is_durable_at, is_live_enlistment, is_live_in, is_superior, manager_at}
 use Rattle.ktm_world.specs.Labels.{holds_of, is_bound, manager_named, transaction_named, transaction_tests}
 use Rattle.ktm_world.specs.OneOutcome.{told_outcome}
-use Rattle.ktm_world.specs.Outcome.{Outcome, first_refusal, is_full, only_reply, refuse_or, within_log}
+use Rattle.ktm_world.specs.Outcome.{Outcome, first_refusal, only_reply, refuse_or}
 use Rattle.ktm_world.specs.Phases.{Course as Going}
 use Rattle.ktm_world.specs.Present.{Present}
 use Rattle.ktm_world.specs.Rows.{commit_completes, recovers, row}
@@ -55,6 +55,7 @@ use Rattle.ktm_phase.specs.Coming.{ComingLaw, IsOwedIn, is_asked_in}
 use Rattle.ktm_phase.specs.Replies.{allows, commanded, if_allowed, input_by, input_of, lets, may_recover as may_recover_in, may_set_information, recovered, replied}
 use Rattle.ktm_phase.specs.declared.enlistment.Vote.{Vote}
 use Rattle.ktm_phase.specs.declared.superior.SuperiorCall.{SuperiorCall}
+use Rattle.ktm_laws.specs.Running.{HasEventsLeft}
 use Rattle.ktm_standing.specs.Laws.{FilesLaw, SpelledLaw}
 use Rattle.ktm_standing.specs.Standing.{IsStandingNow}
 use Rattle.ktm_standing.proofs.offered.Found.{found_again}
@@ -118,7 +119,7 @@ module _ (x : Present) (process : Pid) (up : x.machine.is_up ≡ true) (label ma
       ∷ quota
 
   -- the label of the resource manager names none
-  pub enlist_unnamed : maker ≡ None → with_room x process enlisting ≡ only_reply x (Refused InvalidHandle)
+  pub enlist_unnamed : maker ≡ None → decide x process enlisting ≡ only_reply x (Refused InvalidHandle)
   unfolding create_enlistment_tests
   enlist_unnamed none = comes_by x process enlisting up (Some InvalidHandle) (first_holds (is_none maker) InvalidHandle (transaction_tests joined ++ later_tests maker joined) (ap is_none none))
 
@@ -129,7 +130,7 @@ module _ (x : Present) (process : Pid) (up : x.machine.is_up ≡ true) (label ma
     by_transaction = first_fails (is_none maker) InvalidHandle (transaction_tests joined ++ later_tests maker joined) (ap is_none named)
 
     -- they refuse
-    pub enlist_refused : (refusal : Refusal) → first_refusal (transaction_tests joined) ≡ Some refusal → with_room x process enlisting ≡ only_reply x (Refused refusal)
+    pub enlist_refused : (refusal : Refusal) → first_refusal (transaction_tests joined) ≡ Some refusal → decide x process enlisting ≡ only_reply x (Refused refusal)
     enlist_refused refusal is = comes_by x process enlisting up (Some refusal) (by_transaction ∙ first_of-append (transaction_tests joined) (later_tests maker joined) refusal is)
 
     module _ (t : Transaction) (into : joined ≡ Some t) (passed : first_refusal (transaction_tests (Some t)) ≡ None) where
@@ -146,7 +147,7 @@ module _ (x : Present) (process : Pid) (up : x.machine.is_up ≡ true) (label ma
       others = (is_superior_kind kind && has_superior x t, TransactionSuperiorExists) ∷ quota
 
       -- the label is bound
-      pub enlist_bound : is_bound x process label ≡ true → with_room x process enlisting ≡ only_reply x (Refused InvalidParameter)
+      pub enlist_bound : is_bound x process label ≡ true → decide x process enlisting ≡ only_reply x (Refused InvalidParameter)
       enlist_bound bound =
           comes_by x process enlisting up (Some InvalidParameter) (by_label
           ∙ first_holds (is_bound x process label || (is_superior_kind kind && not m.is_durable)) InvalidParameter others (ap (λ b. b || (is_superior_kind kind && not m.is_durable)) bound))
@@ -160,7 +161,7 @@ module _ (x : Present) (process : Pid) (up : x.machine.is_up ≡ true) (label ma
             ∙ ap (λ durable. first_refusal ((is_superior_kind kind && not durable, InvalidParameter) ∷ others)) (sym (durable_by x.managers m id sound.managers.rise there))
 
         -- they refuse
-        pub enlist_unfit : (refusal : Refusal) → first_refusal (kind_tests x id t.id kind) ≡ Some refusal → with_room x process enlisting ≡ only_reply x (Refused refusal)
+        pub enlist_unfit : (refusal : Refusal) → first_refusal (kind_tests x id t.id kind) ≡ Some refusal → decide x process enlisting ≡ only_reply x (Refused refusal)
         enlist_unfit refusal is = comes_by x process enlisting up (Some refusal) (by_kind ∙ first_of-append (kind_tests x id t.id kind) quota refusal is)
 
         -- they pass
@@ -190,7 +191,7 @@ module _ (x : Present) (process : Pid) (up : x.machine.is_up ≡ true) (label ma
   own_tests m = bound_test x process label ∷ (is_none (enlistment_with x m guid), EnlistmentNotFound) ∷ handle_test x ∷ []
 
   -- the label of the resource manager names none
-  pub open_enlistment_unnamed : owner ≡ None → with_room x process opening ≡ only_reply x (Refused InvalidHandle)
+  pub open_enlistment_unnamed : owner ≡ None → decide x process opening ≡ only_reply x (Refused InvalidHandle)
   unfolding open_enlistment_tests
   open_enlistment_unnamed none = comes_by x process opening up (Some InvalidHandle) (first_holds (is_none owner) InvalidHandle (own_tests owner) (ap is_none none))
 
@@ -201,7 +202,7 @@ module _ (x : Present) (process : Pid) (up : x.machine.is_up ≡ true) (label ma
     by_owner = first_fails (is_none owner) InvalidHandle (own_tests owner) (ap is_none named) ∙ ap (λ (o : Option Manager). first_refusal (own_tests o)) named
 
     -- the label is bound
-    pub open_enlistment_bound : is_bound x process label ≡ true → with_room x process opening ≡ only_reply x (Refused InvalidParameter)
+    pub open_enlistment_bound : is_bound x process label ≡ true → decide x process opening ≡ only_reply x (Refused InvalidParameter)
     open_enlistment_bound bound =
         comes_by x process opening up (Some InvalidParameter)
         (by_owner ∙ first_holds (is_bound x process label) InvalidParameter ((is_none (enlistment_with x (Some m) guid), EnlistmentNotFound) ∷ handle_test x ∷ []) bound)
@@ -214,7 +215,7 @@ module _ (x : Present) (process : Pid) (up : x.machine.is_up ≡ true) (label ma
           ∙ ap (λ (o : Option Enlistment). first_refusal ((is_none o, EnlistmentNotFound) ∷ handle_test x ∷ [])) is
 
       -- nothing has it
-      pub open_enlistment_unknown : enlistment_with x (Some m) guid ≡ None → with_room x process opening ≡ only_reply x (Refused EnlistmentNotFound)
+      pub open_enlistment_unknown : enlistment_with x (Some m) guid ≡ None → decide x process opening ≡ only_reply x (Refused EnlistmentNotFound)
       open_enlistment_unknown none = comes_by x process opening up (Some EnlistmentNotFound) (by_guid None none)
 
       -- a live enlistment of the resource manager has it
@@ -299,13 +300,6 @@ done_by _ c unasked = refl
 arrived_events : (x : Present) (c : Going) (reply : Reply) → (arrived x c reply).events ≡ c.events
 arrived_events x c reply = if_cases (λ (o : Outcome). o.events ≡ c.events) (is_undecided c.transaction) _ _ (λ before. refl) (λ decided. refl)
 
--- an outcome whose events the log has room for stays as it is
-within_log-fits : (x : Present) (o : Outcome) → is_full x.machine.left o.events ≡ false → within_log x o ≡ o
-within_log-fits x o fits = elim (cases_Bool (is_full x.machine.left o.events)) [
-  | inl full ↦ absurd (true≢false (sym full ∙ fits))
-  | inr room ↦ rw room refl
-]
-
 -- it goes by the tests of its command, takes no memory, and is not CommitTransaction
 pub record IsPlainly (x : Present) (process : Pid) (command : Command) (input : PhaseInput) : Type 0 where
   pub early : early_tests x process command ≡ command_tests x process command
@@ -342,10 +336,10 @@ module _ (x : Present) (process : Pid) (up : x.machine.is_up ≡ true) where
 
     -- what is refused, as a command
     pub refused_by : (command : Command) (result : Result PhaseInput Refusal) (refusal : Refusal) → ComesTo x t e (command_tests x process command) (command_effect x process command) result → result ≡ Err refusal
-        → with_room x process command ≡ only_reply x (Refused refusal)
+        → decide x process command ≡ only_reply x (Refused refusal)
     refused_by command result refusal comes is = comes_by x process command up (Some refusal) (comes.refused ∙ ap refusal_in is)
 
-    module _ (files : FilesLaw) (spelled : SpelledLaw) (command : Command) (is : IsCommand command) (input : PhaseInput) (result : Result PhaseInput Refusal)
+    module _ (files : FilesLaw) (left : HasEventsLeft x) (spelled : SpelledLaw) (command : Command) (is : IsCommand command) (input : PhaseInput) (result : Result PhaseInput Refusal)
         (comes : ComesTo x t e (command_tests x process command) (command_effect x process command) result) (came : result ≡ Ok input) (may : MayCome (told_outcome t.outcome) t.phase input) (plainly : IsPlainly x process command input) where
       abbrev going : Going
       going = course_to x t (Some e.id) input
@@ -355,26 +349,23 @@ module _ (x : Present) (process : Pid) (up : x.machine.is_up ≡ true) where
       passes = comes.refused ∙ ap refusal_in came
 
       -- the command leads the transaction
-      leads : with_room x process command ≡ arrived x going (reply_to input going)
+      leads : decide x process command ≡ arrived x going (reply_to input going)
       leads =
           comes_by x process command up None passes ∙ comes.leads input came
           ∙ ap (λ (o : Option Enlistment). arrived x (led input (course_of x t o)) Done) (sym found)
           ∙ ap (arrived x going) (done_by input going plainly.unasked)
 
-      -- where the log has room it records what the course does
-      recorded : is_full x.machine.left going.events ≡ false → (decide x process command).events ≡ going.events
-      recorded room =
-          ap (λ (o : Outcome). (within_log x o).events) leads
-          ∙ ap (λ (o : Outcome). o.events) (within_log-fits x (arrived x going (reply_to input going)) (ap (is_full x.machine.left) (arrived_events x going (reply_to input going)) ∙ room))
-          ∙ arrived_events x going (reply_to input going)
+      -- it records what the course does
+      recorded : (decide x process command).events ≡ going.events
+      recorded = ap (λ (o : Outcome). o.events) leads ∙ arrived_events x going (reply_to input going)
 
       -- the course can be made
       ready : IsReadyCourse x t (Some e.id) input
       ready = record {
         there = at;
         called = λ id same. (e, ap (enlistment_at es) (sym (same_Some e.id id same)) ∙ found, own);
-        may = λ commits room. files.commits x t standing at (unknown_undecided t (commits_unknown (told_outcome t.outcome) t.phase input (seen (course_of x t None)) may commits));
-        spelled = λ room. subst (All IsSpellableEvent) (recorded room) (spelled.commands x process command standing is);
+        may = λ commits. files.commits x t standing left at (unknown_undecided t (commits_unknown (told_outcome t.outcome) t.phase input (seen (course_of x t None)) may commits));
+        spelled = subst (All IsSpellableEvent) recorded (spelled.commands x process command standing is);
         active = λ asked. absurd (plainly.unasked asked);
       }
 
@@ -382,7 +373,7 @@ module _ (x : Present) (process : Pid) (up : x.machine.is_up ≡ true) where
       pub goes : IsRouted x process command (Course t (Some e.id) input)
       goes = (leads, ready, takes_by x process command up None (ap first_refusal plainly.early ∙ passes) ∙ and-true (effect_takes_memory x process command) ∙ plainly.takes)
 
-    module _ (calls : CallsLaw) (coming : ComingLaw) (files : FilesLaw) (spelled : SpelledLaw) where
+    module _ (calls : CallsLaw) (coming : ComingLaw) (files : FilesLaw) (left : HasEventsLeft x) (spelled : SpelledLaw) where
       -- a reply goes by the tests of its command, and takes no memory
       reply_plainly : (vote : Vote) → IsPlainly x process (reply_call vote label) (input_of e vote)
       reply_plainly Vote.PrePrepareComplete = record { early = refl; takes = refl; unasked = λ same. absurd (cc) }
@@ -396,12 +387,12 @@ module _ (x : Present) (process : Pid) (up : x.machine.is_up ≡ true) where
       -- a reply that is allowed is the course of its transaction
       pub replies : (vote : Vote) (input : PhaseInput) → IsCommand (reply_call vote label) → replied t.phase e vote ≡ Ok input → IsRouted x process (reply_call vote label) (Course t (Some e.id) input)
       replies vote input is came =
-          goes files spelled (reply_call vote label) is input (replied t.phase e vote) (calls.replies x process label e t vote names) came
+          goes files left spelled (reply_call vote label) is input (replied t.phase e vote) (calls.replies x process label e t vote names) came
           (coming.replies t.phase (told_outcome t.outcome) e vote input (known-in t.phase t (stands-now x t (Some e) sound is_in).outcome) owed came)
           (subst (IsPlainly x process (reply_call vote label)) (sym (allowed_input (allows t.phase e vote) (input_of e vote) input came)) (reply_plainly vote))
 
       -- a reply that is not allowed is refused
-      pub reply_refused : (vote : Vote) (refusal : Refusal) → replied t.phase e vote ≡ Err refusal → with_room x process (reply_call vote label) ≡ only_reply x (Refused refusal)
+      pub reply_refused : (vote : Vote) (refusal : Refusal) → replied t.phase e vote ≡ Err refusal → decide x process (reply_call vote label) ≡ only_reply x (Refused refusal)
       reply_refused vote refusal is = refused_by (reply_call vote label) (replied t.phase e vote) refusal (calls.replies x process label e t vote names) is
 
       -- a call of a superior goes by the tests of its command, and takes no memory
@@ -413,12 +404,12 @@ module _ (x : Present) (process : Pid) (up : x.machine.is_up ≡ true) where
       -- a call of a superior that is allowed is the course of its transaction
       pub commands : (call : SuperiorCall) (input : PhaseInput) → IsCommand (superior_call call label) → commanded t.phase e call ≡ Ok input → IsRouted x process (superior_call call label) (Course t (Some e.id) input)
       commands call input is came =
-          goes files spelled (superior_call call label) is input (commanded t.phase e call) (calls.superiors x process label e t call names) came
+          goes files left spelled (superior_call call label) is input (commanded t.phase e call) (calls.superiors x process label e t call names) came
           (coming.superiors t.phase (told_outcome t.outcome) e call input (known-in t.phase t (stands-now x t (Some e) sound is_in).outcome) came)
           (subst (IsPlainly x process (superior_call call label)) (sym (commanded_input (is_superior e) (lets t.phase call) (input_by call) input came)) (command_plainly call))
 
       -- a call of a superior that is not allowed is refused
-      pub command_refused : (call : SuperiorCall) (refusal : Refusal) → commanded t.phase e call ≡ Err refusal → with_room x process (superior_call call label) ≡ only_reply x (Refused refusal)
+      pub command_refused : (call : SuperiorCall) (refusal : Refusal) → commanded t.phase e call ≡ Err refusal → decide x process (superior_call call label) ≡ only_reply x (Refused refusal)
       command_refused call refusal is = refused_by (superior_call call label) (commanded t.phase e call) refusal (calls.superiors x process label e t call names) is
 
       -- a recovery goes by the tests of its command, and takes no memory
@@ -429,12 +420,12 @@ module _ (x : Present) (process : Pid) (up : x.machine.is_up ≡ true) where
       -- a recovery that is allowed is the course of its transaction
       pub recovery : (input : PhaseInput) → IsCommand (RecoverEnlistment label) → recovered t.phase e ≡ Ok input → IsRouted x process (RecoverEnlistment label) (Course t (Some e.id) input)
       recovery input is came =
-          goes files spelled (RecoverEnlistment label) is input (recovered t.phase e) (calls.recoveries x process label e t names) came
+          goes files left spelled (RecoverEnlistment label) is input (recovered t.phase e) (calls.recoveries x process label e t names) came
           (coming.recoveries t.phase (told_outcome t.outcome) e input (known-in t.phase t (stands-now x t (Some e) sound is_in).outcome) came)
           (subst (IsPlainly x process (RecoverEnlistment label)) (sym (allowed_input (may_recover_in t.phase e) (if is_superior e then PhaseInput.RecoverSuperior else PhaseInput.Recover) input came)) (recovery_plainly (is_superior e)))
 
       -- a recovery that is not allowed is refused
-      pub recovery_refused : (refusal : Refusal) → recovered t.phase e ≡ Err refusal → with_room x process (RecoverEnlistment label) ≡ only_reply x (Refused refusal)
+      pub recovery_refused : (refusal : Refusal) → recovered t.phase e ≡ Err refusal → decide x process (RecoverEnlistment label) ≡ only_reply x (Refused refusal)
       recovery_refused refusal is = refused_by (RecoverEnlistment label) (recovered t.phase e) refusal (calls.recoveries x process label e t names) is
 
     -- ---- recovery information
@@ -466,7 +457,7 @@ module _ (x : Present) (process : Pid) (up : x.machine.is_up ≡ true) where
         ∙ ap (λ b. first_refusal ((not b, TransactionRequestNotValid) ∷ [])) (live_by x.transactions.items e t sound.transactions.rise names.transaction)
 
     -- nothing is told of one that is not
-    pub tell_refused : is_live_in t e ≡ false → with_room x process (GetEnlistmentRecoveryInformation label) ≡ only_reply x (Refused TransactionRequestNotValid)
+    pub tell_refused : is_live_in t e ≡ false → decide x process (GetEnlistmentRecoveryInformation label) ≡ only_reply x (Refused TransactionRequestNotValid)
     tell_refused dead =
         comes_by x process (GetEnlistmentRecoveryInformation label) up (Some TransactionRequestNotValid) (by_life ∙ first_holds (not (is_live_in t e)) TransactionRequestNotValid [] (ap not dead))
 

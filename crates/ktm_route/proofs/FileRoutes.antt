@@ -1,5 +1,5 @@
 -- Calls on files: the open file that a label names, and from the tests of a command to those of its call.
-use Rattle.std.proofs.Common.{inl, inr, ◌≡◌, ◌&&◌, ℕ, not, cond, Bool, true, false, List, [], ◌∷◌, ◌++◌, Option, Some, None, Result, Ok, Err, IfOk, IfErr, IsErrAnd, is_some, option_and_then, refl, sym, ◌∙◌, ap, subst}
+use Rattle.std.proofs.Common.{inl, inr, ◌≡◌, ℕ, not, cond, Bool, true, false, List, [], ◌∷◌, ◌++◌, Option, Some, None, Result, Ok, Err, IfOk, IfErr, IsErrAnd, is_some, option_and_then, refl, sym, ◌∙◌, ap, subst}
 use Rattle.ktm_base.specs.declared.id.Id.{Id}
 use Rattle.ktm_base.specs.declared.id.Label.{Label}
 use Rattle.ktm_base.specs.declared.id.Pid.{Pid}
@@ -14,7 +14,7 @@ use Rattle.ktm_types.specs.declared.options.Access.{Access}
 use Rattle.ktm_types.specs.declared.options.Disposition.{Disposition}
 use Rattle.ktm_types.specs.declared.options.ShareMode.{ShareMode}
 use Rattle.ktm_types.specs.Values.{IsCommand}
-use Rattle.ktm_world.specs.Decide.{command_effect, command_tests, of_files, on_file, opening, own_tests, with_room}
+use Rattle.ktm_world.specs.Decide.{command_effect, command_tests, of_files, on_file, opening, own_tests, decide}
 use Rattle.ktm_world.specs.FileCalls.{create_file, create_file_tests, read_file, read_file_tests, write_access_test, write_file, write_file_tests, set_end, set_end_tests, get_size, flush_file, delete_file, delete_file_tests, create_directory, create_directory_tests, remove_directory, remove_directory_tests, move_file, move_file_tests, find_files, find_files_tests}
 use Rattle.ktm_world.specs.FileOutcome.{FileOutcome}
 use Rattle.ktm_world.specs.Files.{OpenFile}
@@ -24,6 +24,7 @@ use Rattle.ktm_world.specs.Outcome.{first_refusal, only_reply, refuse_or}
 use Rattle.ktm_world.specs.Present.{Present}
 use Rattle.ktm_world.specs.TransactionCalls.{bound_test}
 use Rattle.ktm_world.specs.Uses.{file_room}
+use Rattle.ktm_laws.specs.Running.{HasEventsLeft}
 use Rattle.ktm_records.specs.FileCallsMade.{file_call, in_caller, on_open}
 use Rattle.ktm_standing.specs.Laws.{FilesLaw}
 use Rattle.ktm_standing.specs.Standing.{IsStandingNow}
@@ -39,7 +40,7 @@ use Rattle.ktm_memory.specs.Routed.{IsActiveCaller, IsFreeLabel}
 use Rattle.ktm_route.specs.Route.{IsRouted, Routes}
 use Rattle.ktm_memory.specs.Opening.{files_outcome}
 use Rattle.ktm_memory.specs.Takes.{files_take_memory, is_quiet}
-use Rattle.ktm_route.specs.Takes.{early_tests, effect_takes_memory, has_log_room, takes_memory}
+use Rattle.ktm_route.specs.Takes.{early_tests, effect_takes_memory, takes_memory}
 use Rattle.ktm_memory.specs.declared.routed.Routed.{Routed}
 use Rattle.ktm_memory.specs.declared.routed.Routed.TheVariants.{Files}
 use Rattle.ktm_route.proofs.Routes.{active_named, first_of-passed, refused_first, up_or}
@@ -77,7 +78,7 @@ files_refused x process None (Some l) (Some refusal) o = refl
 files_refused x process (Some id) (Some l) (Some refusal) o = refl
 
 -- a command on files whose tests on handles passed
-module _ (x : Present) (process : Pid) (up : x.machine.is_up ≡ true) (law : FilesLaw) (standing : IsStandingNow x) (command : Command) (is : IsCommand command) where
+module _ (x : Present) (process : Pid) (up : x.machine.is_up ≡ true) (law : FilesLaw) (standing : IsStandingNow x) (left : HasEventsLeft x) (command : Command) (is : IsCommand command) where
   module _ (who : Option Id) (label : Option Label) (call : FileCall) (tests : List (Bool × Refusal))
       (are : command_tests x process command ≡ tests ++ file_tests x.files (file_room x) who call) (passed : first_refusal tests ≡ None)
       (effect : command_effect x process command ≡ files_outcome x process who label (file_effect x.files who call))
@@ -89,7 +90,7 @@ module _ (x : Present) (process : Pid) (up : x.machine.is_up ≡ true) (law : Fi
     tested = ap first_refusal are ∙ first_of-passed tests own passed
 
     -- what it comes to
-    comes_to : with_room x process command ≡ files_outcome x process who label (file_outcome x.files (file_room x) who call)
+    comes_to : decide x process command ≡ files_outcome x process who label (file_outcome x.files (file_room x) who call)
     comes_to =
         up_or x (command_tests x process command) (command_effect x process command) up
         ∙ ap (λ r. refuse_or x r (command_effect x process command)) tested
@@ -103,7 +104,7 @@ module _ (x : Present) (process : Pid) (up : x.machine.is_up ≡ true) (law : Fi
         usable = usable;
         free = free;
         active = active;
-        may = λ none. law.calls x process command who (file_effect x.files who call) standing is
+        may = λ none. law.calls x process command who (file_effect x.files who call) standing left is
             (ap (λ u. cond (not u) (Some MachineDown) (first_refusal (command_tests x process command))) up ∙ tested ∙ none) made;
       },
       takes,
@@ -111,12 +112,12 @@ module _ (x : Present) (process : Pid) (up : x.machine.is_up ≡ true) (law : Fi
 
     -- a change of an open file
     pub routed_change : IsActiveCaller x who → early_tests x process command ≡ command_tests x process command → decision_takes_memory call ≡ false
-        → effect_takes_memory x process command ≡ (not (is_quiet (file_effect x.files who call)) && has_log_room x process command) → IsRouted x process command (Files who label call)
-    routed_change active early quick takes = routed active (change_takes x process up command who label call tests (early ∙ are) passed comes_to quick takes)
+        → effect_takes_memory x process command ≡ not (is_quiet (file_effect x.files who call)) → IsRouted x process command (Files who label call)
+    routed_change active early quick takes = routed active (change_takes x process up command who call tests (early ∙ are) passed quick takes)
 
 -- ---- plain calls on paths
 
-module _ (x : Present) (process : Pid) (up : x.machine.is_up ≡ true) (law : FilesLaw) (standing : IsStandingNow x) where
+module _ (x : Present) (process : Pid) (up : x.machine.is_up ≡ true) (law : FilesLaw) (standing : IsStandingNow x) (left : HasEventsLeft x) where
   -- the test on the label of a file that is to be opened, which is not bound
   unbound : (label : Label) → object_at x.handles process label ≡ None → first_refusal (bound_test x process label ∷ []) ≡ None
   unbound label free = ap (λ (o : Option Object). cond (is_some o) (Some InvalidParameter) None) free
@@ -128,27 +129,27 @@ module _ (x : Present) (process : Pid) (up : x.machine.is_up ≡ true) (law : Fi
   module _ (label : Label) (path : List ℕ) (access : Access) (share : ShareMode) (d : Disposition) where
     pub create_routed : IsCommand (CreateFile label path access share d) → object_at x.handles process label ≡ None → IsRouted x process (CreateFile label path access share d) (Files None (Some label) (Create path access share d))
     create_routed is free =
-        routed x process up law standing (CreateFile label path access share d) is None (Some label) (Create path access share d) (bound_test x process label ∷ []) refl (unbound label free) refl refl tt free tt
+        routed x process up law standing left (CreateFile label path access share d) is None (Some label) (Create path access share d) (bound_test x process label ∷ []) refl (unbound label free) refl refl tt free tt
         (passed_takes x process up (CreateFile label path access share d) (bound_test x process label ∷ []) refl (unbound label free))
 
-    pub create_refused : (refusal : Refusal) → (refusal ≡ InvalidParameter) × (is_bound x process label ≡ true) → with_room x process (CreateFile label path access share d) ≡ only_reply x (Refused refusal)
+    pub create_refused : (refusal : Refusal) → (refusal ≡ InvalidParameter) × (is_bound x process label ≡ true) → decide x process (CreateFile label path access share d) ≡ only_reply x (Refused refusal)
     create_refused refusal bound =
         refused_first x process (CreateFile label path access share d) (bound_test x process label ∷ []) (create_file_tests x.files (file_room x) None path access share d) refusal up refl (bound_first label refusal bound)
 
   pub delete_routed : (path : List ℕ) → IsCommand (DeleteFile path) → IsRouted x process (DeleteFile path) (Files None None (Delete path))
-  delete_routed path is = routed x process up law standing (DeleteFile path) is None None (Delete path) [] refl refl refl refl tt tt tt (passed_takes x process up (DeleteFile path) [] refl refl)
+  delete_routed path is = routed x process up law standing left (DeleteFile path) is None None (Delete path) [] refl refl refl refl tt tt tt (passed_takes x process up (DeleteFile path) [] refl refl)
 
   pub make_routed : (path : List ℕ) → IsCommand (CreateDirectory path) → IsRouted x process (CreateDirectory path) (Files None None (MakeDirectory path))
-  make_routed path is = routed x process up law standing (CreateDirectory path) is None None (MakeDirectory path) [] refl refl refl refl tt tt tt (passed_takes x process up (CreateDirectory path) [] refl refl)
+  make_routed path is = routed x process up law standing left (CreateDirectory path) is None None (MakeDirectory path) [] refl refl refl refl tt tt tt (passed_takes x process up (CreateDirectory path) [] refl refl)
 
   pub remove_routed : (path : List ℕ) → IsCommand (RemoveDirectory path) → IsRouted x process (RemoveDirectory path) (Files None None (Remove path))
-  remove_routed path is = routed x process up law standing (RemoveDirectory path) is None None (Remove path) [] refl refl refl refl tt tt tt (passed_takes x process up (RemoveDirectory path) [] refl refl)
+  remove_routed path is = routed x process up law standing left (RemoveDirectory path) is None None (Remove path) [] refl refl refl refl tt tt tt (passed_takes x process up (RemoveDirectory path) [] refl refl)
 
   pub move_routed : (source target : List ℕ) → IsCommand (MoveFile source target) → IsRouted x process (MoveFile source target) (Files None None (Move source target))
-  move_routed source target is = routed x process up law standing (MoveFile source target) is None None (Move source target) [] refl refl refl refl tt tt tt (passed_takes x process up (MoveFile source target) [] refl refl)
+  move_routed source target is = routed x process up law standing left (MoveFile source target) is None None (Move source target) [] refl refl refl refl tt tt tt (passed_takes x process up (MoveFile source target) [] refl refl)
 
   pub find_routed : (searched : List ℕ) → IsCommand (FindFiles searched) → IsRouted x process (FindFiles searched) (Files None None (Find searched))
-  find_routed searched is = routed x process up law standing (FindFiles searched) is None None (Find searched) [] refl refl refl refl tt tt tt (passed_takes x process up (FindFiles searched) [] refl refl)
+  find_routed searched is = routed x process up law standing left (FindFiles searched) is None None (Find searched) [] refl refl refl refl tt tt tt (passed_takes x process up (FindFiles searched) [] refl refl)
 
   -- ---- calls in a transaction
 
@@ -171,7 +172,7 @@ module _ (x : Present) (process : Pid) (up : x.machine.is_up ≡ true) (law : Fi
       pub create_transacted : IsCommand (CreateFileTransacted handle path access share d label) → object_at x.handles process handle ≡ None
           → IsRouted x process (CreateFileTransacted handle path access share d label) (Files (Some t.id) (Some handle) (Create path access share d))
       create_transacted is free =
-          routed x process up law standing (CreateFileTransacted handle path access share d label) is (Some t.id) (Some handle) (Create path access share d) tests are
+          routed x process up law standing left (CreateFileTransacted handle path access share d label) is (Some t.id) (Some handle) (Create path access share d) tests are
           (first_of-passed (transaction_tests (Some t)) (bound_test x process handle ∷ []) passed ∙ unbound handle free)
           (by_named (λ n. opening x process handle (id_of_named n) (create_file x.files (id_of_named n) path access share d)))
           (by_named (λ n. in_caller (id_of_named n) (λ who. create_file x.files who path access share d))) tt free is_active_caller
@@ -179,38 +180,38 @@ module _ (x : Present) (process : Pid) (up : x.machine.is_up ≡ true) (law : Fi
           (first_of-passed (transaction_tests (Some t)) (bound_test x process handle ∷ []) passed ∙ unbound handle free))
 
       pub create_transacted_refused : (refusal : Refusal) → (refusal ≡ InvalidParameter) × (is_bound x process handle ≡ true)
-          → with_room x process (CreateFileTransacted handle path access share d label) ≡ only_reply x (Refused refusal)
+          → decide x process (CreateFileTransacted handle path access share d label) ≡ only_reply x (Refused refusal)
       create_transacted_refused refusal bound =
           refused_first x process (CreateFileTransacted handle path access share d label) tests (create_file_tests x.files (file_room x) (Some t.id) path access share d) refusal up are
           (first_of-passed (transaction_tests (Some t)) (bound_test x process handle ∷ []) passed ∙ bound_first handle refusal bound)
 
     pub delete_transacted : (path : List ℕ) → IsCommand (DeleteFileTransacted path label) → IsRouted x process (DeleteFileTransacted path label) (Files (Some t.id) None (Delete path))
     delete_transacted path is =
-        routed x process up law standing (DeleteFileTransacted path label) is (Some t.id) None (Delete path) (transaction_tests (Some t))
+        routed x process up law standing left (DeleteFileTransacted path label) is (Some t.id) None (Delete path) (transaction_tests (Some t))
         (by_named (λ n. transaction_tests n ++ delete_file_tests x.files (file_room x) (id_of_named n) path)) passed
         (by_named (λ n. of_files x (id_of_named n) (delete_file x.files (id_of_named n) path))) (by_named (λ n. in_caller (id_of_named n) (λ who. delete_file x.files who path))) tt tt is_active_caller (passed_takes x process up (DeleteFileTransacted path label) (transaction_tests (Some t)) (by_named transaction_tests) passed)
 
     pub make_transacted : (path : List ℕ) → IsCommand (CreateDirectoryTransacted path label) → IsRouted x process (CreateDirectoryTransacted path label) (Files (Some t.id) None (MakeDirectory path))
     make_transacted path is =
-        routed x process up law standing (CreateDirectoryTransacted path label) is (Some t.id) None (MakeDirectory path) (transaction_tests (Some t))
+        routed x process up law standing left (CreateDirectoryTransacted path label) is (Some t.id) None (MakeDirectory path) (transaction_tests (Some t))
         (by_named (λ n. transaction_tests n ++ create_directory_tests x.files (file_room x) (id_of_named n) path)) passed
         (by_named (λ n. of_files x (id_of_named n) (create_directory x.files (id_of_named n) path))) (by_named (λ n. in_caller (id_of_named n) (λ who. create_directory x.files who path))) tt tt is_active_caller (passed_takes x process up (CreateDirectoryTransacted path label) (transaction_tests (Some t)) (by_named transaction_tests) passed)
 
     pub remove_transacted : (path : List ℕ) → IsCommand (RemoveDirectoryTransacted path label) → IsRouted x process (RemoveDirectoryTransacted path label) (Files (Some t.id) None (Remove path))
     remove_transacted path is =
-        routed x process up law standing (RemoveDirectoryTransacted path label) is (Some t.id) None (Remove path) (transaction_tests (Some t))
+        routed x process up law standing left (RemoveDirectoryTransacted path label) is (Some t.id) None (Remove path) (transaction_tests (Some t))
         (by_named (λ n. transaction_tests n ++ remove_directory_tests x.files (file_room x) (id_of_named n) path)) passed
         (by_named (λ n. of_files x (id_of_named n) (remove_directory x.files (id_of_named n) path))) (by_named (λ n. in_caller (id_of_named n) (λ who. remove_directory x.files who path))) tt tt is_active_caller (passed_takes x process up (RemoveDirectoryTransacted path label) (transaction_tests (Some t)) (by_named transaction_tests) passed)
 
     pub move_transacted : (source target : List ℕ) → IsCommand (MoveFileTransacted source target label) → IsRouted x process (MoveFileTransacted source target label) (Files (Some t.id) None (Move source target))
     move_transacted source target is =
-        routed x process up law standing (MoveFileTransacted source target label) is (Some t.id) None (Move source target) (transaction_tests (Some t))
+        routed x process up law standing left (MoveFileTransacted source target label) is (Some t.id) None (Move source target) (transaction_tests (Some t))
         (by_named (λ n. transaction_tests n ++ move_file_tests x.files (file_room x) (id_of_named n) source target)) passed
         (by_named (λ n. of_files x (id_of_named n) (move_file x.files (id_of_named n) source target))) (by_named (λ n. in_caller (id_of_named n) (λ who. move_file x.files who source target))) tt tt is_active_caller (passed_takes x process up (MoveFileTransacted source target label) (transaction_tests (Some t)) (by_named transaction_tests) passed)
 
     pub find_transacted : (searched : List ℕ) → IsCommand (FindFilesTransacted searched label) → IsRouted x process (FindFilesTransacted searched label) (Files (Some t.id) None (Find searched))
     find_transacted searched is =
-        routed x process up law standing (FindFilesTransacted searched label) is (Some t.id) None (Find searched) (transaction_tests (Some t))
+        routed x process up law standing left (FindFilesTransacted searched label) is (Some t.id) None (Find searched) (transaction_tests (Some t))
         (by_named (λ n. transaction_tests n ++ find_files_tests x.files (id_of_named n) searched)) passed
         (by_named (λ n. of_files x (id_of_named n) (find_files x.files (id_of_named n) searched))) (by_named (λ n. in_caller (id_of_named n) (λ who. find_files x.files who searched))) tt tt is_active_caller (passed_takes x process up (FindFilesTransacted searched label) (transaction_tests (Some t)) (by_named transaction_tests) passed)
 
@@ -230,31 +231,31 @@ module _ (x : Present) (process : Pid) (up : x.machine.is_up ≡ true) (law : Fi
 
     pub read_routed : (offset many : ℕ) → IsCommand (ReadFile label offset many) → IsRouted x process (ReadFile label offset many) (Files file.transaction None (Read file offset many))
     read_routed offset many is =
-        routed x process up law standing (ReadFile label offset many) is file.transaction None (Read file offset many) (handle_tests x process label)
+        routed x process up law standing left (ReadFile label offset many) is file.transaction None (Read file offset many) (handle_tests x process label)
         (by_file (λ n. handle_tests x process label ++ own_tests n (λ o. read_file_tests o many))) passed (by_file (λ n. on_file x n (λ o. read_file x.files o offset many)))
         (by_file (λ n. on_open n (λ o. read_file x.files o offset many))) tt tt active_file
         (passed_takes x process up (ReadFile label offset many) (handle_tests x process label) refl passed)
 
     pub write_routed : (offset : ℕ) (bytes : List ℕ) → IsCommand (WriteFile label offset bytes) → IsRouted x process (WriteFile label offset bytes) (Files file.transaction None (Write file offset bytes))
     write_routed offset bytes is =
-        routed_change x process up law standing (WriteFile label offset bytes) is file.transaction None (Write file offset bytes) (handle_tests x process label)
+        routed_change x process up law standing left (WriteFile label offset bytes) is file.transaction None (Write file offset bytes) (handle_tests x process label)
         (by_file (λ n. handle_tests x process label ++ own_tests n (λ o. write_file_tests x.files (file_room x) o offset bytes))) passed (by_file (λ n. on_file x n (λ o. write_file o offset bytes)))
         (by_file (λ n. on_open n (λ o. write_file o offset bytes))) (law.usable x process label (open_of file) standing named) tt active_file refl refl (write_takes x process up label file offset bytes)
 
     pub set_end_routed : (size : ℕ) → IsCommand (SetEndOfFile label size) → IsRouted x process (SetEndOfFile label size) (Files file.transaction None (SetEnd file size))
     set_end_routed size is =
-        routed_change x process up law standing (SetEndOfFile label size) is file.transaction None (SetEnd file size) (handle_tests x process label)
+        routed_change x process up law standing left (SetEndOfFile label size) is file.transaction None (SetEnd file size) (handle_tests x process label)
         (by_file (λ n. handle_tests x process label ++ own_tests n (λ o. set_end_tests x.files (file_room x) o size))) passed (by_file (λ n. on_file x n (λ o. set_end o size)))
         (by_file (λ n. on_open n (λ o. set_end o size))) (law.usable x process label (open_of file) standing named) tt active_file refl refl (set_end_takes x process up label file size)
 
     pub size_routed : IsCommand (GetFileSizeEx label) → IsRouted x process (GetFileSizeEx label) (Files file.transaction None (Size file))
     size_routed is =
-        routed x process up law standing (GetFileSizeEx label) is file.transaction None (Size file) (handle_tests x process label) refl passed
+        routed x process up law standing left (GetFileSizeEx label) is file.transaction None (Size file) (handle_tests x process label) refl passed
         (by_file (λ n. on_file x n (λ o. get_size x.files o))) (by_file (λ n. on_open n (λ o. get_size x.files o))) tt tt active_file (size_takes x file.transaction file)
 
     pub flush_routed : IsCommand (FlushFileBuffers label) → IsRouted x process (FlushFileBuffers label) (Files file.transaction None (Flush file))
     flush_routed is =
-        routed x process up law standing (FlushFileBuffers label) is file.transaction None (Flush file) (handle_tests x process label)
+        routed x process up law standing left (FlushFileBuffers label) is file.transaction None (Flush file) (handle_tests x process label)
         (by_file (λ n. handle_tests x process label ++ own_tests n (λ o. write_access_test o ∷ []))) passed (by_file (λ n. on_file x n (λ o. flush_file)))
         (by_file (λ n. on_open n (λ o. flush_file))) tt tt active_file (flush_takes x file.transaction file)
 
@@ -262,7 +263,7 @@ module _ (x : Present) (process : Pid) (up : x.machine.is_up ≡ true) (law : Fi
 
 module _ (x : Present) (process : Pid) (command : Command) where
   -- a refusal is handed on
-  pub handed_on : (r : Result Routed Refusal) (refusal : Refusal) → IsErrAnd r (λ given. given ≡ refusal) → with_room x process command ≡ only_reply x (Refused refusal) → Routes x process command r
+  pub handed_on : (r : Result Routed Refusal) (refusal : Refusal) → IsErrAnd r (λ given. given ≡ refusal) → decide x process command ≡ only_reply x (Refused refusal) → Routes x process command r
   handed_on (Ok given) refusal is comes = absurd is
   handed_on (Err given) refusal is comes = comes ∙ ap (λ r. only_reply x (Refused r)) (sym is)
 
@@ -270,7 +271,7 @@ module _ (x : Present) (process : Pid) (command : Command) where
   pub opening_routes : (who : Option Id) (label : Label) (call : FileCall) (r : Result Routed Refusal)
       → IfOk r (λ routed. (routed ≡ Files who (Some label) call) × (object_at x.handles process label ≡ None)) → IfErr r (λ refusal. (refusal ≡ InvalidParameter) × (is_some (object_at x.handles process label) ≡ true))
       → (object_at x.handles process label ≡ None → IsRouted x process command (Files who (Some label) call))
-      → ((refusal : Refusal) → (refusal ≡ InvalidParameter) × (is_bound x process label ≡ true) → with_room x process command ≡ only_reply x (Refused refusal))
+      → ((refusal : Refusal) → (refusal ≡ InvalidParameter) × (is_bound x process label ≡ true) → decide x process command ≡ only_reply x (Refused refusal))
       → Routes x process command r
   opening_routes who label call (Ok given) (is, free) err passes refuses = subst (IsRouted x process command) (sym is) (passes free)
   opening_routes who label call (Err refusal) ok bound passes refuses = refuses refusal bound

@@ -1,3 +1,4 @@
+mod Rooms
 mod Found
 mod Routes
 mod Takes

@@ -11,7 +11,7 @@ use Rattle.ktm_types.specs.declared.command.Command.TheVariants.{CreateResourceM
 use Rattle.ktm_types.specs.declared.object.Object.TheVariants.{Manager as ManagerObject}
 use Rattle.ktm_types.specs.declared.options.Durability.{Durability}
 use Rattle.ktm_types.specs.declared.reply.Reply.TheVariants.{Refused}
-use Rattle.ktm_world.specs.Decide.{command_effect, command_tests, with_room}
+use Rattle.ktm_world.specs.Decide.{command_effect, command_tests, decide}
 use Rattle.ktm_world.specs.Enlistments.{Manager, manager_at}
 use Rattle.ktm_world.specs.Labels.{holds_of, is_bound, manager_named}
 use Rattle.ktm_world.specs.Outcome.{first_refusal, only_reply, refuse_or}
@@ -39,7 +39,7 @@ first_fails test refusal more fails = ap (λ b. cond b (Some refusal) (first_ref
 
 module _ (x : Present) (process : Pid) (command : Command) (up : x.machine.is_up ≡ true) (r : Option Refusal) where
   -- a machine that is up refuses a command by its tests, and else does what it does
-  pub comes_by : first_refusal (command_tests x process command) ≡ r → with_room x process command ≡ refuse_or x r (command_effect x process command)
+  pub comes_by : first_refusal (command_tests x process command) ≡ r → decide x process command ≡ refuse_or x r (command_effect x process command)
   comes_by is = up_or x (command_tests x process command) (command_effect x process command) up ∙ ap (λ refusal. refuse_or x refusal (command_effect x process command)) is
 
   -- a machine that is up takes memory for a command by the tests that are made before that
@@ -70,7 +70,7 @@ manager_by x process label id found =
 module _ (x : Present) (process : Pid) (up : x.machine.is_up ≡ true) where
   module _ (label : Label) (durability : Durability) where
     -- the label is bound
-    pub make_bound : is_bound x process label ≡ true → with_room x process (CreateResourceManager label durability) ≡ only_reply x (Refused InvalidParameter)
+    pub make_bound : is_bound x process label ≡ true → decide x process (CreateResourceManager label durability) ≡ only_reply x (Refused InvalidParameter)
     unfolding create_resource_manager_tests
     make_bound bound =
         comes_by x process (CreateResourceManager label durability) up (Some InvalidParameter)
@@ -86,14 +86,14 @@ module _ (x : Present) (process : Pid) (up : x.machine.is_up ≡ true) where
 
   module _ (label : Label) (guid : List ℕ) where
     -- the label is bound
-    pub open_manager_bound : is_bound x process label ≡ true → with_room x process (OpenResourceManager label guid) ≡ only_reply x (Refused InvalidParameter)
+    pub open_manager_bound : is_bound x process label ≡ true → decide x process (OpenResourceManager label guid) ≡ only_reply x (Refused InvalidParameter)
     unfolding open_resource_manager_tests
     open_manager_bound bound =
         comes_by x process (OpenResourceManager label guid) up (Some InvalidParameter)
         (first_holds (is_bound x process label) InvalidParameter ((is_none (manager_with x guid), ResourceManagerNotFound) ∷ handle_test x ∷ []) bound)
 
     -- it is not, and nothing has the GUID
-    pub open_manager_unknown : is_bound x process label ≡ false → manager_with x guid ≡ None → with_room x process (OpenResourceManager label guid) ≡ only_reply x (Refused ResourceManagerNotFound)
+    pub open_manager_unknown : is_bound x process label ≡ false → manager_with x guid ≡ None → decide x process (OpenResourceManager label guid) ≡ only_reply x (Refused ResourceManagerNotFound)
     unfolding open_resource_manager_tests
     open_manager_unknown free none =
         comes_by x process (OpenResourceManager label guid) up (Some ResourceManagerNotFound)

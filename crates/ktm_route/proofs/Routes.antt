@@ -14,7 +14,7 @@ use Rattle.ktm_types.specs.declared.object.Object.{Object}
 use Rattle.ktm_types.specs.declared.object.Object.TheVariants.{Transaction as TransactionObject}
 use Rattle.ktm_types.specs.declared.object.Transaction.{Transaction}
 use Rattle.ktm_types.specs.declared.reply.Reply.TheVariants.{Refused}
-use Rattle.ktm_world.specs.Decide.{caller, command_effect, command_tests, of_keys, transacted, with_room}
+use Rattle.ktm_world.specs.Decide.{caller, command_effect, command_tests, of_keys, transacted, decide}
 use Rattle.ktm_world.specs.Files.{FilesNow}
 use Rattle.ktm_world.specs.KeyCalls.{KeyOutcome, kv_set_tests, kv_set, kv_unset_tests, kv_unset, kv_get_tests, kv_get, kv_list}
 use Rattle.ktm_world.specs.Labels.{holds_of, id_of_named, invalid_handle, is_bound, transaction_named, transaction_tests, view_tests, viewer}
@@ -59,7 +59,7 @@ up_or x tests effect up = ap (λ u. refuse_or x (cond (not u) (Some MachineDown)
 
 -- a command whose first tests refuse it
 pub refused_first : (x : Present) (process : Pid) (command : Command) (tests more : List (Bool × Refusal)) (refusal : Refusal) → x.machine.is_up ≡ true
-    → command_tests x process command ≡ tests ++ more → first_refusal tests ≡ Some refusal → with_room x process command ≡ only_reply x (Refused refusal)
+    → command_tests x process command ≡ tests ++ more → first_refusal tests ≡ Some refusal → decide x process command ≡ only_reply x (Refused refusal)
 refused_first x process command tests more refusal up are is =
     up_or x (command_tests x process command) (command_effect x process command) up
     ∙ ap (λ r. refuse_or x r (command_effect x process command)) (ap first_refusal are ∙ first_of-append tests more refusal is)
@@ -142,38 +142,38 @@ keys_listed x process view who call up is passed =
 -- each call on keys through its transaction or view
 module _ (x : Present) (process : Pid) (up : x.machine.is_up ≡ true) where
   module _ (label : Label) (t : Transaction) (named : transaction_named x process label ≡ Some t) (passed : first_refusal (transaction_tests (Some t)) ≡ None) where
-    pub set_routed : (key value : List ℕ) → with_room x process (KvSet label key value) ≡ of_keys x (key_outcome x.keys (key_room x) (Some t.id) (Set key value))
+    pub set_routed : (key value : List ℕ) → decide x process (KvSet label key value) ≡ of_keys x (key_outcome x.keys (key_room x) (Some t.id) (Set key value))
     set_routed key value = keys_through x process label t (λ who. kv_set_tests x.keys (key_room x) who key value) (λ who. kv_set x.keys who key value) up named passed
 
-    pub unset_routed : (key : List ℕ) → with_room x process (KvUnset label key) ≡ of_keys x (key_outcome x.keys (key_room x) (Some t.id) (Unset key))
+    pub unset_routed : (key : List ℕ) → decide x process (KvUnset label key) ≡ of_keys x (key_outcome x.keys (key_room x) (Some t.id) (Unset key))
     unset_routed key = keys_through x process label t (λ who. kv_unset_tests x.keys (key_room x) who key) (λ who. kv_unset x.keys who key) up named passed
 
   module _ (view : View) (who : Option Id) (is : viewer x process view ≡ who) (passed : first_refusal (view_tests x process view) ≡ None) where
-    pub get_routed : (key : List ℕ) → with_room x process (KvGet view key) ≡ of_keys x (key_outcome x.keys (key_room x) who (Get key))
+    pub get_routed : (key : List ℕ) → decide x process (KvGet view key) ≡ of_keys x (key_outcome x.keys (key_room x) who (Get key))
     get_routed key = keys_viewed x process view who (λ w. kv_get_tests x.keys w key) (λ w. kv_get x.keys w key) up is passed
 
-    pub list_routed : with_room x process (KvList view) ≡ of_keys x (key_outcome x.keys (key_room x) who Listing)
+    pub list_routed : decide x process (KvList view) ≡ of_keys x (key_outcome x.keys (key_room x) who Listing)
     list_routed = keys_listed x process view who (λ w. kv_list x.keys w) up is passed
 
 -- ---- calls on transactions and handles
 
 module _ (x : Present) (process : Pid) (up : x.machine.is_up ≡ true) where
   module _ (label : Label) (timeout : ℕ) where
-    pub create_bound : is_bound x process label ≡ true → with_room x process (CreateTransaction label timeout) ≡ only_reply x (Refused InvalidParameter)
+    pub create_bound : is_bound x process label ≡ true → decide x process (CreateTransaction label timeout) ≡ only_reply x (Refused InvalidParameter)
     unfolding create_transaction_tests
     create_bound bound =
         up_or x (create_transaction_tests x process label) (create_transaction x process label timeout) up
         ∙ test_refuses x (is_bound x process label) InvalidParameter (quota_test x (no_transaction_left x.transactions) ∷ []) (create_transaction x process label timeout) bound
 
     pub create_routed : is_bound x process label ≡ false
-        → with_room x process (CreateTransaction label timeout) ≡ refuse_or x (first_refusal (quota_test x (no_transaction_left x.transactions) ∷ [])) (create_transaction x process label timeout)
+        → decide x process (CreateTransaction label timeout) ≡ refuse_or x (first_refusal (quota_test x (no_transaction_left x.transactions) ∷ [])) (create_transaction x process label timeout)
     unfolding create_transaction_tests
     create_routed free =
         up_or x (create_transaction_tests x process label) (create_transaction x process label timeout) up
         ∙ test_passes x (is_bound x process label) InvalidParameter (quota_test x (no_transaction_left x.transactions) ∷ []) (create_transaction x process label timeout) free
 
   module _ (label : Label) (guid : List ℕ) where
-    pub open_bound : is_bound x process label ≡ true → with_room x process (OpenTransaction label guid) ≡ only_reply x (Refused InvalidParameter)
+    pub open_bound : is_bound x process label ≡ true → decide x process (OpenTransaction label guid) ≡ only_reply x (Refused InvalidParameter)
     unfolding open_transaction_tests
     open_bound bound =
         up_or x (open_transaction_tests x process label guid) (open_transaction x process label guid) up
@@ -181,84 +181,84 @@ module _ (x : Present) (process : Pid) (up : x.machine.is_up ≡ true) where
 
     -- a label that is not bound, and the transaction with the GUID
     opens : (found : Option Transaction) → is_bound x process label ≡ false → transaction_with x guid ≡ found
-        → with_room x process (OpenTransaction label guid) ≡ refuse_or x (first_refusal ((is_none found, TransactionNotFound) ∷ handle_test x ∷ [])) (open_to_transaction x process label found)
+        → decide x process (OpenTransaction label guid) ≡ refuse_or x (first_refusal ((is_none found, TransactionNotFound) ∷ handle_test x ∷ [])) (open_to_transaction x process label found)
     unfolding open_transaction_tests open_transaction
     opens found free is =
         up_or x (open_transaction_tests x process label guid) (open_transaction x process label guid) up
         ∙ test_passes x (is_bound x process label) InvalidParameter ((is_none (transaction_with x guid), TransactionNotFound) ∷ handle_test x ∷ []) (open_transaction x process label guid) free
         ∙ ap (λ (n : Option Transaction). refuse_or x (first_refusal ((is_none n, TransactionNotFound) ∷ handle_test x ∷ [])) (open_to_transaction x process label n)) is
 
-    pub open_unknown : is_bound x process label ≡ false → transaction_with x guid ≡ None → with_room x process (OpenTransaction label guid) ≡ only_reply x (Refused TransactionNotFound)
+    pub open_unknown : is_bound x process label ≡ false → transaction_with x guid ≡ None → decide x process (OpenTransaction label guid) ≡ only_reply x (Refused TransactionNotFound)
     open_unknown free none = opens None free none
 
     pub open_routed : (t : Transaction) → is_bound x process label ≡ false → transaction_with x guid ≡ Some t
-        → with_room x process (OpenTransaction label guid) ≡ refuse_or x (first_refusal (handle_test x ∷ [])) (opened_object x process label (TransactionObject t.id))
+        → decide x process (OpenTransaction label guid) ≡ refuse_or x (first_refusal (handle_test x ∷ [])) (opened_object x process label (TransactionObject t.id))
     open_routed t free found = opens (Some t) free found
 
   module _ (label : Label) where
     -- the transaction that the label names
-    commits : (named : Option Transaction) → transaction_named x process label ≡ named → with_room x process (CommitTransaction label) ≡ refuse_or x (first_refusal (transaction_tests named)) (commit_transaction x named)
+    commits : (named : Option Transaction) → transaction_named x process label ≡ named → decide x process (CommitTransaction label) ≡ refuse_or x (first_refusal (transaction_tests named)) (commit_transaction x named)
     commits named is =
         up_or x (transaction_tests (transaction_named x process label)) (commit_transaction x (transaction_named x process label)) up
         ∙ ap (λ (n : Option Transaction). refuse_or x (first_refusal (transaction_tests n)) (commit_transaction x n)) is
 
-    pub commit_routed : (t : Transaction) → transaction_named x process label ≡ Some t → first_refusal (transaction_tests (Some t)) ≡ None → with_room x process (CommitTransaction label) ≡ commit_transaction x (Some t)
+    pub commit_routed : (t : Transaction) → transaction_named x process label ≡ Some t → first_refusal (transaction_tests (Some t)) ≡ None → decide x process (CommitTransaction label) ≡ commit_transaction x (Some t)
     commit_routed t named passed = commits (Some t) named ∙ ap (λ r. refuse_or x r (commit_transaction x (Some t))) passed
 
-    pub commit_refused : (refusal : Refusal) → first_refusal (transaction_tests (transaction_named x process label)) ≡ Some refusal → with_room x process (CommitTransaction label) ≡ only_reply x (Refused refusal)
+    pub commit_refused : (refusal : Refusal) → first_refusal (transaction_tests (transaction_named x process label)) ≡ Some refusal → decide x process (CommitTransaction label) ≡ only_reply x (Refused refusal)
     commit_refused refusal is = commits (transaction_named x process label) refl ∙ ap (λ r. refuse_or x r (commit_transaction x (transaction_named x process label))) is
 
     rolls_back : (named : Option Transaction) → transaction_named x process label ≡ named
-        → with_room x process (RollbackTransaction label) ≡ refuse_or x (first_refusal (rollback_transaction_tests named)) (rollback_transaction x named)
+        → decide x process (RollbackTransaction label) ≡ refuse_or x (first_refusal (rollback_transaction_tests named)) (rollback_transaction x named)
     rolls_back named is =
         up_or x (rollback_transaction_tests (transaction_named x process label)) (rollback_transaction x (transaction_named x process label)) up
         ∙ ap (λ (n : Option Transaction). refuse_or x (first_refusal (rollback_transaction_tests n)) (rollback_transaction x n)) is
 
-    pub rollback_unnamed : transaction_named x process label ≡ None → with_room x process (RollbackTransaction label) ≡ only_reply x (Refused InvalidHandle)
+    pub rollback_unnamed : transaction_named x process label ≡ None → decide x process (RollbackTransaction label) ≡ only_reply x (Refused InvalidHandle)
     rollback_unnamed none = rolls_back None none
 
-    pub rollback_routed : (t : Transaction) → transaction_named x process label ≡ Some t → first_refusal (rollback_transaction_tests (Some t)) ≡ None → with_room x process (RollbackTransaction label) ≡ rollback_transaction x (Some t)
+    pub rollback_routed : (t : Transaction) → transaction_named x process label ≡ Some t → first_refusal (rollback_transaction_tests (Some t)) ≡ None → decide x process (RollbackTransaction label) ≡ rollback_transaction x (Some t)
     rollback_routed t named passed = rolls_back (Some t) named ∙ ap (λ r. refuse_or x r (rollback_transaction x (Some t))) passed
 
     pub rollback_refused : (t : Transaction) (refusal : Refusal) → transaction_named x process label ≡ Some t → first_refusal (rollback_transaction_tests (Some t)) ≡ Some refusal
-        → with_room x process (RollbackTransaction label) ≡ only_reply x (Refused refusal)
+        → decide x process (RollbackTransaction label) ≡ only_reply x (Refused refusal)
     rollback_refused t refusal named is = rolls_back (Some t) named ∙ ap (λ r. refuse_or x r (rollback_transaction x (Some t))) is
 
     tells : (named : Option Transaction) → transaction_named x process label ≡ named
-        → with_room x process (GetTransactionInformation label) ≡ refuse_or x (first_refusal (invalid_handle named ∷ [])) (get_transaction_information x named)
+        → decide x process (GetTransactionInformation label) ≡ refuse_or x (first_refusal (invalid_handle named ∷ [])) (get_transaction_information x named)
     tells named is =
         up_or x (invalid_handle (transaction_named x process label) ∷ []) (get_transaction_information x (transaction_named x process label)) up
         ∙ ap (λ (n : Option Transaction). refuse_or x (first_refusal (invalid_handle n ∷ [])) (get_transaction_information x n)) is
 
-    pub information_unnamed : transaction_named x process label ≡ None → with_room x process (GetTransactionInformation label) ≡ only_reply x (Refused InvalidHandle)
+    pub information_unnamed : transaction_named x process label ≡ None → decide x process (GetTransactionInformation label) ≡ only_reply x (Refused InvalidHandle)
     information_unnamed none = tells None none
 
-    pub information_routed : (t : Transaction) → transaction_named x process label ≡ Some t → with_room x process (GetTransactionInformation label) ≡ get_transaction_information x (Some t)
+    pub information_routed : (t : Transaction) → transaction_named x process label ≡ Some t → decide x process (GetTransactionInformation label) ≡ get_transaction_information x (Some t)
     information_routed t named = tells (Some t) named
 
   module _ (label : Label) (from : Pid) (source : Label) where
     -- the tests of the handle come first
-    duplicates : with_room x process (DuplicateHandle label from source)
+    duplicates : decide x process (DuplicateHandle label from source)
         ≡ refuse_or x (first_refusal (source_tests x.files (object_at x.handles from source) ++ bound_test x process label ∷ handle_test x ∷ [])) (duplicate_handle x process label from source)
     unfolding duplicate_handle_tests
     duplicates = up_or x (duplicate_handle_tests x process label from source) (duplicate_handle x process label from source) up
 
-    pub duplicate_refused : (refusal : Refusal) → first_refusal (source_tests x.files (object_at x.handles from source)) ≡ Some refusal → with_room x process (DuplicateHandle label from source) ≡ only_reply x (Refused refusal)
+    pub duplicate_refused : (refusal : Refusal) → first_refusal (source_tests x.files (object_at x.handles from source)) ≡ Some refusal → decide x process (DuplicateHandle label from source) ≡ only_reply x (Refused refusal)
     duplicate_refused refusal is =
         duplicates
         ∙ ap (λ r. refuse_or x r (duplicate_handle x process label from source)) (first_of-append (source_tests x.files (object_at x.handles from source)) (bound_test x process label ∷ handle_test x ∷ []) refusal is)
 
     passes_source : first_refusal (source_tests x.files (object_at x.handles from source)) ≡ None
-        → with_room x process (DuplicateHandle label from source) ≡ refuse_or x (first_refusal (bound_test x process label ∷ handle_test x ∷ [])) (duplicate_handle x process label from source)
+        → decide x process (DuplicateHandle label from source) ≡ refuse_or x (first_refusal (bound_test x process label ∷ handle_test x ∷ [])) (duplicate_handle x process label from source)
     passes_source passed =
         duplicates
         ∙ ap (λ r. refuse_or x r (duplicate_handle x process label from source)) (first_of-passed (source_tests x.files (object_at x.handles from source)) (bound_test x process label ∷ handle_test x ∷ []) passed)
 
-    pub duplicate_bound : first_refusal (source_tests x.files (object_at x.handles from source)) ≡ None → is_bound x process label ≡ true → with_room x process (DuplicateHandle label from source) ≡ only_reply x (Refused InvalidParameter)
+    pub duplicate_bound : first_refusal (source_tests x.files (object_at x.handles from source)) ≡ None → is_bound x process label ≡ true → decide x process (DuplicateHandle label from source) ≡ only_reply x (Refused InvalidParameter)
     duplicate_bound passed bound = passes_source passed ∙ test_refuses x (is_bound x process label) InvalidParameter (handle_test x ∷ []) (duplicate_handle x process label from source) bound
 
     pub duplicate_routed : first_refusal (source_tests x.files (object_at x.handles from source)) ≡ None → is_bound x process label ≡ false
-        → with_room x process (DuplicateHandle label from source) ≡ refuse_or x (first_refusal (handle_test x ∷ [])) (duplicate_handle x process label from source)
+        → decide x process (DuplicateHandle label from source) ≡ refuse_or x (first_refusal (handle_test x ∷ [])) (duplicate_handle x process label from source)
     duplicate_routed passed free = passes_source passed ∙ test_passes x (is_bound x process label) InvalidParameter (handle_test x ∷ []) (duplicate_handle x process label from source) free
 
 -- a handle that passes is bound

@@ -10,7 +10,6 @@ use Rattle.ktm_types.specs.declared.command.Command.{Command}
 use Rattle.ktm_types.specs.declared.command.Command.TheVariants.{CommitTransaction, CreateTransaction, DuplicateHandle, KvGet, KvList, KvSet, KvUnset, OpenTransaction, SetEndOfFile, WriteFile}
 use Rattle.ktm_types.specs.declared.command.View.{View}
 use Rattle.ktm_types.specs.declared.object.Transaction.{Transaction}
-use Rattle.ktm_world.specs.Decide.{events_of, with_room}
 use Rattle.ktm_world.specs.FileCalls.{get_size, set_end, write_file}
 use Rattle.ktm_world.specs.FileOutcome.{FileOutcome}
 use Rattle.ktm_world.specs.Handles.{object_at}
@@ -18,22 +17,20 @@ use Rattle.ktm_world.specs.HandleCalls.{duplicate_handle_tests}
 use Rattle.ktm_world.specs.KeyCalls.{KeyOutcome, kv_get, kv_get_tests, kv_set, kv_set_tests, kv_unset, kv_unset_tests, reply_of_value}
 use Rattle.ktm_world.specs.Keys.{KeysNow, is_bad_key, value_seen}
 use Rattle.ktm_world.specs.Labels.{id_of_named, is_bound, transaction_named, transaction_tests, view_tests, viewer}
-use Rattle.ktm_world.specs.Outcome.{Outcome, first_refusal, is_full}
+use Rattle.ktm_world.specs.Outcome.{first_refusal}
 use Rattle.ktm_world.specs.Present.{Present}
 use Rattle.ktm_world.specs.TransactionCalls.{bound_test, create_transaction_tests, handle_test, no_transaction_left, open_transaction_tests, quota_test, transaction_with}
 use Rattle.ktm_world.specs.Uses.{file_room, key_room}
 use Rattle.kv_rm.specs.Calls.{is_refused, key_outcome, unless_refused as refused_keys}
 use Rattle.kv_rm.specs.declared.call.KvCall.TheVariants.{Get, Set, Unset}
-use Rattle.txf_calls.specs.Calls.{file_effect, file_outcome, file_tests, takes_memory as decision_takes_memory, unless_refused}
+use Rattle.txf_calls.specs.Calls.{file_effect, file_tests, takes_memory as decision_takes_memory, unless_refused}
 use Rattle.txf_opens.specs.Acts.{open_of}
 use Rattle.txf_calls.specs.declared.call.FileCall.{FileCall}
 use Rattle.txf_calls.specs.declared.call.FileCall.TheVariants.{Flush, Size}
 use Rattle.txf_opens.specs.declared.file.OpenFile.{OpenFile as Kept}
 use Rattle.ktm_route.specs.Route.{source_tests}
-use Rattle.ktm_memory.specs.Opening.{files_outcome}
-use Rattle.ktm_memory.specs.Takes.{files_take_memory, is_quiet, plan_takes_memory}
-use Rattle.ktm_route.specs.Takes.{early_tests, effect_takes_memory, has_log_room, takes_memory}
-use Rattle.ktm_memory.proofs.offered.Opening.{events_in}
+use Rattle.ktm_memory.specs.Takes.{files_take_memory, is_quiet}
+use Rattle.ktm_route.specs.Takes.{early_tests, effect_takes_memory, takes_memory}
 use Rattle.ktm_route.proofs.Routes.{first_of-passed}
 
 -- ---- calls on keys
@@ -115,11 +112,9 @@ module _ (x : Present) (process : Pid) (up : x.machine.is_up ≡ true) where
     list_takes = passed_takes (KvList view) (view_tests x process view) refl passed
 
   -- a command that changes an open file
-  module _ (command : Command) (who : Option Id) (label : Option Label) (call : FileCall) (tests : List (Bool × Refusal))
+  module _ (command : Command) (who : Option Id) (call : FileCall) (tests : List (Bool × Refusal))
       (are : early_tests x process command ≡ tests ++ file_tests x.files (file_room x) who call) (passed : first_refusal tests ≡ None)
-      (comes : with_room x process command ≡ files_outcome x process who label (file_outcome x.files (file_room x) who call))
-      (quick : decision_takes_memory call ≡ false)
-      (effect : effect_takes_memory x process command ≡ (not (is_quiet (file_effect x.files who call)) && has_log_room x process command)) where
+      (quick : decision_takes_memory call ≡ false) (effect : effect_takes_memory x process command ≡ not (is_quiet (file_effect x.files who call))) where
     abbrev own : Option Refusal
     own = first_refusal (file_tests x.files (file_room x) who call)
 
@@ -127,17 +122,12 @@ module _ (x : Present) (process : Pid) (up : x.machine.is_up ≡ true) where
     made = file_effect x.files who call
 
     -- what it comes to with this refusal
-    planned : (r : Option Refusal) → own ≡ r → files_take_memory x who call ≡ plan_takes_memory x who (unless_refused r made)
-    planned r is = ap (λ b. b || plan_takes_memory x who (unless_refused own made)) quick ∙ ap (λ refusal. plan_takes_memory x who (unless_refused refusal made)) is
-
-    -- where nothing refuses it, it records its change
-    recorded : own ≡ None → (with_room x process command).events ≡ events_of who made.change
-    recorded none = ap (λ (o : Outcome). o.events) comes ∙ events_in x process who label (unless_refused own made) ∙ ap (λ r. events_of who (unless_refused r made).change) none
+    planned : (r : Option Refusal) → own ≡ r → files_take_memory x who call ≡ not (is_quiet (unless_refused r made))
+    planned r is = ap (λ b. b || not (is_quiet (unless_refused own made))) quick ∙ ap (λ refusal. not (is_quiet (unless_refused refusal made))) is
 
     by_own : (r : Option Refusal) → own ≡ r → (effect_takes_memory x process command && is_none r) ≡ files_take_memory x who call
     by_own (Some refusal) is = and-false (effect_takes_memory x process command) ∙ sym (planned (Some refusal) is)
-    by_own None is =
-        and-true (effect_takes_memory x process command) ∙ effect ∙ ap (λ es. not (is_quiet made) && not (is_full x.machine.left es)) (recorded is) ∙ sym (planned None is)
+    by_own None is = and-true (effect_takes_memory x process command) ∙ effect ∙ sym (planned None is)
 
     pub change_takes : takes_memory x process command ≡ files_take_memory x who call
     change_takes =
@@ -146,13 +136,13 @@ module _ (x : Present) (process : Pid) (up : x.machine.is_up ≡ true) where
         ∙ by_own own refl
 
   pub write_takes : (label : Label) (file : Kept) (offset : ℕ) (bytes : List ℕ)
-      → effect_takes_memory x process (WriteFile label offset bytes) ≡ (not (is_quiet (write_file (open_of file) offset bytes)) && has_log_room x process (WriteFile label offset bytes))
+      → effect_takes_memory x process (WriteFile label offset bytes) ≡ not (is_quiet (write_file (open_of file) offset bytes))
   unfolding write_file
   write_takes label file offset [] = refl
   write_takes label file offset (b ∷ bs) = refl
 
   pub set_end_takes : (label : Label) (file : Kept) (size : ℕ)
-      → effect_takes_memory x process (SetEndOfFile label size) ≡ (not (is_quiet (set_end (open_of file) size)) && has_log_room x process (SetEndOfFile label size))
+      → effect_takes_memory x process (SetEndOfFile label size) ≡ not (is_quiet (set_end (open_of file) size))
   unfolding set_end
   set_end_takes label file size = refl
 
@@ -165,6 +155,6 @@ size_takes x who file = refl
 pub flush_takes : (x : Present) (who : Option Id) (file : Kept) → false ≡ files_take_memory x who (Flush file)
 flush_takes x who file = go (first_refusal (file_tests x.files (file_room x) who (Flush file)))
   where
-    go : (r : Option Refusal) → false ≡ plan_takes_memory x who (unless_refused r (file_effect x.files who (Flush file)))
+    go : (r : Option Refusal) → false ≡ not (is_quiet (unless_refused r (file_effect x.files who (Flush file))))
     go (Some refusal) = refl
     go None = refl

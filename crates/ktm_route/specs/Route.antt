@@ -3,19 +3,20 @@ use Rattle.std.specs.Prelude.{◌≡◌, ◌&&◌, not, Bool, true, false, List,
 use Rattle.ktm_base.specs.declared.id.Id.{Id}
 use Rattle.ktm_base.specs.declared.id.Pid.{Pid}
 use Rattle.ktm_base.specs.declared.refusal.Refusal.{Refusal}
-use Rattle.ktm_base.specs.declared.refusal.Refusal.TheVariants.{HandleNoLongerValid, InvalidParameter, MachineDown, TransactionSuperiorExists}
+use Rattle.ktm_base.specs.declared.refusal.Refusal.TheVariants.{HandleNoLongerValid, InvalidParameter, TransactionSuperiorExists}
 use Rattle.ktm_types.specs.declared.command.Command.{Command}
 use Rattle.ktm_types.specs.declared.command.Command.TheVariants.{PrePrepareComplete, PrepareComplete, ReadOnlyEnlistment, SinglePhaseReject, CommitComplete, RollbackComplete, RollbackEnlistment, CreateFile, CreateFileTransacted, ReadFile, WriteFile, SetEndOfFile, GetFileSizeEx, FlushFileBuffers, DeleteFile, CreateDirectory, RemoveDirectory, MoveFile, DeleteFileTransacted, CreateDirectoryTransacted, RemoveDirectoryTransacted, MoveFileTransacted, FindFiles, FindFilesTransacted}
 use Rattle.ktm_types.specs.declared.object.Object.{Object}
 use Rattle.ktm_types.specs.declared.options.EnlistmentKind.{EnlistmentKind}
 use Rattle.ktm_world.specs.Enlistments.{Enlistment, is_durable_at, is_live_enlistment, superior_of}
 use Rattle.ktm_types.specs.declared.reply.Reply.TheVariants.{Refused}
-use Rattle.ktm_world.specs.Decide.{with_room}
+use Rattle.ktm_world.specs.Decide.{decide}
 use Rattle.ktm_world.specs.Labels.{file_number, holds_of, invalid_handle, is_dead}
-use Rattle.ktm_world.specs.Outcome.{Outcome, first_refusal, only_reply, refuse_or, within_log}
+use Rattle.ktm_world.specs.Outcome.{Outcome, only_reply}
 use Rattle.ktm_world.specs.Present.{Present, Transactions}
-use Rattle.ktm_world.specs.TransactionCalls.{is_superior_kind, tick}
+use Rattle.ktm_world.specs.TransactionCalls.{is_superior_kind}
 use Rattle.ktm_world.specs.Transactions.{same_id}
+use Rattle.ktm_world.specs.World.{decide_tick}
 use Rattle.ktm_types.specs.Values.{IsCommand}
 use Rattle.ktm_world.specs.Files.{FilesNow}
 use Rattle.ktm_route.specs.declared.asked.Asked.{Asked}
@@ -28,12 +29,12 @@ use Rattle.ktm_route.specs.Takes.{takes_memory}
 -- a command comes to what a call comes to, for which its labels are ready, and may take memory where the call may
 abbrev pub IsRouted : Present → Pid → Command → Routed → Type 0
 IsRouted x process command routed =
-    (with_room x process command ≡ outcome_of x process routed) × IsReadyFor x process routed × (takes_memory x process command ≡ routed_takes_memory x routed)
+    (decide x process command ≡ outcome_of x process routed) × IsReadyFor x process routed × (takes_memory x process command ≡ routed_takes_memory x routed)
 
 -- a command is routed to a call, or comes to a refusal
 abbrev pub Routes : Present → Pid → Command → Result Routed Refusal → Type 0
 Routes x process command (Ok routed) = IsRouted x process command routed
-Routes x process command (Err refusal) = with_room x process command ≡ only_reply x (Refused refusal)
+Routes x process command (Err refusal) = decide x process command ≡ only_reply x (Refused refusal)
 
 -- is the command one on an open file
 abbrev pub is_on_open_file : Command → Bool
@@ -91,14 +92,10 @@ live_of ts manager (Some e) = if same_id e.manager manager && is_live_enlistment
 abbrev pub source_tests : FilesNow → Option Object → List (Bool × Refusal)
 source_tests files named = invalid_handle named ∷ (holds_of (is_dead files) (file_number named), HandleNoLongerValid) ∷ []
 
--- what is asked comes to this, where the log has room
-abbrev pub asked_outcome : Present → Asked → Outcome
-asked_outcome x (Call process command) = with_room x process command
-asked_outcome x (Tick ms) = refuse_or x (first_refusal ((not x.machine.is_up, MachineDown) ∷ [])) (tick x ms)
-
--- it is decided once, on what is so now
+-- what is asked is decided once, on what is so now
 abbrev pub decided : Present → Asked → Outcome
-decided x asked = within_log x (asked_outcome x asked)
+decided x (Call process command) = decide x process command
+decided x (Tick ms) = decide_tick x ms
 
 -- can it be asked: a call stands in a line
 abbrev pub CanBeAsked : Asked → Type 0

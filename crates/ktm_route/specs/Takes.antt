@@ -5,9 +5,9 @@ use Rattle.ktm_base.specs.declared.refusal.Refusal.{Refusal}
 use Rattle.ktm_base.specs.declared.refusal.Refusal.TheVariants.{MachineDown}
 use Rattle.ktm_types.specs.declared.command.Command.{Command}
 use Rattle.ktm_types.specs.declared.command.Command.TheVariants.{CommitTransaction, RollbackTransaction, GetTransactionInformation, CloseHandle, Exit, GetNotificationResourceManager, PrePrepareEnlistment, PrepareEnlistment, CommitEnlistment, RecoverEnlistment, PrePrepareComplete, PrepareComplete, ReadOnlyEnlistment, SinglePhaseReject, CommitComplete, RollbackComplete, RollbackEnlistment, SetEnlistmentRecoveryInformation, CreateFile, CreateFileTransacted, ReadFile, WriteFile, SetEndOfFile, GetFileSizeEx, FlushFileBuffers, DeleteFile, CreateDirectory, RemoveDirectory, MoveFile, DeleteFileTransacted, CreateDirectoryTransacted, RemoveDirectoryTransacted, MoveFileTransacted, FindFiles, FindFilesTransacted}
-use Rattle.ktm_world.specs.Decide.{command_tests, with_room}
+use Rattle.ktm_world.specs.Decide.{command_tests}
 use Rattle.ktm_world.specs.Labels.{file_tests, transaction_named, transaction_tests}
-use Rattle.ktm_world.specs.Outcome.{first_refusal, is_full}
+use Rattle.ktm_world.specs.Outcome.{first_refusal}
 use Rattle.ktm_world.specs.Present.{Present}
 use Rattle.ktm_world.specs.TransactionCalls.{bound_test}
 use Rattle.ktm_route.specs.declared.asked.Asked.{Asked}
@@ -34,10 +34,6 @@ early_tests x process command = command_tests x process command
 abbrev pub early_refusal : Present → Pid → Command → Option Refusal
 early_refusal x process command = first_refusal ((not x.machine.is_up, MachineDown) ∷ early_tests x process command)
 
--- has the log room for what the command records
-abbrev pub has_log_room : Present → Pid → Command → Bool
-has_log_room x process command = not (is_full x.machine.left (with_room x process command).events)
-
 -- may a command take memory for what it does
 abbrev pub effect_takes_memory : Present → Pid → Command → Bool
 effect_takes_memory x process (CommitTransaction label) = false
@@ -59,8 +55,8 @@ effect_takes_memory x process (RollbackComplete label) = false
 effect_takes_memory x process (RollbackEnlistment label) = false
 effect_takes_memory x process (SetEnlistmentRecoveryInformation label information) = false
 effect_takes_memory x process (WriteFile file offset []) = false
-effect_takes_memory x process (WriteFile file offset (b ∷ bs)) = has_log_room x process (WriteFile file offset (b ∷ bs))
-effect_takes_memory x process (SetEndOfFile file size) = has_log_room x process (SetEndOfFile file size)
+effect_takes_memory x process (WriteFile file offset (b ∷ bs)) = true
+effect_takes_memory x process (SetEndOfFile file size) = true
 effect_takes_memory x process (GetFileSizeEx file) = false
 effect_takes_memory x process (FlushFileBuffers file) = false
 effect_takes_memory x process command = true

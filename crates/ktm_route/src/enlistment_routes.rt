@@ -1,6 +1,7 @@
 // Calls on enlistments, once their labels are known.
 ghost use Rattle.std.specs.Prelude.{◌≡◌, true, None, MatchOption};
 ghost use Rattle.ktm_standing.specs.Standing.{IsStandingNow};
+ghost use Rattle.ktm_laws.specs.Running.{HasEventsLeft};
 ghost use Rattle.ktm_memory.specs.Memory.{present_of};
 ghost use Rattle.ktm_phase.specs.Calls.{Names, reply_call, superior_call};
 ghost use Rattle.ktm_route.specs.Route.{Routes, is_reply, kind_tests};
@@ -123,6 +124,7 @@ fn to_reply(memory: &Memory, process: Pid, label: Label, vote: Vote) -> Result<R
     requires up { memory.now.is_up ≡ true }
     requires command { IsCommand (reply_call vote label) }
     requires standing { IsStandingNow (present_of memory.now) }
+    requires counts { HasEventsLeft (present_of memory.now) }
     ensures { Routes (present_of memory.now) process (reply_call vote label) result }
 {
     law_of_calls();
@@ -152,6 +154,7 @@ pub(crate) fn route_reply(
     requires command { IsCommand command }
     requires reply { is_reply command ≡ true }
     requires standing { IsStandingNow (present_of memory.now) }
+    requires counts { HasEventsLeft (present_of memory.now) }
     ensures { Routes (present_of memory.now) process command result }
 {
     match command {
@@ -190,6 +193,7 @@ pub(crate) fn to_lead(
     requires up { memory.now.is_up ≡ true }
     requires command { IsCommand (superior_call call label) }
     requires standing { IsStandingNow (present_of memory.now) }
+    requires counts { HasEventsLeft (present_of memory.now) }
     ensures { Routes (present_of memory.now) process (superior_call call label) result }
 {
     law_of_calls();
@@ -214,6 +218,7 @@ pub(crate) fn to_recover(memory: &Memory, process: Pid, label: Label) -> Result<
     requires up { memory.now.is_up ≡ true }
     requires command { IsCommand (RecoverEnlistment label) }
     requires standing { IsStandingNow (present_of memory.now) }
+    requires counts { HasEventsLeft (present_of memory.now) }
     ensures { Routes (present_of memory.now) process (RecoverEnlistment label) result }
 {
     law_of_calls();

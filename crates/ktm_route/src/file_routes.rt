@@ -2,6 +2,7 @@
 ghost use Rattle.std.specs.Prelude.{◌≡◌, true, Some, None, IfOk, IfErr, is_some};
 ghost use Rattle.ktm_base.specs.declared.refusal.Refusal.TheVariants.{InvalidParameter};
 ghost use Rattle.ktm_standing.specs.Standing.{IsStandingNow};
+ghost use Rattle.ktm_laws.specs.Running.{HasEventsLeft};
 ghost use Rattle.ktm_memory.specs.Memory.{present_of};
 ghost use Rattle.ktm_route.specs.Route.{Routes, is_on_open_file, is_on_path, is_transacted};
 ghost use Rattle.ktm_memory.specs.declared.routed.Routed.TheVariants.{Files as OfFiles};
@@ -72,6 +73,7 @@ pub(crate) fn route_open(memory: &Memory, process: Pid, command: Command) -> Res
     requires command { IsCommand command }
     requires open { is_on_open_file command ≡ true }
     requires standing { IsStandingNow (present_of memory.now) }
+    requires counts { HasEventsLeft (present_of memory.now) }
     ensures { Routes (present_of memory.now) process command result }
 {
     law_of_files();
@@ -128,6 +130,7 @@ pub(crate) fn route_transacted(
     requires command { IsCommand command }
     requires transacted { is_transacted command ≡ true }
     requires standing { IsStandingNow (present_of memory.now) }
+    requires counts { HasEventsLeft (present_of memory.now) }
     ensures { Routes (present_of memory.now) process command result }
 {
     law_of_files();
@@ -192,6 +195,7 @@ pub(crate) fn route_path(memory: &Memory, process: Pid, command: Command) -> Res
     requires command { IsCommand command }
     requires path { is_on_path command ≡ true }
     requires standing { IsStandingNow (present_of memory.now) }
+    requires counts { HasEventsLeft (present_of memory.now) }
     ensures { Routes (present_of memory.now) process command result }
 {
     law_of_files();

@@ -1,6 +1,7 @@
 // From labels to objects.
 ghost use Rattle.std.specs.Prelude.{◌≡◌, true, Some};
 ghost use Rattle.ktm_standing.specs.Standing.{IsStandingNow};
+ghost use Rattle.ktm_laws.specs.Running.{HasEventsLeft};
 ghost use Rattle.ktm_memory.specs.Memory.{present_of};
 ghost use Rattle.ktm_route.specs.Route.{Routes};
 ghost use Rattle.ktm_types.specs.Values.{IsCommand};
@@ -26,6 +27,7 @@ pub(crate) fn route(memory: &Memory, process: Pid, command: Command) -> Result<R
     requires up { memory.now.is_up ≡ true }
     requires command { IsCommand command }
     requires standing { IsStandingNow (present_of memory.now) }
+    requires counts { HasEventsLeft (present_of memory.now) }
     ensures { Routes (present_of memory.now) process command result }
 {
     match command {

@@ -2,6 +2,7 @@
 ghost use Rattle.std.specs.Prelude.{◌≡◌, true, Some, None};
 ghost use Rattle.ktm_base.specs.declared.refusal.Refusal.TheVariants.{InvalidParameter};
 ghost use Rattle.ktm_standing.specs.Standing.{IsStandingNow};
+ghost use Rattle.ktm_laws.specs.Running.{HasEventsLeft};
 ghost use Rattle.ktm_memory.specs.Memory.{present_of};
 ghost use Rattle.ktm_route.specs.Route.{Routes};
 ghost use Rattle.ktm_types.specs.Values.{IsCommand};
@@ -83,6 +84,7 @@ pub(crate) fn to_roll_back(memory: &Memory, process: Pid, label: Label) -> Resul
     requires up { memory.now.is_up ≡ true }
     requires command { IsCommand (RollbackTransaction label) }
     requires standing { IsStandingNow (present_of memory.now) }
+    requires counts { HasEventsLeft (present_of memory.now) }
     ensures { Routes (present_of memory.now) process (RollbackTransaction label) result }
 {
     law_of_spelled();
@@ -127,6 +129,7 @@ pub(crate) fn to_commit(memory: &Memory, process: Pid, label: Label) -> Result<R
     requires up { memory.now.is_up ≡ true }
     requires command { IsCommand (CommitTransaction label) }
     requires standing { IsStandingNow (present_of memory.now) }
+    requires counts { HasEventsLeft (present_of memory.now) }
     ensures { Routes (present_of memory.now) process (CommitTransaction label) result }
 {
     law_of_spelled();

@@ -1,7 +1,7 @@
 -- Worked rows of plain calls on files and directories.
 use Rattle.std.specs.Prelude.{replicate, [], ◌∷◌, codes}
 use Rattle.ktm_base.specs.declared.refusal.Refusal.{Refusal}
-use Rattle.ktm_base.specs.declared.refusal.Refusal.TheVariants.{InvalidName, PathNotFound, AlreadyExists, AccessDenied, DirNotEmpty, SharingViolation, DiskFull, LogFull, MachineDown}
+use Rattle.ktm_base.specs.declared.refusal.Refusal.TheVariants.{InvalidName, PathNotFound, AlreadyExists, AccessDenied, DirNotEmpty, SharingViolation, DiskFull}
 use Rattle.ktm_types.specs.declared.command.Command.TheVariants.{CreateDirectory, CreateFile, SetEndOfFile, ReadFile, FlushFileBuffers, DeleteFile, RemoveDirectory, CloseHandle, MoveFile, FindFiles, WriteFile, GetFileSizeEx}
 use Rattle.ktm_types.specs.declared.options.Access.{Access}
 use Rattle.ktm_types.specs.declared.options.Disposition.{Disposition}
@@ -43,13 +43,13 @@ UnitLimit = Answered (new_image 16) (
     ∷ []
     )
 
--- the log of an image of 16 units has room for two writes of 65,536 bytes, and a third one stops the machine
-abbrev pub FullLog : Type 0
-FullLog = Answered (new_image 16) (
+-- an image of 16 units, whose log has room for two writes of 65,536 bytes, takes a third one
+abbrev pub LongLog : Type 0
+LongLog = Answered (new_image 16) (
     (p1 (CreateFile h1 (codes "\\a") Access.ReadWrite ShareMode.Nothing Disposition.CreateNew), Done)
     ∷ (p1 (WriteFile h1 0 (replicate 65536 0)), Done)
     ∷ (p1 (WriteFile h1 0 (replicate 65536 0)), Done)
-    ∷ (p1 (WriteFile h1 0 (replicate 65536 0)), Refused LogFull)
-    ∷ (p1 (GetFileSizeEx h1), Refused MachineDown)
+    ∷ (p1 (WriteFile h1 0 (replicate 65536 0)), Done)
+    ∷ (p1 (GetFileSizeEx h1), Size 65536)
     ∷ []
     )

@@ -1,7 +1,7 @@
 // Worked rows: what the model answers to some scripts, each the contract of a function that does nothing.
 ghost use Rattle.ktm_rows.specs.RowsOfViews.{ViewsOfWriterAndReader, FixedVersion, DeadHandle, DeletedFile};
 ghost use Rattle.ktm_rows.specs.RowsOfConflicts.{SecondWriter, NamesWithoutCase, DirectoryInUse, CrossingMoves, PlainWriter, OpenInTransaction, SharingInTransaction};
-ghost use Rattle.ktm_rows.specs.RowsOfFiles.{NamesOfFiles, UnitLimit, FullLog};
+ghost use Rattle.ktm_rows.specs.RowsOfFiles.{NamesOfFiles, UnitLimit, LongLog};
 ghost use Rattle.ktm_rows.specs.RowsOfLimits.{OlderVersion, NodeLimit, ChangesLimit};
 ghost use Rattle.ktm_rows.specs.RowsOfTransactions.{VoteAgainst, ReadOnly, SinglePhaseRejected, FileBesideOnePhase, Timeout};
 ghost use Rattle.ktm_rows.specs.RowsOfRestarts.{UndecidedAtRestart, InDoubt, InDoubtRolledBack, SeveralInDoubt, DurableTwoPhaseCommit};
@@ -73,9 +73,9 @@ pub fn row_of_unit_limit()
     ensures { UnitLimit }
 {}
 
-/// The log of an image of 16 units has room for two writes of 65,536 bytes, and a third one stops the machine.
-pub fn row_of_full_log()
-    ensures { FullLog }
+/// An image of 16 units, whose log has room for two writes of 65,536 bytes, takes a third one.
+pub fn row_of_long_log()
+    ensures { LongLog }
 {}
 
 /// An older version takes its units, once for all who opened it, until the last of them is over.

@@ -1,6 +1,6 @@
 -- What the answers to lines come to, of the machine and of the counts.
 use Rattle.std.specs.Prelude.{IsSomeAnd}
-use Rattle.std.proofs.Common.{◌≡◌, ◌⊎◌, inl, inr, ℕ, ◌+◌, ◌*◌, ◌≤◌, Bool, true, false, List, [], ◌∷◌, ◌++◌, Option, Some, Result, Ok, Err, IfOk, OnErr, refl, sym, ◌∙◌, ap, subst, arith}
+use Rattle.std.proofs.Common.{◌≡◌, ◌⊎◌, inl, inr, ℕ, ◌+◌, ◌*◌, ◌≤◌, Bool, true, false, cond, List, [], ◌∷◌, ◌++◌, Option, Some, Result, Ok, Err, IfOk, OnErr, refl, sym, ◌∙◌, ap, subst, arith}
 use Rattle.std.proofs.lemmas.List.{append-nil}
 use Rattle.ktm_base.specs.declared.limits.TheConstants.{MOST_UNITS}
 use Rattle.ktm_base.specs.declared.id.Pid.{Pid}
@@ -12,6 +12,9 @@ use Rattle.ktm_base.specs.Count.{Rose}
 use Rattle.ktm_base.specs.Disk.{DiskState, DiskStatus, DeviceCalls}
 use Rattle.ktm_base.specs.Power.{after_off, planned, Restored, NotRestored}
 use Rattle.ktm_base.specs.Told.{Goes}
+use Rattle.ktm_journal.specs.Append.{has_no_room}
+use Rattle.ktm_journal.specs.Image.{JournalState}
+use Rattle.ktm_kernel.specs.Done.{most_calls}
 use Rattle.ktm_kernel.specs.Stands.{KernelState, StandsBy, KernelAt, FoundAt, DoesLine, LeavesStates, PowerLaw}
 use Rattle.ktm_kernel.proofs.Left.{left_law}
 use Rattle.ktm_kernel.proofs.StartAgain.{found_law}
@@ -23,10 +26,11 @@ use Rattle.ktm_run.specs.Script.{Means}
 use Rattle.ktm_types.specs.declared.command.Command.{Command}
 use Rattle.ktm_types.specs.declared.command.Line.{Line}
 use Rattle.ktm_types.specs.declared.command.Line.TheVariants.{Crash, Restart, Process, Tick}
+use Rattle.ktm_types.specs.declared.event.Event.{Event}
 use Rattle.ktm_types.specs.declared.reply.Reply.{Reply}
 use Rattle.ktm_types.specs.declared.reply.Reply.TheVariants.{Refused, Done}
 use Rattle.ktm_world.specs.Present.{Present}
-use Rattle.ktm_world.specs.Transcript.{Step, answered, interrupted, found, full, CallDoes, CrashDoes, StartDoes, RestartDoes, Does}
+use Rattle.ktm_world.specs.Transcript.{Step, answered, interrupted, found, worn, CallDoes, CrashDoes, StartDoes, RestartDoes, Does}
 use Rattle.ktm_world.specs.Decide.{decide}
 use Rattle.ktm_world.specs.Outcome.{Outcome}
 use Rattle.ktm_world.specs.World.{World, decide_tick, present, interrupted_restart}
@@ -66,7 +70,7 @@ quiet k n before now a b same = counted k n before now a b 0 [] 0
 pub record IsDecided (line : Option Line) (o : World → Outcome) (reply : Reply) : Type 0 where
   pub does : (w new : World) (step : Step) → Does w line step reply new → CallDoes w (o w) step reply new
   pub plan : plan_of line reply ≡ []
-  pub few : (units : ℕ) → calls_of units line ≡ 4
+  pub few : (units : ℕ) → calls_of units line ≡ 10
   pub stays : falls_of line answered reply ≡ 0
   pub falls : falls_of line interrupted reply ≡ 1
 
@@ -77,7 +81,7 @@ pub is_tick : (ms : ℕ) (reply : Reply) → IsDecided (Some (Tick ms)) (λ w. d
 is_tick ms reply = record { does = λ w new step does. does; plan = refl; few = λ units. refl; stays = refl; falls = refl }
 
 module _ (line : Option Line) (o : World → Outcome) (reply : Reply) (is : IsDecided line o reply) (k n : KernelState) (before now : Option DiskState) (a b : DiskStatus)
-    (cause : reply ≡ Refused MachineDown → (k.now.machine.is_up ≡ false) ⊎ Rose a.downs b.downs) (calls : DeviceCalls 4 a b b.is_down) where
+    (cause : reply ≡ Refused MachineDown → (k.now.machine.is_up ≡ false) ⊎ Rose a.downs b.downs) (most : ℕ) (within : most ≤ 10) (calls : DeviceCalls most a b b.is_down) where
   -- the power went in it only where the count of downs rose
   decided_rose : (w new : World) (step : Step) → KernelAt k before w → CallDoes w (o w) step reply new → RoseBy (falls_of line step reply) a.downs b.downs
   decided_rose w new answered at does = subst (λ fell. RoseBy fell a.downs b.downs) (sym is.stays) (RoseBy-none a.downs b.downs calls.later)
@@ -86,7 +90,7 @@ module _ (line : Option Line) (o : World → Outcome) (reply : Reply) (is : IsDe
     | inr rose ↦ subst (λ fell. RoseBy fell a.downs b.downs) (sym is.falls) rose
   ]
   decided_rose w new (found log) at never = absurd never
-  decided_rose w new (full log) at never = absurd never
+  decided_rose w new (worn log) at never = absurd never
 
   pub decided : ((w : World) → KernelAt k before w → DoesLine w line reply n now) → Answers (on k before a) (on n now b) line reply
   decided does = λ w at.
@@ -98,8 +102,12 @@ module _ (line : Option Line) (o : World → Outcome) (reply : Reply) (is : IsDe
         counts = counted k n before now a b (calls_of w.base.units line) (plan_of line reply) (falls_of line step reply)
             (decided_rose w new step at (is.does w new step done))
             (calls.plan ∙ sym (append-nil a.plan) ∙ ap (λ (p : List PowerCall). a.plan ++ p) (sym is.plan))
-            (subst (λ most. b.calls ≤ a.calls + most) (sym (is.few w.base.units)) calls.few);
+            (subst (λ n. b.calls ≤ a.calls + n) (sym (is.few w.base.units)) (omega (arith, within, calls.few)));
       }
+
+-- an outcome is recorded with few device calls
+pub few_calls : (j : JournalState) (events : List Event) → most_calls j events ≤ 10
+few_calls j events = elim (has_no_room j events) as (λ t. cond t 10 4 ≤ 10) [ true ↦ omega arith | false ↦ omega arith ]
 
 -- a line that changed nothing
 pub not_executed : (k n : KernelState) (before now : Option DiskState) (a b : DiskStatus) (line : List ℕ) → now ≡ before → b ≡ a → (w : World) → KernelAt k before w
@@ -116,10 +124,10 @@ off_rose : (on : Bool) (w new : World) (a b : DiskStatus) (step : Step) → b �
 off_rose on w new a b answered is does = let up = ap (λ s. s.downs) is in omega arith
 off_rose true w new a b interrupted is none = absurd none
 off_rose true w new a b (found log) is none = absurd none
-off_rose true w new a b (full log) is none = absurd none
+off_rose true w new a b (worn log) is none = absurd none
 off_rose false w new a b interrupted is none = absurd none
 off_rose false w new a b (found log) is none = absurd none
-off_rose false w new a b (full log) is none = absurd none
+off_rose false w new a b (worn log) is none = absurd none
 
 pub went_down : (k n : KernelState) (before now : Option DiskState) (a b : DiskStatus) → now ≡ before → b ≡ after_off a
     → ((told : Option DiskState) (w : World) → KernelAt k told w → DoesLine w (Some Crash) Done n told)
@@ -155,7 +163,7 @@ failed_again law k before now a b pick off is rose goes = λ w at.
       world = interrupted_restart w;
       does = subst (λ b. RestartDoes b w interrupted (Refused MachineDown) (interrupted_restart w)) (sym down) (refl, refl);
       stands = (law k before now w down at).1 goes;
-      counts = counted k k before now a b (8 * w.base.units + 68) (Power pick ∷ []) 1 rose (ap (λ s. s.plan) is) (let few = ap (λ s. s.calls) is in omega arith);
+      counts = counted k k before now a b (8 * w.base.units + 70) (Power pick ∷ []) 1 rose (ap (λ s. s.plan) is) (let few = ap (λ s. s.calls) is in omega arith);
     }
 
 -- the power is back
@@ -175,7 +183,7 @@ started_plan : (w new : World) (pick : ℕ) (step : Step) (reply : Reply) → St
 started_plan w new pick answered reply none = absurd none
 started_plan w new pick interrupted reply (says, is) = ap (λ r. plan_of (Some (Restart pick)) r) says
 started_plan w new pick (found log) reply (finds, says, is) = ap (λ r. plan_of (Some (Restart pick)) r) says
-started_plan w new pick (full log) reply (finds, says, is) = ap (λ r. plan_of (Some (Restart pick)) r) says
+started_plan w new pick (worn log) reply (finds, says, is) = ap (λ r. plan_of (Some (Restart pick)) r) says
 
 -- in the start of a machine that was down the power goes only where the count of downs rose
 started_rose : (w new : World) (pick : ℕ) (step : Step) (reply : Reply) (a b : DiskStatus) → StartDoes w step reply new → (reply ≡ Refused MachineDown → Rose a.downs b.downs) → a.downs ≤ b.downs
@@ -183,18 +191,18 @@ started_rose : (w new : World) (pick : ℕ) (step : Step) (reply : Reply) (a b :
 started_rose w new pick answered reply a b none cause later = absurd none
 started_rose w new pick interrupted reply a b (says, is) cause later = cause says
 started_rose w new pick (found log) reply a b does cause later = RoseBy-none a.downs b.downs later
-started_rose w new pick (full log) reply a b does cause later = RoseBy-none a.downs b.downs later
+started_rose w new pick (worn log) reply a b does cause later = RoseBy-none a.downs b.downs later
 
 -- a machine that starts again, on a disk whose power came back
 module _ (law : PowerLaw) (k n : KernelState) (before mid now : Option DiskState) (a m b : DiskStatus) (pick : ℕ)
     (off : k.now.machine.is_up ≡ false) (power : m ≡ powered a pick) (goes : Goes Restored before mid)
-    (calls : DeviceCalls (8 * MOST_UNITS + 68) m b b.is_down) (few : (w : World) → FoundAt k mid w → b.calls ≤ m.calls + (8 * w.base.units + 68)) where
+    (calls : DeviceCalls (8 * MOST_UNITS + 70) m b b.is_down) (few : (w : World) → FoundAt k mid w → b.calls ≤ m.calls + (8 * w.base.units + 70)) where
   starts_counted : (w : World) (fell : ℕ) → KernelAt k before w → RoseBy fell m.downs b.downs
-      → Counts (on k before a) (on n now b) (8 * w.base.units + 68) (Power pick ∷ []) fell
-  starts_counted w fell at rose = counted k n before now a b (8 * w.base.units + 68) (Power pick ∷ []) fell
+      → Counts (on k before a) (on n now b) (8 * w.base.units + 70) (Power pick ∷ []) fell
+  starts_counted w fell at rose = counted k n before now a b (8 * w.base.units + 70) (Power pick ∷ []) fell
       (subst (λ d. RoseBy fell d b.downs) (ap (λ s. s.downs) power) rose)
       (calls.plan ∙ ap (λ s. s.plan) power)
-      (subst (λ d. b.calls ≤ d + (8 * w.base.units + 68)) (ap (λ s. s.calls) power) (few w (found_at law k before mid off goes w at)))
+      (subst (λ d. b.calls ≤ d + (8 * w.base.units + 70)) (ap (λ s. s.calls) power) (few w (found_at law k before mid off goes w at)))
 
   pub started : (reply : Reply) → ((pick : ℕ) (w : World) → FoundAt k mid w → DoesLine w (Some (Restart pick)) reply n now) → (reply ≡ Refused MachineDown → Rose m.downs b.downs)
       → Answers (on k before a) (on n now b) (Some (Restart pick)) reply
@@ -205,7 +213,7 @@ module _ (law : PowerLaw) (k n : KernelState) (before mid now : Option DiskState
         world = new;
         does = done;
         stands = stands;
-        counts = subst (λ (p : List PowerCall). Counts (on k before a) (on n now b) (8 * w.base.units + 68) p (falls_of (Some (Restart pick)) step reply))
+        counts = subst (λ (p : List PowerCall). Counts (on k before a) (on n now b) (8 * w.base.units + 70) p (falls_of (Some (Restart pick)) step reply))
             (sym (started_plan w new pick step reply starts))
             (starts_counted w (falls_of (Some (Restart pick)) step reply) at (started_rose w new pick step reply m b starts cause calls.later));
       }

@@ -11,7 +11,7 @@ use Rattle.ktm_types.specs.declared.command.Line.{Line}
 use Rattle.ktm_types.specs.declared.command.Line.TheVariants.{Tick, Cut, Crash, Restart, Process}
 use Rattle.ktm_types.specs.declared.reply.Reply.{Reply}
 use Rattle.ktm_types.specs.declared.reply.Reply.TheVariants.{Refused, Done}
-use Rattle.ktm_world.specs.Transcript.{Step, answered, interrupted, found, full, IsAnswered, CallDoes, CrashDoes, StartDoes, RestartDoes, Does, Transcript}
+use Rattle.ktm_world.specs.Transcript.{Step, answered, interrupted, found, worn, IsAnswered, CallDoes, CrashDoes, StartDoes, RestartDoes, Does, Transcript}
 use Rattle.ktm_world.specs.Outcome.{Outcome}
 use Rattle.ktm_world.specs.World.{World}
 
@@ -42,26 +42,26 @@ answered_keeps_base : (w : World) (says : Reply) (step : Step) (reply : Reply) (
 answered_keeps_base w says answered reply mid (same, is) = ap (λ v. v.base) is
 answered_keeps_base w says interrupted reply mid none = absurd none
 answered_keeps_base w says (found log) reply mid none = absurd none
-answered_keeps_base w says (full log) reply mid none = absurd none
+answered_keeps_base w says (worn log) reply mid none = absurd none
 
 call_keeps_base : (w : World) (o : Outcome) (step : Step) (reply : Reply) (mid : World) → CallDoes w o step reply mid → mid.base ≡ w.base
 call_keeps_base w o answered reply mid (says, is) = ap (λ v. v.base) is
 call_keeps_base w o interrupted reply mid (on, says, is) = ap (λ v. v.base) is
 call_keeps_base w o (found log) reply mid none = absurd none
-call_keeps_base w o (full log) reply mid none = absurd none
+call_keeps_base w o (worn log) reply mid none = absurd none
 
 crash_keeps_base : (on : Bool) (w : World) (step : Step) (reply : Reply) (mid : World) → CrashDoes on w step reply mid → mid.base ≡ w.base
 crash_keeps_base true w answered reply mid (says, is) = ap (λ v. v.base) is
 crash_keeps_base true w interrupted reply mid none = absurd none
 crash_keeps_base true w (found log) reply mid none = absurd none
-crash_keeps_base true w (full log) reply mid none = absurd none
+crash_keeps_base true w (worn log) reply mid none = absurd none
 crash_keeps_base false w step reply mid does = answered_keeps_base w (Refused MachineDown) step reply mid does
 
 start_keeps_base : (w : World) (step : Step) (reply : Reply) (mid : World) → StartDoes w step reply mid → mid.base ≡ w.base
 start_keeps_base w answered reply mid none = absurd none
 start_keeps_base w interrupted reply mid (says, is) = ap (λ v. v.base) is
 start_keeps_base w (found log) reply mid (finds, says, is) = ap (λ v. v.base) is
-start_keeps_base w (full log) reply mid (finds, says, is) = ap (λ v. v.base) is
+start_keeps_base w (worn log) reply mid (finds, says, is) = ap (λ v. v.base) is
 
 restart_keeps_base : (on : Bool) (w : World) (step : Step) (reply : Reply) (mid : World) → RestartDoes on w step reply mid → mid.base ≡ w.base
 restart_keeps_base true w step reply mid does = answered_keeps_base w (Refused MachineUp) step reply mid does

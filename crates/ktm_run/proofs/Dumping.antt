@@ -12,17 +12,17 @@ use Rattle.ktm_journal.specs.declared.fault.LoadFault.{LoadFault}
 use Rattle.ktm_journal.specs.declared.fault.LoadFault.TheVariants as load
 use Rattle.ktm_log.specs.OnDisk.{OnDisk}
 use Rattle.ktm_open.specs.Opening.{WentDown}
+use Rattle.ktm_open.proofs.Openings.{BadImagesLaw}
 use Rattle.ktm_restart.specs.Bad.{IsBadAt}
 use Rattle.ktm_restart.specs.Loads.{FaultLeaves}
 use Rattle.ktm_restart.specs.Logs.{StandsFor}
-use Rattle.ktm_restart.proofs.offered.OneState.{not_bad}
 use Rattle.ktm_run.proofs.Probed.{Appends-after, AppendsPart-after}
 use Rattle.ktm_run.specs.Dumped.{DumpLeaves, IsNotDumped, IsReadable, OnlyRead, SaysBlank, SaysFault, Tells}
 use Rattle.ktm_run.specs.Early.{FoundBad, FoundDown, NotRun, Outside, outside}
 use Rattle.ktm_run.specs.Form.{blank_line}
 use Rattle.ktm_run.specs.Formatted.{FormatLeaves, IsNew}
 use Rattle.ktm_run.specs.declared.status.Status.{Status}
-use Rattle.ktm_run.specs.declared.status.Status.TheVariants.{Done, Usage, SourceFault, SinkFault, NoMemory, BadImage, DiskFault, ScriptTooLong, LogFull}
+use Rattle.ktm_run.specs.declared.status.Status.TheVariants.{Done, Usage, SourceFault, SinkFault, NoMemory, BadImage, DiskFault, ScriptTooLong, Worn}
 use Rattle.ktm_world.specs.Durable.{Durable}
 
 both : {S : Type 0} (P Q : S → Type 0) (told : Option S) → IfSome told P → IfSome told Q → IfSome told (λ s. P s × Q s)
@@ -138,7 +138,7 @@ module _ (old mid new : Outside) (source : mid.left ≡ old.left) (taken : Keeps
   dump_before Usage h = absurd h
   dump_before SourceFault h = absurd h
   dump_before ScriptTooLong h = absurd h
-  dump_before LogFull h = absurd h
+  dump_before Worn h = absurd h
 
   pub format_before : (units : ℕ) (result : Status) → FormatLeaves result units mid new → FormatLeaves result units old new
   format_before units Done h = record {
@@ -153,7 +153,7 @@ module _ (old mid new : Outside) (source : mid.left ≡ old.left) (taken : Keeps
   format_before units NoMemory h = absurd h
   format_before units BadImage h = absurd h
   format_before units ScriptTooLong h = absurd h
-  format_before units LogFull h = absurd h
+  format_before units Worn h = absurd h
 
 -- a disk that was asked how long it is
 pub went_down_later : (a b c : DiskStatus) → DeviceCall a b false → WentDown b c → WentDown a c
@@ -171,21 +171,21 @@ format_complete units SourceFault old new h = absurd h
 format_complete units NoMemory old new h = absurd h
 format_complete units BadImage old new h = absurd h
 format_complete units ScriptTooLong old new h = absurd h
-format_complete units LogFull old new h = absurd h
+format_complete units Worn old new h = absurd h
 
-readable : (told : Option DiskState) (offset : ℕ) → IsSomeAnd told (λ s. IsReadable s.seen) → IfSome told (λ s. (0 < length s.seen) × IsBadAt s.seen offset) → ⊥
-readable None offset holds bad = absurd holds
-readable (Some s) offset (inl none) (some, bad) = absurd (let e : length s.seen ≡ 0 = ap length none in omega arith)
-readable (Some s) offset (inr (state, stands)) (some, bad) = not_bad state s.seen offset stands bad
+readable : BadImagesLaw → (told : Option DiskState) (offset : ℕ) → IsSomeAnd told (λ s. IsReadable s.seen) → IfSome told (λ s. (0 < length s.seen) × IsBadAt s.seen offset) → ⊥
+readable law None offset holds bad = absurd holds
+readable law (Some s) offset (inl none) (some, bad) = absurd (let e : length s.seen ≡ 0 = ap length none in omega arith)
+readable law (Some s) offset (inr (state, stands)) (some, bad) = law state s.seen offset stands bad
 
-pub dump_complete : (result : Status) (old new : Outside) (before now : ℕ) → DumpLeaves result old new → (result ≡ SinkFault → Rose before now) → ¬ Rose before now → IsSomeAnd old.disk (λ s. IsReadable s.seen)
+pub dump_complete : BadImagesLaw → (result : Status) (old new : Outside) (before now : ℕ) → DumpLeaves result old new → (result ≡ SinkFault → Rose before now) → ¬ Rose before now → IsSomeAnd old.disk (λ s. IsReadable s.seen)
     → (result ≡ Done) ⊎ (result ≡ NoMemory) ⊎ ((result ≡ DiskFault) × FoundDown old new)
-dump_complete Done old new before now h fault works holds = inl refl
-dump_complete NoMemory old new before now h fault works holds = inr (inl refl)
-dump_complete DiskFault old new before now (h, k) fault works holds = inr (inr (refl, k))
-dump_complete SinkFault old new before now h fault works holds = absurd (works (fault refl))
-dump_complete BadImage old new before now (offset, h, wrote) fault works holds = absurd (readable old.disk offset holds h.bad)
-dump_complete Usage old new before now h fault works holds = absurd h
-dump_complete SourceFault old new before now h fault works holds = absurd h
-dump_complete ScriptTooLong old new before now h fault works holds = absurd h
-dump_complete LogFull old new before now h fault works holds = absurd h
+dump_complete law Done old new before now h fault works holds = inl refl
+dump_complete law NoMemory old new before now h fault works holds = inr (inl refl)
+dump_complete law DiskFault old new before now (h, k) fault works holds = inr (inr (refl, k))
+dump_complete law SinkFault old new before now h fault works holds = absurd (works (fault refl))
+dump_complete law BadImage old new before now (offset, h, wrote) fault works holds = absurd (readable law old.disk offset holds h.bad)
+dump_complete law Usage old new before now h fault works holds = absurd h
+dump_complete law SourceFault old new before now h fault works holds = absurd h
+dump_complete law ScriptTooLong old new before now h fault works holds = absurd h
+dump_complete law Worn old new before now h fault works holds = absurd h

@@ -1,6 +1,6 @@
 -- What a form leaves, by which one it is.
 use Rattle.std.specs.Prelude.{IfSome, IsSomeAnd}
-use Rattle.std.proofs.Common.{◌≡◌, ◌⊎◌, inl, inr, ℕ, ◌<◌, List, length, Option, Some, refl, sym, subst}
+use Rattle.std.proofs.Common.{◌≡◌, ◌⊎◌, inl, inr, ℕ, ◌<◌, true, List, length, Option, Some, refl, sym, subst}
 use Rattle.std.proofs.KnownBytes.{Keeps-trans}
 use Rattle.std.specs.Io.KnownBytes.{Keeps}
 use Rattle.ktm_base.specs.declared.limits.TheConstants.{MOST_SCRIPT_BYTES}
@@ -17,8 +17,8 @@ use Rattle.ktm_run.specs.Generated.{GeneratedEnds, GeneratedLeaves, ReadsNone}
 use Rattle.ktm_run.specs.declared.form.Form.{Form}
 use Rattle.ktm_run.specs.declared.form.Form.TheVariants.{Run, Format, Dump, Gen}
 use Rattle.ktm_run.specs.declared.status.Status.{Status}
-use Rattle.ktm_run.specs.declared.status.Status.TheVariants.{Done, Usage, SourceFault, SinkFault, NoMemory, BadImage, DiskFault, ScriptTooLong, LogFull}
-use Rattle.ktm_world.specs.Durable.{Durable}
+use Rattle.ktm_run.specs.declared.status.Status.TheVariants.{Done, Usage, SourceFault, SinkFault, NoMemory, BadImage, DiskFault, ScriptTooLong, Worn}
+use Rattle.ktm_world.specs.Durable.{Durable, is_worn}
 
 module _ (result : Status) (old new : Outside) where
   pub run_leaves : (form : Form) (found : Option Form) → Some form ≡ found → found ≡ Some Run → FormLeaves form result old new → RunLeaves result old new
@@ -101,12 +101,13 @@ module _ (left : Option (List ℕ)) (a b : Option (List ℕ)) (disk : Option Dis
   abbrev behind : Outside
   behind = record { left = left; taken = b; disk = disk; status = status }
 
-  gen_before : (result : Status) (base : Durable) (room : ℕ) → GeneratedEnds result number lines base room behind new → GeneratedEnds result number lines base room before new
-  gen_before Done base room h = record { room_left = h.room_left; executed = h.executed; wrote = Appends-after a b new.taken _ keeps h.wrote }
-  gen_before SinkFault base room h = record { room_left = h.room_left; executed = h.executed; wrote = AppendsPart-after a b new.taken _ keeps h.wrote }
-  gen_before NoMemory base room (inl h) = inl (record { not_read = h.not_read; not_written = Keeps-trans a b new.taken keeps h.not_written; plan_is = h.plan_is; image = h.image })
-  gen_before NoMemory base room (inr h) = inr (record {
-    room_left = h.room_left;
+  gen_before : (result : Status) (base : Durable) → GeneratedEnds result number lines base behind new → GeneratedEnds result number lines base before new
+  gen_before Done base h = record { unworn = h.unworn; executed = h.executed; wrote = Appends-after a b new.taken _ keeps h.wrote }
+  gen_before SinkFault base (inl h) = inl (record { unworn = h.unworn; executed = h.executed; wrote = AppendsPart-after a b new.taken _ keeps h.wrote })
+  gen_before SinkFault base (inr (worn, wrote)) = inr (worn, AppendsPart-after a b new.taken _ keeps wrote)
+  gen_before NoMemory base (inl h) = inl (record { not_read = h.not_read; not_written = Keeps-trans a b new.taken keeps h.not_written; plan_is = h.plan_is; image = h.image })
+  gen_before NoMemory base (inr h) = inr (record {
+    unworn = h.unworn;
     before = h.before;
     fewer = h.fewer;
     at = h.at;
@@ -114,29 +115,29 @@ module _ (left : Option (List ℕ)) (a b : Option (List ℕ)) (disk : Option Dis
     broke = h.broke;
     not_written = Keeps-trans a b h.at.taken keeps h.not_written;
   })
-  gen_before LogFull base room h = h
-  gen_before DiskFault base room h = h
-  gen_before BadImage base room h = absurd h
-  gen_before Usage base room h = absurd h
-  gen_before SourceFault base room h = absurd h
-  gen_before ScriptTooLong base room h = absurd h
+  gen_before Worn base (worn, wrote) = (worn, Appends-after a b new.taken _ keeps wrote)
+  gen_before DiskFault base h = h
+  gen_before BadImage base h = absurd h
+  gen_before Usage base h = absurd h
+  gen_before SourceFault base h = absurd h
+  gen_before ScriptTooLong base h = absurd h
 
   pub generated_before : (result : Status) → GeneratedLeaves number lines result behind new → GeneratedLeaves number lines result before new
   generated_before result h = record {
-    gen = λ base room tells. gen_before result base room (h.gen base room tells);
+    gen = λ base tells. gen_before result base (h.gen base tells);
     ends = probed_ends left a b disk status keeps result (MayBegin disk) new h.ends;
     reads_none = h.reads_none;
   }
 
 -- where the sink does not fail
-pub generated_complete : (number lines : ℕ) (old new : Outside) (base : Durable) (room : ℕ) (result : Status) → GeneratedLeaves number lines result old new → IsSomeAnd old.disk (Begins base room) → (result ≡ SinkFault → ⊥)
-    → (result ≡ Done) ⊎ (result ≡ NoMemory) ⊎ (result ≡ LogFull) ⊎ ((result ≡ DiskFault) × FoundDown old new)
-generated_complete number lines old new base room Done h tells works = inl refl
-generated_complete number lines old new base room NoMemory h tells works = inr (inl refl)
-generated_complete number lines old new base room LogFull h tells works = inr (inr (inl refl))
-generated_complete number lines old new base room DiskFault h tells works = inr (inr (inr (refl, h.ends)))
-generated_complete number lines old new base room SinkFault h tells works = absurd (works refl)
-generated_complete number lines old new base room BadImage h tells works = absurd (h.gen base room tells)
-generated_complete number lines old new base room Usage h tells works = absurd h.reads_none
-generated_complete number lines old new base room SourceFault h tells works = absurd h.reads_none
-generated_complete number lines old new base room ScriptTooLong h tells works = absurd h.reads_none
+pub generated_complete : (number lines : ℕ) (old new : Outside) (base : Durable) (result : Status) → GeneratedLeaves number lines result old new → IsSomeAnd old.disk (Begins base) → (result ≡ SinkFault → ⊥)
+    → (result ≡ Done) ⊎ (result ≡ NoMemory) ⊎ ((result ≡ Worn) × (is_worn base ≡ true)) ⊎ ((result ≡ DiskFault) × FoundDown old new)
+generated_complete number lines old new base Done h tells works = inl refl
+generated_complete number lines old new base NoMemory h tells works = inr (inl refl)
+generated_complete number lines old new base Worn h tells works = inr (inr (inl (refl, (h.gen base tells).0)))
+generated_complete number lines old new base DiskFault h tells works = inr (inr (inr (refl, h.ends)))
+generated_complete number lines old new base SinkFault h tells works = absurd (works refl)
+generated_complete number lines old new base BadImage h tells works = absurd (h.gen base tells)
+generated_complete number lines old new base Usage h tells works = absurd h.reads_none
+generated_complete number lines old new base SourceFault h tells works = absurd h.reads_none
+generated_complete number lines old new base ScriptTooLong h tells works = absurd h.reads_none

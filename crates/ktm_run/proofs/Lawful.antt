@@ -1,13 +1,20 @@
 -- A run begins with a world that stands, so that it is lawful.
-use Rattle.std.proofs.Common.{[]}
-use Rattle.ktm_laws.specs.Running.{LawfulWorldsLaw, OneOutcomeLaw}
-use Rattle.ktm_run.specs.Lawful.{RunLaw}
-use Rattle.ktm_world.specs.World.{opened}
+use Rattle.std.proofs.Common.{◌≡◌, ℕ, ◌≤◌, [], Option, ap, arith}
+use Rattle.ktm_kernel.specs.Restarts.{IsFreshlyCounted}
+use Rattle.ktm_laws.specs.Running.{LastsFor, LawfulWorldsLaw, OneOutcomeLaw}
+use Rattle.ktm_run.specs.Lawful.{RunLaw, most_lines}
+use Rattle.ktm_world.specs.Present.{Present}
+use Rattle.ktm_world.specs.World.{World, opened, present}
+
+-- the count of events of such a world lasts for its lines
+lasts : (w : World) (x : Present) (lines : ℕ) → x ≡ present w → IsFreshlyCounted x → lines ≤ most_lines → LastsFor lines w
+lasts w x lines is fresh few =
+    let same : x.recorded.events ≡ w.recorded.events = ap (λ (y : Present). y.recorded.events) is in
+    record { now = omega (arith, same, fresh, few); restarted = omega (arith, few) }
 
 pub run_law : LawfulWorldsLaw → OneOutcomeLaw → RunLaw
-run_law law one k told base room stands =
-    let begins = stands.standing.running in
-    record {
-      lawful = λ lines steps replies new run. law.lawful new (law.transcripts (opened base room []) lines steps replies new run begins);
-      one_outcome = λ lines steps replies new run. one (opened base room []) lines steps replies new begins run;
+run_law law one k told base stands fresh =
+    let begins = stands.standing.running in record {
+      lawful = λ lines steps replies new few run. law.lawful new (law.transcripts (opened base []) lines steps replies new run (lasts (opened base []) k.now _ stands.now fresh few) begins);
+      one_outcome = λ lines steps replies new few run. one (opened base []) lines steps replies new begins (lasts (opened base []) k.now _ stands.now fresh few) run;
     }

@@ -1,5 +1,6 @@
 pub mod Known
 pub mod Lines
+pub mod Lasting
 pub mod Counting
 pub mod Runs
 pub mod Generating

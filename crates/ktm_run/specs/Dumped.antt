@@ -10,7 +10,7 @@ use Rattle.ktm_restart.specs.Logs.{StandsFor}
 use Rattle.ktm_run.specs.Early.{FoundBad, FoundDown, NotRun, Outside}
 use Rattle.ktm_run.specs.Form.{bad_image_line, blank_line}
 use Rattle.ktm_run.specs.declared.status.Status.{Status}
-use Rattle.ktm_run.specs.declared.status.Status.TheVariants.{Done, Usage, SourceFault, SinkFault, NoMemory, BadImage, DiskFault, ScriptTooLong, LogFull}
+use Rattle.ktm_run.specs.declared.status.Status.TheVariants.{Done, Usage, SourceFault, SinkFault, NoMemory, BadImage, DiskFault, ScriptTooLong, Worn}
 use Rattle.ktm_world.specs.Durable.{Durable}
 
 -- the bytes are none, or an image that stands for a state
@@ -68,4 +68,4 @@ DumpLeaves SinkFault old new = IsDumpedInPart old new ⊎ ((offset : ℕ) × Fou
 DumpLeaves Usage old new = ⊥
 DumpLeaves SourceFault old new = ⊥
 DumpLeaves ScriptTooLong old new = ⊥
-DumpLeaves LogFull old new = ⊥
+DumpLeaves Worn old new = ⊥

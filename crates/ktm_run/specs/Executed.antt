@@ -4,8 +4,9 @@ use Rattle.std.specs.Io.KnownBytes.{Consumes, IsAtEnd}
 use Rattle.ktm_base.specs.declared.limits.TheConstants.{MOST_SCRIPT_BYTES}
 use Rattle.ktm_kernel.specs.Stands.{IsReady, KernelAt}
 use Rattle.ktm_run.specs.declared.status.Status.{Status}
-use Rattle.ktm_run.specs.declared.status.Status.TheVariants.{Done, Usage, SourceFault, SinkFault, NoMemory, BadImage, DiskFault, ScriptTooLong, LogFull}
+use Rattle.ktm_run.specs.declared.status.Status.TheVariants.{Done, Usage, SourceFault, SinkFault, NoMemory, BadImage, DiskFault, ScriptTooLong, Worn}
 use Rattle.ktm_run.specs.declared.fault.RunFault.{RunFault}
+use Rattle.ktm_run.specs.Lasting.{LastsAfter}
 use Rattle.ktm_run.specs.Progress.{Broke, Now, Progress, Stops}
 use Rattle.ktm_run.specs.Script.{MayExecute, cut_lines, has_reply, kept_of, lines_from, part_from}
 use Rattle.ktm_world.specs.World.{World}
@@ -16,6 +17,7 @@ use Rattle.ktm_world.specs.World.{World}
 pub record IsLineDone (kept : List ℕ) (old new : Now) : Type 0 where
   pub done : (line : List ℕ) → kept ≡ kept_of line → Progress old new (line ∷ [])
   pub ready : IsReady new.scene.it new.scene.told new.scene.status
+  pub lasts : LastsAfter 1 old.scene.it new.scene.it
 
 -- the run ended at it
 pub record IsLineBroken (kept : List ℕ) (old new : Now) : Type 0 where
@@ -34,6 +36,8 @@ pub record AreFed (bytes kept now_kept : List ℕ) (old new : Now) : Type 0 wher
   pub done : (part : List ℕ) → kept ≡ kept_of part → Progress old new (lines_from part bytes)
   pub keeps : (part : List ℕ) → kept ≡ kept_of part → now_kept ≡ kept_of (part_from part bytes)
   pub ready : IsReady new.scene.it new.scene.told new.scene.status
+  -- there is at most a line for each byte
+  pub lasts : LastsAfter (length bytes) old.scene.it new.scene.it
 
 -- what they leave; a run that ended did so at one of those lines
 abbrev pub FeedLeaves : List ℕ → List ℕ → List ℕ → Now → Now → Result (Unit {0}) RunFault → Type 0
@@ -93,4 +97,4 @@ ScriptLeaves NoMemory old new = IsStopped old new
 ScriptLeaves Usage old new = ⊥
 ScriptLeaves BadImage old new = ⊥
 ScriptLeaves DiskFault old new = ⊥
-ScriptLeaves LogFull old new = ⊥
+ScriptLeaves Worn old new = ⊥

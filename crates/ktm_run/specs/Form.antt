@@ -47,6 +47,10 @@ usage_line = codes "usage: ktm run IMAGE SCRIPT | format IMAGE UNITS | dump IMAG
 abbrev pub bad_image_line : ℕ → List ℕ
 bad_image_line offset = codes "bad image at " ++ decimal offset ++ 10 ∷ []
 
+-- what is said where the image is worn
+abbrev pub worn_line : List ℕ
+worn_line = codes "worn image" ++ 10 ∷ []
+
 -- what is said of an image without a byte
 abbrev pub blank_line : List ℕ
 blank_line = codes "blank image" ++ 10 ∷ []

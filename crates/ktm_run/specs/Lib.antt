@@ -3,6 +3,7 @@ pub mod Form
 pub mod Status
 pub mod Plan
 pub mod Progress
+pub mod Lasting
 pub mod Executed
 pub mod Early
 pub mod Theorem

@@ -7,7 +7,7 @@ use Rattle.ktm_types.specs.declared.command.Line.{Line}
 use Rattle.ktm_types.specs.declared.command.Line.TheVariants.{Tick, Cut, Crash, Restart, Process}
 use Rattle.ktm_types.specs.declared.reply.Reply.{Reply}
 use Rattle.ktm_types.specs.declared.reply.Reply.TheVariants.{Refused, Done}
-use Rattle.ktm_world.specs.Transcript.{Step, answered, interrupted, found, full}
+use Rattle.ktm_world.specs.Transcript.{Step, answered, interrupted, found, worn}
 
 -- is the reply ok alone
 abbrev pub is_done : Reply → Bool
@@ -45,7 +45,7 @@ falls_of (Some (Restart pick)) answered reply = 0
 falls_of (Some (Process process command)) answered reply = 0
 falls_of None answered reply = 0
 falls_of line (found log) reply = 0
-falls_of line (full log) reply = 0
+falls_of line (worn log) reply = 0
 
 -- for how many lines it did
 abbrev pub falls : List (Option Line) → List Step → List Reply → ℕ
@@ -58,15 +58,15 @@ falls (line ∷ lines) (step ∷ steps) (reply ∷ replies) = falls_of line step
 abbrev pub RoseBy : ℕ → ℕ → ℕ → Type 0
 RoseBy n before now = min (before + n) (2 ^ 64 - 1) ≤ now
 
--- the most device calls of a line, on an image of so many units: a call of a process and the passing of time record with four, a restart
--- reads the image and records that it started, and no other line makes any
+-- the most device calls of a line, on an image of so many units: a call of a process and the passing of time record with four, and with six
+-- more where the log has no room, a restart reads the image and records that it started, and no other line makes any
 abbrev pub calls_of : ℕ → Option Line → ℕ
 calls_of units None = 0
-calls_of units (Some (Process process command)) = 4
-calls_of units (Some (Tick ms)) = 4
+calls_of units (Some (Process process command)) = 10
+calls_of units (Some (Tick ms)) = 10
 calls_of units (Some (Cut calls)) = 0
 calls_of units (Some Crash) = 0
-calls_of units (Some (Restart pick)) = 8 * units + 68
+calls_of units (Some (Restart pick)) = 8 * units + 70
 
 -- the most device calls of lines
 abbrev pub calls : ℕ → List (Option Line) → ℕ

@@ -1,7 +1,7 @@
 -- The program's exit codes.
 use Rattle.std.specs.Prelude.{ℕ}
 use Rattle.ktm_run.specs.declared.status.Status.{Status}
-use Rattle.ktm_run.specs.declared.status.Status.TheVariants.{Done, Usage, SourceFault, SinkFault, NoMemory, BadImage, DiskFault, ScriptTooLong, LogFull}
+use Rattle.ktm_run.specs.declared.status.Status.TheVariants.{Done, Usage, SourceFault, SinkFault, NoMemory, BadImage, DiskFault, ScriptTooLong, Worn}
 
 -- a run that ended well has 0, and each other end a code of its own
 abbrev pub exit_code_of : Status → ℕ
@@ -13,4 +13,4 @@ exit_code_of NoMemory = 4
 exit_code_of BadImage = 5
 exit_code_of DiskFault = 6
 exit_code_of ScriptTooLong = 7
-exit_code_of LogFull = 8
+exit_code_of Worn = 9

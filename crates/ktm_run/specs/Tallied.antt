@@ -7,7 +7,7 @@ use Rattle.ktm_gen.specs.Script.{generated_lines, line_at}
 use Rattle.ktm_kernel.specs.Stands.{IsReady, KernelState, KernelAt}
 use Rattle.ktm_log.specs.OnDisk.{OnDisk}
 use Rattle.ktm_run.specs.declared.status.Status.{Status}
-use Rattle.ktm_run.specs.declared.status.Status.TheVariants.{Done, Usage, SourceFault, SinkFault, NoMemory as OutOfMemory, BadImage, DiskFault, ScriptTooLong, LogFull}
+use Rattle.ktm_run.specs.declared.status.Status.TheVariants.{Done, Usage, SourceFault, SinkFault, NoMemory as OutOfMemory, BadImage, DiskFault, ScriptTooLong, Worn}
 use Rattle.ktm_run.specs.declared.tally.Tally.{Tally}
 use Rattle.ktm_run.specs.Progress.{Now, Unanswered, Went}
 use Rattle.ktm_dump.specs.Written.{AppendsPart}
@@ -72,4 +72,4 @@ SumLeaves SourceFault number lines old new = ⊥
 SumLeaves BadImage number lines old new = ⊥
 SumLeaves DiskFault number lines old new = ⊥
 SumLeaves ScriptTooLong number lines old new = ⊥
-SumLeaves LogFull number lines old new = ⊥
+SumLeaves Worn number lines old new = ⊥

@@ -1,7 +1,9 @@
 // What the machine answers to a line.
 ghost use Rattle.std.specs.Prelude.{◌<◌, List, Some, ℕ, Option, Err, IfOk, OnOk, OnErr};
 ghost use Rattle.ktm_kernel.specs.Stands.{KernelAt, IsReady};
+ghost use Rattle.ktm_laws.specs.Running.{HasEventsLeft};
 ghost use Rattle.ktm_log.specs.OnDisk.{on};
+ghost use Rattle.ktm_run.specs.Lasting.{LastsAfter};
 ghost use Rattle.ktm_run.specs.Progress.{Answers, Unanswered};
 ghost use Rattle.ktm_run.specs.Script.{Means};
 ghost use Rattle.ktm_types.specs.Values.{IsCommand};
@@ -23,9 +25,11 @@ fn call<D: PowerDisk>(
     command: Command,
 ) -> Result<Reply, NoMemory>
     requires ready { IsReady kernel.old (D.told disk.old) (D.status disk.old) }
+    requires counts { HasEventsLeft kernel.old.now }
     requires command { IsCommand command }
     ensures does { IfOk result (λ reply. Answers (on kernel.old (D.told disk.old) (D.status disk.old)) (on kernel.new (D.told disk.new) (D.status disk.new)) (Some (Process process command)) reply) }
     ensures ready { OnOk result (IsReady kernel.new (D.told disk.new) (D.status disk.new)) }
+    ensures lasts { OnOk result (LastsAfter 1 kernel.old kernel.new) }
     ensures no_memory { OnErr result ((line : List ℕ) (w : World) → KernelAt kernel.old (D.told disk.old) w → Unanswered w (on kernel.old (D.told disk.old) (D.status disk.old)) (on kernel.new (D.told disk.new) (D.status disk.new)) line) }
 {
     match kernel.call(disk, process, command) {
@@ -37,8 +41,10 @@ fn call<D: PowerDisk>(
 // So many milliseconds pass.
 fn tick<D: PowerDisk>(kernel: &mut Kernel, disk: &mut D, ms: u32) -> Reply
     requires ready { IsReady kernel.old (D.told disk.old) (D.status disk.old) }
+    requires counts { HasEventsLeft kernel.old.now }
     ensures does { Answers (on kernel.old (D.told disk.old) (D.status disk.old)) (on kernel.new (D.told disk.new) (D.status disk.new)) (Some (Tick ms)) result }
     ensures ready { IsReady kernel.new (D.told disk.new) (D.status disk.new) }
+    ensures lasts { LastsAfter 1 kernel.old kernel.new }
 {
     kernel.tick(disk, ms)
 }
@@ -60,6 +66,7 @@ fn crash<D: PowerDisk>(kernel: &mut Kernel, disk: &mut D) -> Reply
     requires places { 0 < (D.status disk.old).places }
     ensures does { Answers (on kernel.old (D.told disk.old) (D.status disk.old)) (on kernel.new (D.told disk.new) (D.status disk.new)) (Some Crash) result }
     ensures ready { IsReady kernel.new (D.told disk.new) (D.status disk.new) }
+    ensures lasts { LastsAfter 1 kernel.old kernel.new }
 {
     if !kernel.is_up() {
         return Reply::Refused(Refusal::MachineDown);
@@ -75,6 +82,7 @@ fn restart<D: PowerDisk>(kernel: &mut Kernel, disk: &mut D, pick: u64) -> Result
     requires places { 0 < (D.status disk.old).places }
     ensures does { IfOk result (λ reply. Answers (on kernel.old (D.told disk.old) (D.status disk.old)) (on kernel.new (D.told disk.new) (D.status disk.new)) (Some (Restart pick)) reply) }
     ensures ready { OnOk result (IsReady kernel.new (D.told disk.new) (D.status disk.new)) }
+    ensures lasts { OnOk result (LastsAfter 1 kernel.old kernel.new) }
     ensures no_memory { OnErr result ((line : List ℕ) (w : World) → Means line (Some (Restart pick)) → KernelAt kernel.old (D.told disk.old) w → Unanswered w (on kernel.old (D.told disk.old) (D.status disk.old)) (on kernel.new (D.told disk.new) (D.status disk.new)) line) }
 {
     law_of_power();
@@ -98,9 +106,11 @@ fn answer<D: PowerDisk>(
     line: &[u8],
 ) -> Result<Reply, NoMemory>
     requires ready { IsReady kernel.old (D.told disk.old) (D.status disk.old) }
+    requires counts { HasEventsLeft kernel.old.now }
     requires places { 0 < (D.status disk.old).places }
     ensures does { IfOk result (λ reply. (meant : Option Line) × Means line.now meant × Answers (on kernel.old (D.told disk.old) (D.status disk.old)) (on kernel.new (D.told disk.new) (D.status disk.new)) meant reply) }
     ensures ready { OnOk result (IsReady kernel.new (D.told disk.new) (D.status disk.new)) }
+    ensures lasts { OnOk result (LastsAfter 1 kernel.old kernel.new) }
     ensures no_memory { OnErr result ((w : World) → KernelAt kernel.old (D.told disk.old) w → Unanswered w (on kernel.old (D.told disk.old) (D.status disk.old)) (on kernel.new (D.told disk.new) (D.status disk.new)) line.now) }
 {
     let meant = match read_line(alloc, line) {
@@ -124,9 +134,11 @@ pub fn execute<D: PowerDisk>(
     disk: &mut D,
     line: &[u8],
 ) -> Result<Reply, NoMemory>
-    requires { IsReady kernel.old (D.told disk.old) (D.status disk.old) }
+    requires ready { IsReady kernel.old (D.told disk.old) (D.status disk.old) }
+    requires counts { HasEventsLeft kernel.old.now }
     ensures does { IfOk result (λ reply. (meant : Option Line) × Means line.now meant × Answers (on kernel.old (D.told disk.old) (D.status disk.old)) (on kernel.new (D.told disk.new) (D.status disk.new)) meant reply) }
     ensures ready { OnOk result (IsReady kernel.new (D.told disk.new) (D.status disk.new)) }
+    ensures lasts { OnOk result (LastsAfter 1 kernel.old kernel.new) }
     ensures no_memory { OnErr result ((w : World) → KernelAt kernel.old (D.told disk.old) w → Unanswered w (on kernel.old (D.told disk.old) (D.status disk.old)) (on kernel.new (D.told disk.new) (D.status disk.new)) line.now) }
 {
     if let Err(NoMemory) = disk.plan_room(alloc) {

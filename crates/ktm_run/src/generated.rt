@@ -7,6 +7,7 @@ ghost use Rattle.ktm_kernel.specs.Stands.{IsReady};
 ghost use Rattle.ktm_log.specs.OnDisk.{on};
 ghost use Rattle.ktm_run.specs.Early.{outside};
 ghost use Rattle.ktm_run.specs.Generated.{GeneratedLeaves};
+ghost use Rattle.ktm_run.specs.Lasting.{LastsForLines};
 ghost use Rattle.ktm_run.specs.Progress.{point};
 ghost use Rattle.ktm_dump.specs.Written.{AppendsPart};
 ghost use Rattle.ktm_run.specs.Summary.{named, summary};
@@ -22,6 +23,7 @@ use ktm_dump::write_all;
 use ktm_gen::{Generator, LONGEST_LINE, MOST_LINES};
 use ktm_kernel::Kernel;
 use ktm_open::open_kernel;
+use ktm_restart::law_of_bad_images;
 use std::alloc::Global;
 
 // Executes the first lines of the script of a number, each of which is made in the room for it, and counts their replies.
@@ -34,6 +36,7 @@ fn run_lines<D: PowerDisk>(
     lines: u32,
 ) -> Result<Tally, NoMemory>
     requires ready { IsReady kernel.old (D.told disk.old) (D.status disk.old) }
+    requires counts { LastsForLines lines kernel.old }
     requires lines { lines ≤ MOST_LINES }
     ensures { LinesLeave number lines (on kernel.old (D.told disk.old) (D.status disk.old)) (on kernel.new (D.told disk.new) (D.status disk.new)) result }
 {
@@ -105,6 +108,7 @@ fn summarize<K: Sink, D: PowerDisk>(
     lines: u32,
 ) -> Status
     requires ready { IsReady kernel.old (D.told disk.old) (D.status disk.old) }
+    requires counts { LastsForLines lines kernel.old }
     requires lines { lines ≤ MOST_LINES }
     ensures leaves { SumLeaves result number lines (point kernel.old (D.told disk.old) (D.status disk.old) (K.taken sink.old)) (point kernel.new (D.told disk.new) (D.status disk.new) (K.taken sink.new)) }
     ensures sink { result ≡ Status.SinkFault → Rose (K.faults sink.old) (K.faults sink.new) }
@@ -135,6 +139,7 @@ pub fn run_generated<K: Sink, D: PowerDisk>(
     let Ok(mut line) = Vec::with_capacity(alloc, LONGEST_LINE) else {
         return Status::NoMemory;
     };
+    law_of_bad_images();
     let mut kernel = match open_kernel(alloc, disk) {
         Ok(restarted) => restarted.kernel,
         Err(why) => return not_started(sink, why),

@@ -15,6 +15,7 @@ use crate::status::Status;
 use ktm_base::{Failed, PowerDisk, Sink, Source};
 use ktm_dump::{write_all, write_line};
 use ktm_open::{OpenFault, open_kernel};
+use ktm_restart::law_of_bad_images;
 use std::alloc::Global;
 
 /// Says at which offset the image is bad.
@@ -33,7 +34,7 @@ pub fn write_bad_image<K: Sink>(sink: &mut K, offset: u64) -> Result<(), Failed>
     Ok(())
 }
 
-/// How a run ends, where no machine was started. Of a bad image it says so.
+/// How a run ends, where no machine was started. Of a bad image and of a worn one it says so.
 pub fn not_started<K: Sink>(sink: &mut K, why: OpenFault) -> Status
     ensures says { SaysWhy result why (K.taken sink.old) (K.taken sink.new) }
     ensures fault { result ≡ Status.SinkFault → Rose (K.faults sink.old) (K.faults sink.new) }
@@ -46,7 +47,12 @@ pub fn not_started<K: Sink>(sink: &mut K, why: OpenFault) -> Status
             Status::BadImage
         }
         OpenFault::Down => Status::DiskFault,
-        OpenFault::Full => Status::LogFull,
+        OpenFault::Worn => {
+            if let Err(Failed) = write_line(sink, b"worn image") {
+                return Status::SinkFault;
+            }
+            Status::Worn
+        }
         OpenFault::NoMemory => Status::NoMemory,
     }
 }
@@ -69,6 +75,7 @@ pub fn run_image<S: Source, K: Sink, D: PowerDisk>(
     let Ok(mut piece) = vec![in alloc; 0u8; PIECE] else {
         return Status::NoMemory;
     };
+    law_of_bad_images();
     let mut kernel = match open_kernel(alloc, disk) {
         Ok(restarted) => restarted.kernel,
         Err(why) => return not_started(sink, why),

@@ -1,8 +1,10 @@
 // A line of a script.
-ghost use Rattle.std.specs.Prelude.{◌≡◌, ◌≤◌, ◌++◌, ℕ, List, IsErrOf, OnOk, vec_capacity};
+ghost use Rattle.std.specs.Prelude.{◌≡◌, ◌≤◌, ◌++◌, ℕ, List, IsErrOf, OnOk, length, vec_capacity};
 ghost use Rattle.ktm_base.specs.Count.{Rose};
 ghost use Rattle.ktm_kernel.specs.Stands.{IsReady};
+ghost use Rattle.ktm_laws.specs.Running.{HasEventsLeft};
 ghost use Rattle.ktm_run.specs.Executed.{FeedLeaves, LineLeaves};
+ghost use Rattle.ktm_run.specs.Lasting.{LastsForLines};
 ghost use Rattle.ktm_run.specs.Progress.{point};
 ghost use Rattle.ktm_run.specs.Script.{has_reply, kept_of, reply_line};
 
@@ -48,7 +50,8 @@ pub fn do_line<K: Sink, D: PowerDisk>(
     made: &mut Vec<u8>,
     kept: &[u8],
 ) -> Result<(), RunFault>
-    requires { IsReady kernel.old (D.told disk.old) (D.status disk.old) }
+    requires ready { IsReady kernel.old (D.told disk.old) (D.status disk.old) }
+    requires counts { HasEventsLeft kernel.old.now }
     ensures leaves { LineLeaves kept.now (point kernel.old (D.told disk.old) (D.status disk.old) (K.taken sink.old)) (point kernel.new (D.told disk.new) (D.status disk.new) (K.taken sink.new)) result }
     ensures fault { IsErrOf result RunFault.SinkFault → Rose (K.faults sink.old) (K.faults sink.new) }
     ensures later { K.faults sink.old ≤ K.faults sink.new }
@@ -90,6 +93,7 @@ pub fn feed<K: Sink, D: PowerDisk>(
     bytes: &[u8],
 ) -> Result<(), RunFault>
     requires ready { IsReady kernel.old (D.told disk.old) (D.status disk.old) }
+    requires counts { LastsForLines (length bytes.now) kernel.old }
     requires room { 140001 ≤ vec_capacity kept.old }
     ensures leaves { FeedLeaves bytes.now kept.old.items kept.new.items (point kernel.old (D.told disk.old) (D.status disk.old) (K.taken sink.old)) (point kernel.new (D.told disk.new) (D.status disk.new) (K.taken sink.new)) result }
     ensures room { 140001 ≤ vec_capacity kept.new }

@@ -11,7 +11,7 @@ ghost use Rattle.ktm_run.specs.Forms.{FormLeaves, IsWithin, UntouchedOr};
 ghost use Rattle.ktm_run.specs.Generated.{GeneratedLeaves};
 ghost use Rattle.ktm_open.specs.Begins.{Begins, BeginsAs};
 ghost use Rattle.ktm_run.specs.Theorem.{EndedEarly};
-ghost use Rattle.ktm_world.specs.Durable.{Durable};
+ghost use Rattle.ktm_world.specs.Durable.{Durable, is_worn};
 
 use crate::dump::dump_image;
 use crate::form::{Form, form_of};
@@ -21,6 +21,7 @@ use crate::image::run_image;
 use crate::status::Status;
 use ktm_base::{Failed, PowerDisk, Sink, Source};
 use ktm_dump::write_line;
+use ktm_restart::law_of_bad_images;
 use std::alloc::Global;
 
 // Says which forms there are.
@@ -90,10 +91,10 @@ pub fn ktm<S: Source, K: Sink, D: PowerDisk>(
     ensures no_form { form_of (map string_bytes words.now) ≡ None → NoForm result
         (outside (S.left source.old) (K.taken sink.old) (D.told disk.old) (D.status disk.old)) (outside (S.left source.new) (K.taken sink.new) (D.told disk.new) (D.status disk.new)) }
     // the transcript theorem, and what stands where a run ended early
-    ensures run { form_of (map string_bytes words.now) ≡ Some Form.Run → (base : Durable) (room : ℕ) → IsSomeAnd (D.told disk.old) (Begins base room)
-        → EndedEarly result base room (outside (S.left source.old) (K.taken sink.old) (D.told disk.old) (D.status disk.old)) (outside (S.left source.new) (K.taken sink.new) (D.told disk.new) (D.status disk.new)) }
+    ensures run { form_of (map string_bytes words.now) ≡ Some Form.Run → (base : Durable) → IsSomeAnd (D.told disk.old) (Begins base)
+        → EndedEarly result base (outside (S.left source.old) (K.taken sink.old) (D.told disk.old) (D.status disk.old)) (outside (S.left source.new) (K.taken sink.new) (D.told disk.new) (D.status disk.new)) }
     // what each end of a run leaves, over every disk
-    ensures ends { form_of (map string_bytes words.now) ≡ Some Form.Run → EndsAs result (IfSome (D.told disk.old) (λ s. (base : Durable) × (room : ℕ) × BeginsAs base room s.seen))
+    ensures ends { form_of (map string_bytes words.now) ≡ Some Form.Run → EndsAs result (IfSome (D.told disk.old) (λ s. (base : Durable) × BeginsAs base s.seen))
         (outside (S.left source.old) (K.taken sink.old) (D.told disk.old) (D.status disk.old)) (outside (S.left source.new) (K.taken sink.new) (D.told disk.new) (D.status disk.new)) }
     // what each end of the other forms leaves, over every disk
     ensures format { (units : ℕ) → form_of (map string_bytes words.now) ≡ Some (Form.Format units) → UntouchedOr result (outside (S.left source.old) (K.taken sink.old) (D.told disk.old) (D.status disk.old)) (outside (S.left source.new) (K.taken sink.new) (D.told disk.new) (D.status disk.new)) (FormatLeaves result units
@@ -108,11 +109,11 @@ pub fn ktm<S: Source, K: Sink, D: PowerDisk>(
     ensures source { result ≡ Status.SourceFault → Rose (S.faults source.old) (S.faults source.new) }
     ensures sink { result ≡ Status.SinkFault → Rose (K.faults sink.old) (K.faults sink.new) }
     ensures too_long { result ≡ Status.ScriptTooLong → IfSome (S.left source.old) (λ bytes. MOST_SCRIPT_BYTES < length bytes) }
-    // where neither the source nor the sink fails and the script is not too long, a run ends early only out of memory, for a
-    // full log, or where the disk was down in the opening or went down in it
-    ensures complete { form_of (map string_bytes words.now) ≡ Some Form.Run → (base : Durable) (room : ℕ) → IsSomeAnd (D.told disk.old) (Begins base room)
+    // where neither the source nor the sink fails and the script is not too long, a run ends early only out of memory, where what
+    // it was to begin from is worn, or where the disk was down in the opening or went down in it
+    ensures complete { form_of (map string_bytes words.now) ≡ Some Form.Run → (base : Durable) → IsSomeAnd (D.told disk.old) (Begins base)
         → ¬ Rose (S.faults source.old) (S.faults source.new) → ¬ Rose (K.faults sink.old) (K.faults sink.new) → IsSomeAnd (S.left source.old) (λ bytes. length bytes ≤ MOST_SCRIPT_BYTES)
-        → (result ≡ Status.Done) ⊎ (result ≡ Status.NoMemory) ⊎ (result ≡ Status.LogFull)
+        → (result ≡ Status.Done) ⊎ (result ≡ Status.NoMemory) ⊎ ((result ≡ Status.Worn) × (is_worn base ≡ true))
         ⊎ ((result ≡ Status.DiskFault) × FoundDown (outside (S.left source.old) (K.taken sink.old) (D.told disk.old) (D.status disk.old)) (outside (S.left source.new) (K.taken sink.new) (D.told disk.new) (D.status disk.new))) }
     // where the sink does not fail, an image is made new but where the disk was down or went down
     ensures formats { (units : ℕ) → form_of (map string_bytes words.now) ≡ Some (Form.Format units) → ¬ Rose (K.faults sink.old) (K.faults sink.new)
@@ -123,9 +124,9 @@ pub fn ktm<S: Source, K: Sink, D: PowerDisk>(
         → (result ≡ Status.Done) ⊎ (result ≡ Status.NoMemory)
         ⊎ ((result ≡ Status.DiskFault) × FoundDown (outside (S.left source.old) (K.taken sink.old) (D.told disk.old) (D.status disk.old)) (outside (S.left source.new) (K.taken sink.new) (D.told disk.new) (D.status disk.new))) }
     // and the run of a generated script ends early only as a run does, where the sink does not fail
-    ensures generates { (number lines : ℕ) → form_of (map string_bytes words.now) ≡ Some (Form.Gen number lines) → (base : Durable) (room : ℕ) → IsSomeAnd (D.told disk.old) (Begins base room)
+    ensures generates { (number lines : ℕ) → form_of (map string_bytes words.now) ≡ Some (Form.Gen number lines) → (base : Durable) → IsSomeAnd (D.told disk.old) (Begins base)
         → ¬ Rose (K.faults sink.old) (K.faults sink.new)
-        → (result ≡ Status.Done) ⊎ (result ≡ Status.NoMemory) ⊎ (result ≡ Status.LogFull)
+        → (result ≡ Status.Done) ⊎ (result ≡ Status.NoMemory) ⊎ ((result ≡ Status.Worn) × (is_worn base ≡ true))
         ⊎ ((result ≡ Status.DiskFault) × FoundDown (outside (S.left source.old) (K.taken sink.old) (D.told disk.old) (D.status disk.old)) (outside (S.left source.new) (K.taken sink.new) (D.told disk.new) (D.status disk.new))) }
 {
     if let Err(Failed) = sink.write(&[]) {
@@ -134,5 +135,6 @@ pub fn ktm<S: Source, K: Sink, D: PowerDisk>(
     let Some(form) = form_of(words) else {
         return no_form(sink);
     };
+    law_of_bad_images();
     do_form(alloc, form, source, sink, disk)
 }

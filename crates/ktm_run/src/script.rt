@@ -1,10 +1,13 @@
 // The loop over a script.
-ghost use Rattle.std.specs.Prelude.{◌≡◌, ◌<◌, ◌≤◌, ℕ, List, [], length, take, IfOk, OnOk, OnErr, IsErrOf, vec_capacity};
+ghost use Rattle.std.specs.Prelude.{◌≡◌, ◌+◌, ◌<◌, ◌≤◌, ℕ, List, [], length, take, IfOk, OnOk, OnErr, IsErrOf, vec_capacity};
 ghost use Rattle.std.specs.Io.KnownBytes.{Consumes, IsAtEnd, Keeps};
 ghost use Rattle.ktm_base.specs.Count.{Rose};
 ghost use Rattle.ktm_base.specs.Stream.{Faults};
+ghost use Rattle.ktm_base.specs.declared.limits.TheConstants.{MOST_SCRIPT_BYTES};
 ghost use Rattle.ktm_kernel.specs.Stands.{IsReady};
+ghost use Rattle.ktm_laws.specs.Running.{HasEventsLeft};
 ghost use Rattle.ktm_run.specs.Executed.{ScriptLeaves, position};
+ghost use Rattle.ktm_run.specs.Lasting.{LastsForLines};
 ghost use Rattle.ktm_run.specs.Progress.{Progress, Stops, point};
 ghost use Rattle.ktm_run.specs.Script.{kept_of, last_line};
 
@@ -45,7 +48,8 @@ fn finish<K: Sink, D: PowerDisk>(
     made: &mut Vec<u8>,
     kept: &[u8],
 ) -> Result<(), RunFault>
-    requires { IsReady kernel.old (D.told disk.old) (D.status disk.old) }
+    requires ready { IsReady kernel.old (D.told disk.old) (D.status disk.old) }
+    requires counts { HasEventsLeft kernel.old.now }
     ensures done { OnOk result ((part : List ℕ) → kept.now ≡ kept_of part → Progress
         (point kernel.old (D.told disk.old) (D.status disk.old) (K.taken sink.old))
         (point kernel.new (D.told disk.new) (D.status disk.new) (K.taken sink.new))
@@ -78,6 +82,7 @@ pub fn run_script<S: Source, K: Sink, D: PowerDisk>(
     kept: &mut Vec<u8>,
 ) -> Status
     requires ready { IsReady kernel.old (D.told disk.old) (D.status disk.old) }
+    requires counts { LastsForLines (MOST_SCRIPT_BYTES + 1) kernel.old }
     requires room { 0 < length buffer.old }
     requires kept { (kept.old.items ≡ []) × (140001 ≤ vec_capacity kept.old) }
     ensures leaves { ScriptLeaves result

@@ -21,8 +21,8 @@ pub enum Status {
     DiskFault,
     /// The script goes on behind its greatest length. The lines that ended before it were answered.
     ScriptTooLong,
-    /// The log of the image has no room for what the start of the machine records.
-    LogFull,
+    /// The image counts 2^32 - 2 boots or more, or 2^62 events or more: no machine starts from it.
+    Worn,
 }
 
 impl Status {
@@ -38,7 +38,7 @@ impl Status {
             Status::BadImage => 5,
             Status::DiskFault => 6,
             Status::ScriptTooLong => 7,
-            Status::LogFull => 8,
+            Status::Worn => 9,
         }
     }
 }

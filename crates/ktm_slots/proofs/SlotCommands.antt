@@ -22,7 +22,7 @@ use Rattle.ktm_types.specs.declared.options.EnlistmentKind.{EnlistmentKind}
 use Rattle.ktm_types.specs.declared.reply.Reply.{Reply}
 use Rattle.ktm_types.specs.declared.reply.Reply.TheVariants.{Done, Refused}
 use Rattle.ktm_types.specs.declared.step.Owed.{Owed}
-use Rattle.ktm_world.specs.Decide.{caller, command_effect, command_tests, decide, of_files, on_file, opening, bound_file, with_room}
+use Rattle.ktm_world.specs.Decide.{caller, command_effect, command_tests, decide, of_files, on_file, opening, bound_file}
 use Rattle.ktm_world.specs.Enlistments.{Enlistment, Manager, Sent, has_id, is_superior, owes_commit, owes_pre_prepare, owes_prepare, owes_rollback, takes_part}
 use Rattle.ktm_world.specs.FileCalls.{create_file}
 use Rattle.ktm_world.specs.FileOutcome.{FileOutcome}
@@ -30,7 +30,7 @@ use Rattle.ktm_world.specs.Files.{OpenFile}
 use Rattle.ktm_world.specs.HandleCalls.{bind_to, duplicate_handle}
 use Rattle.ktm_world.specs.Handles.{object_at}
 use Rattle.ktm_world.specs.Labels.{enlistment_named, file_named, holds_of, manager_named, transaction_named, transaction_tests}
-use Rattle.ktm_world.specs.Outcome.{Outcome, apply, first_refusal, is_full, only_reply, refuse_or, within_log}
+use Rattle.ktm_world.specs.Outcome.{Outcome, apply, first_refusal, only_reply, refuse_or}
 use Rattle.ktm_world.specs.Phases.{Course, is_single_phase}
 use Rattle.ktm_world.specs.Present.{Present}
 use Rattle.ktm_world.specs.Steps.{led, share_of}
@@ -395,16 +395,12 @@ module _ (x : Present) (sound : IsSoundCourse x) where
       go (Some refusal) refused = pays-reply x (Refused refusal) (more (only_reply x (Refused refusal)))
       go None none = is (record { none = none })
 
-  -- with room in the log or without
-  within_log-pays : (more : Outcome → ℕ) (o : Outcome) → Pays x o (more o) → Pays x (within_log x o) (more (within_log x o))
-  within_log-pays more o pays = if_cases (λ o. Pays x o (more o)) (is_full x.machine.left o.events) _ o (λ full. pays-quiet x _ _ refl refl) (λ room. pays)
-
   decided-pays : (process : Pid) (command : Command) → Pays x (decide x process command) (granted_in x (decide x process command))
-  decided-pays process command = within_log-pays (granted_in x) (with_room x process command)
-      (refuse_or-pays (granted_in x) ((not x.machine.is_up, MachineDown) ∷ command_tests x process command) (command_effect x process command) (λ passes. effect-grants process command (passed passes).1))
+  decided-pays process command =
+      refuse_or-pays (granted_in x) ((not x.machine.is_up, MachineDown) ∷ command_tests x process command) (command_effect x process command) (λ passes. effect-grants process command (passed passes).1)
 
   later-pays : (ms : ℕ) → Pays x (decide_tick x ms) 0
-  later-pays ms = within_log-pays (λ o. 0) _ (refuse_or-pays (λ o. 0) ((not x.machine.is_up, MachineDown) ∷ []) (tick x ms) (λ passes. pays-tick x ms sound))
+  later-pays ms = refuse_or-pays (λ o. 0) ((not x.machine.is_up, MachineDown) ∷ []) (tick x ms) (λ passes. pays-tick x ms sound)
 
 pub slots_law : SlotsLaw
 slots_law = record {

@@ -36,6 +36,7 @@ use Rattle.txf_laws.proofs.offered.Reservations.{own-apply, own_changes-by}
 use Rattle.txf_laws.proofs.offered.Tables.{same_id-sym}
 use Rattle.ktm_courses.specs.SoundCourse.{is_outcome_of}
 use Rattle.ktm_courses.proofs.offered.Calls.{transaction_at-found}
+use Rattle.ktm_laws.specs.Running.{HasEventsLeft}
 use Rattle.ktm_limits.specs.LimitsKept.{AreVersionsFixed}
 use Rattle.ktm_owned.proofs.offered.CoursesKept.{led-is}
 use Rattle.ktm_records.specs.Kept.{IsKept}
@@ -108,8 +109,8 @@ module _ (lists : ListsLaw) (formed : FormedLaw) (x : Present) (kept : IsKept x)
   pub counted_committed : CanBeCounted (files_committed x.files t.id)
   counted_committed = subst CanBeCounted leaves (counted_fits (apply x (arrived x decided Done)) (no_more-fits x (apply x (arrived x decided Done)) no_more (fits-within x kept.within)) (let same = no_more.room in omega (arith, same, units)))
 
-pub may_commit : ReservationsLaw → ListsLaw → FormedLaw → (w : World) → IsStanding w → (t : Transaction) → transaction_at (present w).transactions.items t.id ≡ Some t → is_undecided t ≡ true → MayCommitNow (present w) t
-may_commit reservations lists formed w standing t found open_still =
+pub may_commit : ReservationsLaw → ListsLaw → FormedLaw → (w : World) → HasEventsLeft (present w) → IsStanding w → (t : Transaction) → transaction_at (present w).transactions.items t.id ≡ Some t → is_undecided t ≡ true → MayCommitNow (present w) t
+may_commit reservations lists formed w left standing t found open_still =
     let x = present w in
     let kept = standing.running.now in
     let there = IsIn-kept (λ (u : Transaction). is_undecided u && not (is_of u.id None)) x.transactions.items t (transaction_at-found x.transactions.items t.id t found).0 (and_from _ _ open_still refl) in
@@ -118,5 +119,5 @@ may_commit reservations lists formed w standing t found open_still =
       left = leaves_others reservations x t kept.sound.files there;
       unopened = unopened x kept.sound.files t.id;
       counted = counted_committed lists formed x kept standing.running.versions (units_now w standing.running standing.small) t found open_still;
-      few = few_versions w standing;
+      few = few_versions w left standing;
     }

@@ -7,12 +7,12 @@ use Rattle.ktm_world.specs.Decide.{decide}
 use Rattle.ktm_world.specs.Durable.{Durable}
 use Rattle.ktm_world.specs.Files.{FilesNow}
 use Rattle.ktm_world.specs.Laws.{StepLaw}
-use Rattle.ktm_world.specs.Outcome.{Outcome, apply}
+use Rattle.ktm_world.specs.Outcome.{apply}
 use Rattle.ktm_world.specs.Present.{Present}
 use Rattle.ktm_world.specs.Uses.{changes_waiting}
 use Rattle.ktm_world.specs.World.{World, after, present}
 use Rattle.ktm_world.proofs.offered.Durables.{stand-units}
-use Rattle.ktm_laws.specs.Running.{IsRunning, LawfulWorldsLaw}
+use Rattle.ktm_laws.specs.Running.{HasEventsLeft, IsRunning, LawfulWorldsLaw}
 use Rattle.ktm_records.proofs.offered.NoMore.{Fits, fits-within}
 use Rattle.txf_laws.specs.FileEffects.{AreVersionsFew, CanBeCounted}
 use Rattle.ktm_standing.specs.Standing.{IsStanding}
@@ -36,18 +36,14 @@ counted_fits x fits units =
 counted_now : (w : World) → IsRunning w → w.base.units ≤ MOST_UNITS → CanBeCounted (present w).files
 counted_now w run small = counted_fits (present w) (fits-within (present w) run.now.within) (units_now w run small)
 
--- there are few versions, since a log is short
-pub few_versions : (w : World) → IsStanding w → AreVersionsFew (present w).files.versions
-few_versions w standing file =
-    let counted = standing.counted file in
-    let fits = standing.running.fits in
-    let room = standing.running.roomy.boots in
-    omega (arith, counted, fits, room)
+-- there are few versions, since the count of events does not end
+pub few_versions : (w : World) → HasEventsLeft (present w) → IsStanding w → AreVersionsFew (present w).files.versions
+few_versions w left standing file = let counted = standing.counted file in omega (arith, counted, left)
 
 module _ (step : StepLaw) (law : LawfulWorldsLaw) where
   -- what a command leaves of the files can be counted
-  pub counted_after : (w : World) (process : Pid) (command : Command) (e : Outcome) (files : FilesNow) → IsStanding w → decide (present w) process command ≡ e → (apply (present w) e).files ≡ files → CanBeCounted files
-  counted_after w process command e files standing is leaves =
+  pub counted_after : (w : World) (process : Pid) (command : Command) (files : FilesNow) → HasEventsLeft (present w) → IsStanding w → (apply (present w) (decide (present w) process command)).files ≡ files → CanBeCounted files
+  counted_after w process command files left standing leaves =
       let same : (present (after w process command)).files ≡ files
-      = ap (λ (y : Present). y.files) (step.1 w process command standing.running.openings) ∙ ap (λ (p : Outcome). (apply (present w) p).files) is ∙ leaves in
-      subst CanBeCounted same (counted_now (after w process command) (law.commands w process command standing.running) standing.small)
+      = ap (λ (y : Present). y.files) (step.1 w process command standing.running.openings) ∙ leaves in
+      subst CanBeCounted same (counted_now (after w process command) (law.commands w process command left standing.running) standing.small)

@@ -1,17 +1,17 @@
 -- What a command on files does is what its call comes to.
-use Rattle.std.proofs.Common.{◌≡◌, false, Option, Some, None, refl, sym, ◌∙◌, ap, subst, inl, inr, ◌⊎◌}
+use Rattle.std.proofs.Common.{◌≡◌, Option, Some, None, refl, sym, ◌∙◌, ap, subst, inl, inr, ◌⊎◌}
 use Rattle.std.proofs.lemmas.Option.{none-some, same_Some}
 use Rattle.ktm_base.specs.declared.id.Id.{Id}
 use Rattle.ktm_base.specs.declared.id.Label.{Label}
 use Rattle.ktm_base.specs.declared.id.Pid.{Pid}
 use Rattle.ktm_types.specs.declared.command.Command.{Command}
 use Rattle.ktm_types.specs.declared.command.Command.TheVariants.{CreateFile, CreateFileTransacted, ReadFile, WriteFile, SetEndOfFile, GetFileSizeEx, FlushFileBuffers, DeleteFile, CreateDirectory, RemoveDirectory, MoveFile, DeleteFileTransacted, CreateDirectoryTransacted, RemoveDirectoryTransacted, MoveFileTransacted, FindFiles, FindFilesTransacted}
-use Rattle.ktm_world.specs.Decide.{caller, command_effect, decide, events_of, of_files, on_file, opening, refusal_of, with_room}
+use Rattle.ktm_world.specs.Decide.{caller, command_effect, decide, events_of, of_files, on_file, opening, refusal_of}
 use Rattle.ktm_world.specs.FileCalls.{create_file, read_file, write_file, set_end, get_size, flush_file, delete_file, create_directory, remove_directory, move_file, find_files}
 use Rattle.ktm_world.specs.FileOutcome.{FileOutcome, files_after}
 use Rattle.ktm_world.specs.Files.{OpenFile}
 use Rattle.ktm_world.specs.Labels.{file_named}
-use Rattle.ktm_world.specs.Outcome.{Outcome, apply, is_full, refuse_or}
+use Rattle.ktm_world.specs.Outcome.{Outcome, apply, refuse_or}
 use Rattle.ktm_world.specs.Present.{Present}
 use Rattle.ktm_records.specs.FileCallsMade.{file_call, in_caller, on_open}
 use Rattle.ktm_standing.specs.Laws.{EffectsLaw}
@@ -63,9 +63,9 @@ effect_made x process (FindFilesTransacted searched transaction) who o is = made
 effect_made x process command who o is = absurd (none-some _ is)
 
 -- a command that is not refused does what its call comes to
-pub room_made : (x : Present) (process : Pid) (command : Command) (who : Option Id) (o : FileOutcome) → refusal_of x process command ≡ None → file_call x process command ≡ Some (who, o)
-    → IsOfFiles x process (with_room x process command) who o
-room_made x process command who o none is =
+pub decided_made : (x : Present) (process : Pid) (command : Command) (who : Option Id) (o : FileOutcome) → refusal_of x process command ≡ None → file_call x process command ≡ Some (who, o)
+    → IsOfFiles x process (decide x process command) who o
+decided_made x process command who o none is =
     subst (λ refusal. IsOfFiles x process (refuse_or x refusal (command_effect x process command)) who o) (sym none) (effect_made x process command who o is)
 
 -- ---- what it records, and what it leaves
@@ -84,9 +84,3 @@ made_events x process e who o (inr (label, is)) = ap (λ (p : Outcome). p.events
 pub made_files : EffectsLaw → (x : Present) (process : Pid) (e : Outcome) (who : Option Id) (o : FileOutcome) → IsOfFiles x process e who o → (apply x e).files ≡ files_after x.files who o
 made_files law x process e who o (inl is) = ap (λ (p : Outcome). (apply x p).files) is ∙ ap (λ (y : Present). y.files) (law.files x who o)
 made_files law x process e who o (inr (label, is)) = ap (λ (p : Outcome). (apply x p).files) is ∙ ap (λ (y : Present). y.files) (law.opens x process label who o)
-
--- what finds room in the log is decided
-pub decides : (x : Present) (process : Pid) (command : Command) (e : Outcome) → with_room x process command ≡ e → is_full x.machine.left e.events ≡ false → decide x process command ≡ e
-decides x process command e is fits =
-    let room : is_full x.machine.left (with_room x process command).events ≡ false = ap (λ (p : Outcome). is_full x.machine.left p.events) is ∙ fits in
-    rw room is

@@ -13,19 +13,18 @@ use Rattle.ktm_types.specs.declared.recorded.Node.{Node}
 use Rattle.ktm_types.specs.Values.{IsCommand}
 use Rattle.ktm_world.specs.Changes.{node_of}
 use Rattle.ktm_world.specs.Conflicts.{writes}
-use Rattle.ktm_world.specs.Decide.{events_of, refusal_of, with_room}
+use Rattle.ktm_world.specs.Decide.{decide, events_of, refusal_of}
 use Rattle.ktm_world.specs.FileOutcome.{FileOutcome, files_after}
 use Rattle.ktm_world.specs.Files.{FirstOpen, OpenFile, OwnChanges}
 use Rattle.ktm_world.specs.Labels.{file_named, file_number, open_file_at}
 use Rattle.ktm_world.specs.Handles.{object_at}
 use Rattle.ktm_world.specs.Laws.{StepLaw}
-use Rattle.ktm_world.specs.Outcome.{Outcome, is_full}
 use Rattle.ktm_world.specs.Present.{Present}
 use Rattle.ktm_world.specs.Tree.{node_at, root}
 use Rattle.ktm_world.specs.World.{World, present}
 use Rattle.ktm_records.specs.FileCallsMade.{FileCallsLaw, IsRightCall, file_call}
 use Rattle.txf_laws.specs.Reservations.{IsLeft}
-use Rattle.ktm_laws.specs.Running.{LawfulWorldsLaw}
+use Rattle.ktm_laws.specs.Running.{HasEventsLeft, LawfulWorldsLaw}
 use Rattle.txf_laws.specs.SoundFiles.{IsSoundFiles, is_drawn_node, is_plain_well, is_undecided_in}
 use Rattle.ktm_records.specs.Spelling.{SpellingLaw}
 use Rattle.ktm_courses.proofs.offered.Calls.{and_then-found}
@@ -39,7 +38,7 @@ use Rattle.ktm_standing.specs.Files.{IsOnCommitted, MayMake}
 use Rattle.ktm_standing.specs.Laws.{EffectsLaw}
 use Rattle.ktm_standing.specs.Standing.{IsStanding}
 use Rattle.ktm_standing.proofs.Counted.{counted_after, few_versions, units_now}
-use Rattle.ktm_standing.proofs.FileForms.{decides, made_events, made_files, room_made}
+use Rattle.ktm_standing.proofs.FileForms.{IsOfFiles, decided_made, made_events, made_files}
 use Rattle.ktm_standing.proofs.LeftPlain.{left_plain}
 
 -- ---- sound files
@@ -76,7 +75,7 @@ usable_file x sound process label o named plain may_write =
 module _ (step : StepLaw) (law : LawfulWorldsLaw) (spelling : SpellingLaw) (forms : EffectsLaw) (made : FileCallsLaw) where
   -- ---- calls on files
 
-  module _ (w : World) (standing : IsStanding w) (process : Pid) (command : Command) (is : IsCommand command) (unrefused : refusal_of (present w) process command ≡ None) where
+  module _ (w : World) (left : HasEventsLeft (present w)) (standing : IsStanding w) (process : Pid) (command : Command) (is : IsCommand command) (unrefused : refusal_of (present w) process command ≡ None) where
     abbrev x : Present
     x = present w
 
@@ -86,18 +85,16 @@ module _ (step : StepLaw) (law : LawfulWorldsLaw) (spelling : SpellingLaw) (form
     right : (who : Option Id) (o : FileOutcome) → file_call x process command ≡ Some (who, o) → IsRightCall x who o
     right who o call = made x process command who o standing.running.now unrefused call
 
-    -- what it leaves can be counted, where the log has room for what it records
-    counted : (who : Option Id) (o : FileOutcome) → file_call x process command ≡ Some (who, o) → is_full x.machine.left (events_of who o.change) ≡ false → CanBeCounted (files_after x.files who o)
-    counted who o call fits =
-        let e = with_room x process command in
-        let of = room_made x process command who o unrefused call in
-        counted_after step law w process command e (files_after x.files who o) standing (decides x process command e refl (ap (λ es. is_full x.machine.left es) (made_events x process e who o of) ∙ fits)) (made_files forms x process e who o of)
+    of : (who : Option Id) (o : FileOutcome) → file_call x process command ≡ Some (who, o) → IsOfFiles x process (decide x process command) who o
+    of who o call = decided_made x process command who o unrefused call
 
-    spelled : (who : Option Id) (o : FileOutcome) → file_call x process command ≡ Some (who, o) → is_full x.machine.left (events_of who o.change) ≡ false → All IsSpellableEvent (events_of who o.change)
-    spelled who o call fits =
-        let e = with_room x process command in
-        let events = made_events x process e who o (room_made x process command who o unrefused call) in
-        subst (All IsSpellableEvent) (ap (λ (p : Outcome). p.events) (decides x process command e refl (ap (λ es. is_full x.machine.left es) events ∙ fits)) ∙ events)
+    -- what it leaves can be counted
+    counted : (who : Option Id) (o : FileOutcome) → file_call x process command ≡ Some (who, o) → CanBeCounted (files_after x.files who o)
+    counted who o call = counted_after step law w process command (files_after x.files who o) left standing (made_files forms x process (decide x process command) who o (of who o call))
+
+    spelled : (who : Option Id) (o : FileOutcome) → file_call x process command ≡ Some (who, o) → All IsSpellableEvent (events_of who o.change)
+    spelled who o call =
+        subst (All IsSpellableEvent) (made_events x process (decide x process command) who o (of who o call))
         (spelling.commands x process command standing.running.now standing.texts (units_now w standing.running standing.small) is).0
 
     plain_change : (o : FileOutcome) → IsRightCall x None o → IfSome o.change (IsPlainChange x.files)
@@ -108,7 +105,7 @@ module _ (step : StepLaw) (law : LawfulWorldsLaw) (spelling : SpellingLaw) (form
         go (Some c) some = record {
           does_apply = right.applies c some;
           fresh = λ make. subst (λ n. list_any (λ o. o.file == n) x.files.first_opens ≡ false) (sym (right.fresh c some make)) (orderly_files x sound).fresh;
-          few = few_versions w standing (node_of c);
+          few = few_versions w left standing (node_of c);
         }
 
     plain_open : (o : FileOutcome) → IsRightCall x None o → IfSome o.opened (IsPlainOpen x.files)
@@ -124,14 +121,14 @@ module _ (step : StepLaw) (law : LawfulWorldsLaw) (spelling : SpellingLaw) (form
         subst (IsLeft x.files (files_after x.files None o)) u.2 (left_plain x sound o u.0.id right (λ c some. right.leaves c u.0 refl some u.1)))
 
     pub may_make : (who : Option Id) (o : FileOutcome) → file_call x process command ≡ Some (who, o) → MayMake x who o
-    may_make None o call = λ fits.
+    may_make None o call =
         let r = right None o call in
-        record { plain = record { change = plain_change o r; opened = plain_open o r }; left = left_own o r; counted = counted None o call fits; spelled = spelled None o call fits }
+        record { plain = record { change = plain_change o r; opened = plain_open o r }; left = left_own o r; counted = counted None o call; spelled = spelled None o call }
     may_make (Some id) o call =
         let r = right (Some id) o call in
         record {
           change = r.applies;
           first = λ file some. let first = r.first id file refl some in record { new = first.0; committed = first.1 };
           opened = λ p some. let is = r.opened p some in record { number = is.1; few = is.2 };
-          counted = counted (Some id) o call refl;
+          counted = counted (Some id) o call;
         }

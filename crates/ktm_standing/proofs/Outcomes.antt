@@ -1,6 +1,6 @@
 -- An outcome that puts or cuts bytes of files records an event for each work.
 use Rattle.std.specs.Prelude.{⊤}
-use Rattle.std.proofs.Common.{◌≡◌, ℕ, ◌*◌, ◌≤◌, not, Bool, true, false, cond, List, [], length, Option, None, Some, refl, sym, ◌∙◌, ap, subst, arith, inl, inr}
+use Rattle.std.proofs.Common.{◌≡◌, ℕ, ◌*◌, ◌≤◌, not, List, [], ◌∷◌, length, Option, None, Some, refl, sym, ◌∙◌, ap, subst, arith, inl, inr}
 use Rattle.std.proofs.lemmas.Bool.{cases_Bool}
 use Rattle.std.proofs.lemmas.List.{length-append}
 use Rattle.std.proofs.lemmas.List.Sums.{sum_by-append}
@@ -19,7 +19,7 @@ use Rattle.ktm_types.specs.declared.options.EnlistmentKind.{EnlistmentKind}
 use Rattle.ktm_types.specs.declared.reply.Reply.{Reply}
 use Rattle.ktm_types.specs.declared.reply.Reply.TheVariants.{Refused, Done}
 use Rattle.ktm_world.specs.Committed.{Work}
-use Rattle.ktm_world.specs.Decide.{bound_file, caller, decide, command_effect, events_of, of_files, on_file, opening, refusal_of, with_room}
+use Rattle.ktm_world.specs.Decide.{bound_file, caller, decide, command_effect, events_of, of_files, on_file, opening, refusal_of}
 use Rattle.ktm_world.specs.Enlistments.{Enlistment, Manager}
 use Rattle.ktm_world.specs.FileCalls.{create_file, read_file, write_file, set_end, get_size, flush_file, delete_file, create_directory, remove_directory, move_file, find_files}
 use Rattle.ktm_world.specs.FileOutcome.{FileOutcome, works_of}
@@ -28,7 +28,7 @@ use Rattle.ktm_world.specs.HandleCalls.{bind_to, close_handle, closed_file, dupl
 use Rattle.ktm_world.specs.Handles.{object_at}
 use Rattle.ktm_world.specs.Labels.{enlistment_named, file_named, manager_named, transaction_named}
 use Rattle.ktm_world.specs.Logs.{Group}
-use Rattle.ktm_world.specs.Outcome.{Outcome, apply, joined, only_reply, refuse_or, is_full}
+use Rattle.ktm_world.specs.Outcome.{Outcome, apply, first_refusal, joined, only_reply, refuse_or}
 use Rattle.ktm_world.specs.Present.{Present}
 use Rattle.ktm_world.specs.Steps.{led, share_of}
 use Rattle.ktm_world.specs.TransactionCalls.{aborted_by, answering, arrived, commit_of, commit_reply, commit_transaction, course_of, create_enlistment, create_resource_manager, create_transaction, enlist, enlistment_with, get_information, get_notification, get_transaction_information, goes_on, keep_information, manager_with, open_enlistment, open_resource_manager, open_to_enlistment, open_to_manager, open_to_transaction, open_transaction, recover_all, recover_resource_manager, recovery_of, rollback_of, rollback_transaction, set_information, take_first, tick, transaction_in, transaction_with, pre_prepare_complete, prepare_complete, read_only_enlistment, commit_complete, rollback_complete, single_phase_reject, rollback_enlistment, pre_prepare_enlistment, prepare_enlistment, commit_enlistment, recover_enlistment}
@@ -38,7 +38,6 @@ use Rattle.txf_laws.proofs.offered.NormalForms.{is_of_file}
 use Rattle.ktm_courses.proofs.offered.HandlesAndTime.{Closes, close_handle-so, exit-so, tick-so}
 use Rattle.ktm_records.proofs.offered.AgreementOfCourses.{arrival}
 use Rattle.ktm_standing.proofs.CommitEvents.{course_logged}
-use Rattle.ktm_standing.proofs.offered.Decided.{full_log}
 use Rattle.ktm_standing.proofs.offered.Rows.{row_leads}
 use Rattle.ktm_standing.proofs.Versions.{own_few, puts_in, puts_of}
 
@@ -239,22 +238,11 @@ refused_logs : (x : Present) (tested : Option Refusal) (effect : Outcome) → Is
 refused_logs x None effect is = is
 refused_logs x (Some refusal) effect is = replied x (Refused refusal)
 
-full_logs : (x : Present) (b : Bool) (o : Outcome) → IsLogged o → IsLogged (cond b (full_log x) o)
-full_logs x true o is = idle (full_log x) refl
-full_logs x false o is = is
-
 -- for each event, what a command comes to puts and cuts the bytes of a file no more than twice
 pub decided_logs : (x : Present) → IsSoundFiles x → (process : Pid) (command : Command) → IsLogged (decide x process command)
 decided_logs x sound process command =
-    full_logs x (is_full x.machine.left (with_room x process command).events) (with_room x process command)
-    (refused_logs x (refusal_of x process command) (command_effect x process command) (effect_logs x (own_few x sound) process command))
+    refused_logs x (refusal_of x process command) (command_effect x process command) (effect_logs x (own_few x sound) process command)
 
 -- for each event, what the passing of time comes to puts and cuts a file no more than twice, whether the machine is up or down
 pub ticked_logs : (x : Present) (ms : ℕ) → IsLogged (decide_tick x ms)
-ticked_logs x ms = go x.machine.is_up
-  where
-    up : (refusal : Option Refusal) → IsLogged (cond (is_full x.machine.left (refuse_or x refusal (tick x ms)).events) (full_log x) (refuse_or x refusal (tick x ms)))
-    up refusal = full_logs x (is_full x.machine.left (refuse_or x refusal (tick x ms)).events) (refuse_or x refusal (tick x ms)) (refused_logs x refusal (tick x ms) (tick_logs x ms))
-
-    go : (on : Bool) → IsLogged (let o = refuse_or x (cond (not on) (Some MachineDown) None) (tick x ms) in cond (is_full x.machine.left o.events) (full_log x) o)
-    go on = up (cond (not on) (Some MachineDown) None)
+ticked_logs x ms = refused_logs x (first_refusal ((not x.machine.is_up, MachineDown) ∷ [])) (tick x ms) (tick_logs x ms)

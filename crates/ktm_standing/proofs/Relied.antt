@@ -12,7 +12,7 @@ use Rattle.ktm_records.specs.Kept.{IsKept}
 use Rattle.txf_laws.specs.Footprint.{ListsLaw}
 use Rattle.txf_laws.specs.Formed.{FormedLaw}
 use Rattle.txf_laws.specs.Reservations.{ReservationsLaw}
-use Rattle.ktm_laws.specs.Running.{LawfulWorldsLaw}
+use Rattle.ktm_laws.specs.Running.{HasEventsLeft, LawfulWorldsLaw}
 use Rattle.ktm_records.specs.Spelling.{SpellingLaw}
 use Rattle.txf_laws.specs.FileEffects.{IsOrderly}
 use Rattle.ktm_standing.specs.Files.{IsOnCommitted, MayCommitNow, MayMake}
@@ -41,7 +41,7 @@ pub files_law : StepLaw → LawfulWorldsLaw → SpellingLaw → ReservationsLaw 
 files_law step law spelling reservations lists formed forms made = record {
   orderly = by_world (λ x. IsOrderly x.files) (λ w standing. orderly_files (present w) standing.running.now.sound.files);
   usable = λ x process label o. by_world (λ x. file_named x process label ≡ Some o → IsOnCommitted x o) (λ w standing. usable_file (present w) standing.running.now.sound.files process label o) x;
-  calls = λ x process command who o now is. by_world (λ x. refusal_of x process command ≡ None → file_call x process command ≡ Some (who, o) → MayMake x who o)
-      (λ w standing unrefused. may_make step law spelling forms made w standing process command is unrefused who o) x now;
-  commits = λ x t. by_world (λ x. transaction_at x.transactions.items t.id ≡ Some t → is_undecided t ≡ true → MayCommitNow x t) (λ w standing. may_commit reservations lists formed w standing t) x;
+  calls = λ x process command who o now left is. by_world (λ x. HasEventsLeft x → refusal_of x process command ≡ None → file_call x process command ≡ Some (who, o) → MayMake x who o)
+      (λ w standing left unrefused. may_make step law spelling forms made w left standing process command is unrefused who o) x now left;
+  commits = λ x t. by_world (λ x. HasEventsLeft x → transaction_at x.transactions.items t.id ≡ Some t → is_undecided t ≡ true → MayCommitNow x t) (λ w standing left. may_commit reservations lists formed w left standing t) x;
 }

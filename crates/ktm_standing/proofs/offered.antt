@@ -2,7 +2,6 @@
 pub mod Found
 pub mod Applied
 pub mod Effects
-pub mod Machine
 pub mod Courses
 pub mod Rows
 pub mod NextNode

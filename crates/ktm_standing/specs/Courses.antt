@@ -20,9 +20,9 @@ use Rattle.ktm_world.specs.TransactionCalls.{course_of}
 use Rattle.txf_laws.specs.Reservations.{files_committed}
 use Rattle.txf_laws.specs.FileEffects.{forgotten}
 
--- what is so but for what was recorded and how much of the log is left
+-- what is so but for what was recorded
 abbrev pub aside : Present → Present
-aside x = record x { machine = record x.machine { left = 0 }; recorded = empty_state 0 0 }
+aside x = record x { recorded = empty_state 0 0 }
 
 -- what a transaction changed, opened and set is gone
 abbrev pub with_forgotten : Present → Id → Present

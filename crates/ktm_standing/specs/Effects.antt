@@ -1,5 +1,5 @@
 -- What outcomes make of what is so now.
-use Rattle.std.specs.Prelude.{◌≡◌, ℕ, ◌+◌, ◌-◌, ◌&&◌, not, false, List, [], ◌∷◌, filter, length, Option, Some, None}
+use Rattle.std.specs.Prelude.{◌≡◌, ℕ, ◌+◌, ◌&&◌, not, List, [], ◌∷◌, filter, length, Option, Some, None}
 use Rattle.ktm_base.specs.declared.id.Id.{Id}
 use Rattle.ktm_base.specs.declared.id.Label.{Label}
 use Rattle.ktm_base.specs.declared.id.Pid.{Pid}
@@ -10,7 +10,6 @@ use Rattle.ktm_types.specs.declared.object.Handle.{Handle}
 use Rattle.ktm_types.specs.declared.object.Object.TheVariants.{File as FileObject}
 use Rattle.ktm_types.specs.declared.object.Transaction.{Transaction}
 use Rattle.ktm_types.specs.declared.reply.Reply.TheVariants.{Done}
-use Rattle.ktm_types.specs.Sizes.{log_size}
 use Rattle.ktm_world.specs.Changes.{changed_all}
 use Rattle.ktm_world.specs.Decide.{events_of}
 use Rattle.ktm_world.specs.Durable.{Durable, next_after_all}
@@ -18,7 +17,6 @@ use Rattle.ktm_world.specs.FileOutcome.{FileOutcome, files_after}
 use Rattle.ktm_world.specs.Files.{FirstOpen, OpenFile, own_changes}
 use Rattle.ktm_world.specs.Keys.{OwnSettings, own_settings, stored_all}
 use Rattle.ktm_world.specs.Labels.{with_handle}
-use Rattle.ktm_world.specs.Logs.{as_groups}
 use Rattle.ktm_world.specs.Outcome.{Outcome, apply, is_forgotten}
 use Rattle.ktm_world.specs.Present.{Present}
 use Rattle.ktm_world.specs.Phases.{event_if}
@@ -26,7 +24,7 @@ use Rattle.ktm_world.specs.TransactionCalls.{aborted_by, is_due}
 
 -- ---- what records, commits and sends nothing
 
--- an outcome records, commits, sends, opens, makes and takes nothing, and the machine goes on
+-- an outcome records, commits, sends, opens, makes and takes nothing
 pub record IsSilent (o : Outcome) : Type 0 where
   pub records : o.events ≡ []
   pub commits : o.works ≡ []
@@ -34,7 +32,6 @@ pub record IsSilent (o : Outcome) : Type 0 where
   pub opens : o.openings ≡ []
   pub makes : o.made ≡ []
   pub takes : o.took ≡ None
-  pub goes_on : o.stops ≡ false
 
 -- the first opens but those of these transactions
 abbrev pub opens_left : List Id → List FirstOpen → List FirstOpen
@@ -69,12 +66,9 @@ undo_of clock t = event_if (is_due clock t && t.is_recorded) (Undo t.id)
 abbrev pub recorded_by : Durable → List Change → OwnSettings → Durable
 recorded_by s changes settings = record s { tree = changed_all s.tree changes; keys = stored_all s.keys settings; next_node = next_after_all s.next_node changes }
 
--- what is so with a group more in the log, if there are events
+-- what is so with events more in the log
 abbrev pub with_group : Present → List Event → Present
-with_group x events = record x {
-  machine = record x.machine { left = x.machine.left - log_size (as_groups events) };
-  recorded = record x.recorded { events = x.recorded.events + length events };
-}
+with_group x events = record x { recorded = record x.recorded { events = x.recorded.events + length events } }
 
 -- ---- calls on files
 

@@ -1,5 +1,5 @@
 -- What a machine that stands may rely on where it makes what calls on files come to.
-use Rattle.std.specs.Prelude.{◌≡◌, false, true, Option, Some, None, All}
+use Rattle.std.specs.Prelude.{◌≡◌, true, Option, Some, None, All}
 use Rattle.ktm_base.specs.declared.id.Id.{Id}
 use Rattle.ktm_event.specs.Spelling.{IsSpellableEvent}
 use Rattle.ktm_types.specs.declared.object.Transaction.{Transaction}
@@ -9,7 +9,6 @@ use Rattle.ktm_world.specs.Conflicts.{writes}
 use Rattle.ktm_world.specs.Decide.{events_of}
 use Rattle.ktm_world.specs.FileOutcome.{FileOutcome, files_after}
 use Rattle.ktm_world.specs.Files.{OpenFile}
-use Rattle.ktm_world.specs.Outcome.{is_full}
 use Rattle.ktm_world.specs.Present.{Present}
 use Rattle.ktm_world.specs.Tree.{is_file}
 use Rattle.txf_laws.specs.FileEffects.{AreUnopened, AreVersionsFew, LeavesOthers, IsPlain, LeavesOwn, IsPlanOf, CanBeCounted}
@@ -22,9 +21,9 @@ pub record MayMakePlain (x : Present) (o : FileOutcome) : Type 0 where
   pub counted : CanBeCounted (files_after x.files None o)
   pub spelled : All IsSpellableEvent (events_of None o.change)
 
--- what a call comes to can be made, and recorded where the log has room for what it records
+-- what a call comes to can be made
 abbrev pub MayMake : Present → Option Id → FileOutcome → Type 0
-MayMake x None o = is_full x.machine.left (events_of None o.change) ≡ false → MayMakePlain x o
+MayMake x None o = MayMakePlain x o
 MayMake x (Some id) o = IsPlanOf x.files id o
 
 -- what a transaction changed can be committed

@@ -1,5 +1,5 @@
 -- Laws of worlds that stand.
-use Rattle.std.specs.Prelude.{◌≡◌, ℕ, ◌+◌, ◌-◌, ◌^◌, ◌<◌, ◌≤◌, ◌&&◌, true, false, List, [], All, filter, find, fold, IfSome, Option, Some, None, is_some, option_and_then}
+use Rattle.std.specs.Prelude.{◌≡◌, ℕ, ◌≤◌, ◌&&◌, true, false, List, [], All, filter, find, fold, IfSome, Option, Some, None, is_some, option_and_then}
 use Rattle.std.specs.List.{list_all, list_any}
 use Rattle.ktm_base.specs.declared.limits.TheConstants.{MOST_UNITS}
 use Rattle.ktm_base.specs.declared.id.Id.{Id}
@@ -16,29 +16,28 @@ use Rattle.ktm_types.specs.declared.object.Transaction.{Transaction}
 use Rattle.ktm_types.specs.declared.reply.Reply.{Reply}
 use Rattle.ktm_types.specs.declared.reply.Reply.TheVariants.{Refused}
 use Rattle.ktm_types.specs.declared.step.Step.{Step}
-use Rattle.ktm_types.specs.Sizes.{frame_size, log_size}
 use Rattle.ktm_types.specs.Values.{IsCommand}
 use Rattle.ktm_course.specs.Moved.{is_commit}
-use Rattle.ktm_world.specs.Decide.{decide, with_room, command_effect, refusal_of, of_files, opening}
-use Rattle.ktm_world.specs.Durable.{Durable, stand, log_applies}
+use Rattle.ktm_world.specs.Decide.{decide, refusal_of, of_files, opening}
+use Rattle.ktm_world.specs.Durable.{Durable, is_worn, stand}
 use Rattle.ktm_world.specs.Enlistments.{Enlistment, Manager, enlistment_at, is_live_enlistment, manager_at}
 use Rattle.ktm_world.specs.FileOutcome.{FileOutcome}
 use Rattle.ktm_world.specs.Files.{OpenFile}
 use Rattle.ktm_world.specs.Labels.{enlistment_named, file_named, manager_named, transaction_named}
 use Rattle.ktm_world.specs.Logs.{Group}
-use Rattle.ktm_world.specs.Outcome.{Outcome, apply, is_full, joined, only_reply, within_log}
+use Rattle.ktm_world.specs.Outcome.{Outcome, apply, joined, only_reply}
 use Rattle.ktm_world.specs.Present.{Present}
 use Rattle.ktm_world.specs.Rows.{row}
 use Rattle.ktm_world.specs.Steps.{run, seen}
 use Rattle.ktm_world.specs.Transactions.{same_id, transaction_at, is_live, is_undecided}
 use Rattle.ktm_world.specs.TransactionCalls.{arrived, course_of, enlistment_with, later, is_due, manager_with, tick, transaction_in, transaction_with, with_clock}
 use Rattle.ktm_world.specs.Transcript.{Finds}
-use Rattle.ktm_world.specs.World.{World, present, extend, after, decide_tick, crashed, interrupted_by, interrupted_restart, found_full, opened, own_group}
+use Rattle.ktm_world.specs.World.{World, present, extend, after, decide_tick, crashed, interrupted_by, interrupted_restart, found_worn, opened}
 use Rattle.ktm_records.specs.FileCallsMade.{file_call}
 use Rattle.ktm_records.specs.Kept.{IsKept}
 use Rattle.ktm_records.specs.Spelling.{AreRecordedTexts}
 use Rattle.ktm_states.specs.GoodState.{IsGoodState}
-use Rattle.ktm_laws.specs.Running.{IsRoomy, is_log_grammatical}
+use Rattle.ktm_laws.specs.Running.{HasEventsLeft, is_good_log}
 use Rattle.ktm_courses.specs.SoundCourse.{IsSoundCourse}
 use Rattle.txf_laws.specs.FileEffects.{IsOrderly}
 use Rattle.ktm_standing.specs.Courses.{LeadsOn, aside, with_course}
@@ -97,17 +96,11 @@ pub record GuidLaw : Type 0 where
 pub record DecidedLaw : Type 0 where
   -- a refused command only replies
   pub refused : (x : Present) (process : Pid) (command : Command) (refusal : Refusal) → refusal_of x process command ≡ Some refusal → decide x process command ≡ only_reply x (Refused refusal)
-  -- a command whose effect records nothing finds the log with room
-  pub unrecorded : (x : Present) (process : Pid) (command : Command) → (command_effect x process command).events ≡ [] → decide x process command ≡ with_room x process command
-  -- no effect stops the machine
-  pub goes_on : (x : Present) (process : Pid) (command : Command) → (command_effect x process command).stops ≡ false
-  -- what stops it records nothing
-  pub stops : (x : Present) (process : Pid) (command : Command) → (decide x process command).stops ≡ true → (decide x process command).events ≡ []
   -- a machine that is up does not say that it is down
   pub is_up : (x : Present) (process : Pid) (command : Command) → x.machine.is_up ≡ true → (decide x process command).reply ≡ Refused MachineDown → ⊥
   -- time passes where the machine is up, and only there
   pub no_time : (x : Present) (ms : ℕ) → x.machine.is_up ≡ false → decide_tick x ms ≡ only_reply x (Refused MachineDown)
-  pub time : (x : Present) (ms : ℕ) → x.machine.is_up ≡ true → decide_tick x ms ≡ within_log x (tick x ms)
+  pub time : (x : Present) (ms : ℕ) → x.machine.is_up ≡ true → decide_tick x ms ≡ tick x ms
 
 -- ---- what they record
 
@@ -129,33 +122,32 @@ pub record FilesLaw : Type 0 where
   -- a plain file that is open to be written is there
   pub usable : (x : Present) (process : Pid) (label : Label) (o : OpenFile) → IsStandingNow x → file_named x process label ≡ Some o → IsOnCommitted x o
   -- what a call on files comes to can be made
-  pub calls : (x : Present) (process : Pid) (command : Command) (who : Option Id) (o : FileOutcome) → IsStandingNow x → IsCommand command → refusal_of x process command ≡ None → file_call x process command ≡ Some (who, o) → MayMake x who o
+  pub calls : (x : Present) (process : Pid) (command : Command) (who : Option Id) (o : FileOutcome) → IsStandingNow x → HasEventsLeft x → IsCommand command → refusal_of x process command ≡ None → file_call x process command ≡ Some (who, o) → MayMake x who o
   -- what an undecided transaction changed can be committed
-  pub commits : (x : Present) (t : Transaction) → IsStandingNow x → transaction_at x.transactions.items t.id ≡ Some t → is_undecided t ≡ true → MayCommitNow x t
+  pub commits : (x : Present) (t : Transaction) → IsStandingNow x → HasEventsLeft x → transaction_at x.transactions.items t.id ≡ Some t → is_undecided t ≡ true → MayCommitNow x t
 
 -- ---- what the machine keeps
 
 -- a world stands after whatever a machine does for which a world stands, and so does what is so now
 pub record StandingLaw : Type 0 where
   -- a command was answered, or time passed
-  pub commands : (w : World) (process : Pid) (command : Command) → IsCommand command → IsStanding w → IsStanding (after w process command)
-  pub ticks : (w : World) (ms : ℕ) → IsStanding w → IsStanding (extend w (decide_tick (present w) ms))
+  pub commands : (w : World) (process : Pid) (command : Command) → IsCommand command → HasEventsLeft (present w) → IsStanding w → IsStanding (after w process command)
+  pub ticks : (w : World) (ms : ℕ) → HasEventsLeft (present w) → IsStanding w → IsStanding (extend w (decide_tick (present w) ms))
   -- the power went: by itself, in a command, while time passed, or in a restart
   pub crashes : (w : World) → IsStanding w → IsStanding (crashed w)
-  pub interrupted_commands : (w : World) (process : Pid) (command : Command) → IsCommand command → IsStanding w → IsStanding (interrupted_by w (decide (present w) process command))
-  pub interrupted_ticks : (w : World) (ms : ℕ) → IsStanding w → IsStanding (interrupted_by w (decide_tick (present w) ms))
+  pub interrupted_commands : (w : World) (process : Pid) (command : Command) → IsCommand command → HasEventsLeft (present w) → IsStanding w → IsStanding (interrupted_by w (decide (present w) process command))
+  pub interrupted_ticks : (w : World) (ms : ℕ) → HasEventsLeft (present w) → IsStanding w → IsStanding (interrupted_by w (decide_tick (present w) ms))
   pub interrupted_restarts : (w : World) → IsStanding w → IsStanding (interrupted_restart w)
-  -- a restart found a full log
-  pub full_restarts : (w : World) (log : List Group) → Finds w log true → IsStanding w → IsStanding (found_full w log)
-  -- a restart opened a world, from a good state and a log that applies, whose keys that wait are texts, with room for what it records
-  pub restarts : (base : Durable) (room : ℕ) (log : List Group) → IsGoodState base → base.units ≤ MOST_UNITS → IsRoomy base room → is_log_grammatical log ≡ true → log_applies base log ≡ true → AreRecordedTexts (stand base log)
-      → is_full (room - log_size log) (own_group (stand base log)) ≡ false → IsStanding (opened base room log)
+  -- a restart found a worn log
+  pub worn_restarts : (w : World) (log : List Group) → Finds w log true → IsStanding w → IsStanding (found_worn w log)
+  -- a restart opened a world, from a good state and a log that applies, whose keys are texts, and which is not worn
+  pub restarts : (base : Durable) (log : List Group) → IsGoodState base → base.units ≤ MOST_UNITS → is_good_log base log ≡ true → AreRecordedTexts (stand base log)
+      → is_worn (stand base log) ≡ false → IsStanding (opened base log)
   -- what is so now stands, too
-  pub commands_now : (x : Present) (process : Pid) (command : Command) → IsCommand command → IsStandingNow x → IsStandingNow (apply x (decide x process command))
-  pub ticks_now : (x : Present) (ms : ℕ) → IsStandingNow x → IsStandingNow (apply x (decide_tick x ms))
+  pub commands_now : (x : Present) (process : Pid) (command : Command) → IsCommand command → HasEventsLeft x → IsStandingNow x → IsStandingNow (apply x (decide x process command))
+  pub ticks_now : (x : Present) (ms : ℕ) → HasEventsLeft x → IsStandingNow x → IsStandingNow (apply x (decide_tick x ms))
 
 -- what is so in the world that a restart opens is what a machine that starts from its state has, which stands
 pub record FreshLaw : Type 0 where
-  pub opens : (base : Durable) (room : ℕ) (log : List Group)
-      → let s = stand base log in present (opened base room log) ≡ fresh s (room - log_size log - frame_size (own_group s))
-  pub stands : (s : Durable) (left : ℕ) → IsGoodState s → AreRecordedTexts s → s.units ≤ MOST_UNITS → s.events + left + frame_size (own_group s) < 2 ^ 63 → s.boots + left + frame_size (own_group s) < 2 ^ 32 → IsStandingNow (fresh s left)
+  pub opens : (base : Durable) (log : List Group) → present (opened base log) ≡ fresh (stand base log)
+  pub stands : (s : Durable) → IsGoodState s → AreRecordedTexts s → s.units ≤ MOST_UNITS → is_worn s ≡ false → IsStandingNow (fresh s)

@@ -2,7 +2,6 @@
 use Rattle.std.specs.Prelude.{◌≡◌, ℕ, ◌*◌, ◌≤◌, true, List, [], filter, map}
 use Rattle.std.specs.List.{flat_map}
 use Rattle.ktm_base.specs.declared.limits.TheConstants.{MOST_UNITS}
-use Rattle.ktm_types.specs.Sizes.{log_size}
 use Rattle.ktm_world.specs.Committed.{version_of}
 use Rattle.ktm_world.specs.Durable.{Durable, after_events, changes_of, settings_of}
 use Rattle.ktm_world.specs.Files.{OwnChanges}
@@ -20,10 +19,10 @@ own_changes_back s = filter has_own_changes (map (λ t. record { transaction = t
 abbrev pub own_settings_back : Durable → List Own
 own_settings_back s = filter has_own_settings (map (λ t. record { transaction = t.id; settings = settings_of t }) (in_doubt s))
 
--- what is so once a machine started from this state and recorded its own group, with so many bytes left in the log
-abbrev pub fresh : Durable → ℕ → Present
-fresh s left = record {
-  machine = record { is_up = true; left = left };
+-- what is so once a machine started from this state and recorded its own group
+abbrev pub fresh : Durable → Present
+fresh s = record {
+  machine = record { is_up = true };
   recorded = after_events s (own_group s);
   transactions = record {
     clock = 0;
@@ -49,12 +48,12 @@ fresh s left = record {
 -- what the machine keeps of a world: it is one of a run
 pub record IsStanding (w : World) : Type 0 where
   pub running : IsRunning w
-  -- the keys that transactions have set are texts
+  -- the committed keys are texts, and so are those that transactions have set
   pub texts : AreTexts (present w)
   -- the image has a size that there is
   pub small : w.base.units ≤ MOST_UNITS
-  -- no file has more versions than twice the bytes of the log, for a work cuts a file and puts its bytes once at most, and records an event
-  pub counted : (file : ℕ) → version_of (present w).files.versions file ≤ 2 * log_size w.log
+  -- no file has more versions than twice the events, for a work cuts a file and puts its bytes once at most, and records an event
+  pub counted : (file : ℕ) → version_of (present w).files.versions file ≤ 2 * w.recorded.events
 
 -- what is so now is so in a world that stands, whatever the disk tells
 pub record IsStandingNow (x : Present) : Type 0 where

@@ -1,10 +1,10 @@
 -- What is so of a state whose files and keys have changed, and of the transactions that wait there.
-use Rattle.std.proofs.Common.{◌≡◌, ℕ, ◌<◌, ◌≤◌, ◌^◌, ◌==◌, ◌&&◌, ◌||◌, not, true, is_none, List, nat_le, subst, arith}
+use Rattle.std.proofs.Common.{◌≡◌, ℕ, ◌<◌, ◌≤◌, ◌^◌, true, List, nat_le, subst, arith}
 use Rattle.std.proofs.lemmas.Bool.{and_parts, and_from, le-leb, leb-true}
 use Rattle.std.specs.List.{list_all}
 use Rattle.ktm_base.specs.declared.id.Id.{Id}
 use Rattle.ktm_world.specs.Changes.{applies, changes_apply}
-use Rattle.ktm_world.specs.Durable.{Durable, Recorded, is_ready, is_manager, is_new_in, has_part, changes_of, is_within_limits}
+use Rattle.ktm_world.specs.Durable.{Durable, Recorded, is_manager, is_new_in, changes_of, is_within_limits}
 use Rattle.ktm_world.specs.Keys.{Store}
 use Rattle.ktm_world.specs.Tree.{Tree}
 use Rattle.txf_laws.specs.Footprint.{footprint, AreFootprintsApart}
@@ -68,7 +68,7 @@ pub Fitting-carried : (s s' : Durable) (t : Recorded) → s.boots ≡ s'.boots �
     → changes_apply s'.tree (changes_of t) ≡ true → list_all (is_new_in s'.tree) (changes_of t) ≡ true → Fitting s t → Fitting s' t
 Fitting-carried s s' t boots managers more applies new fits = record {
   core = Core-carried s s' t (omega (arith, boots)) managers more applies new fits.core;
-  ready = subst (λ b. (not (is_ready t.stage) || (t.id.boot == b && has_part t && is_none t.superior)) ≡ true) boots fits.ready;
+  ready = fits.ready;
 }
 
 -- in a state with the same files

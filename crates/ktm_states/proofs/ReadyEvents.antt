@@ -1,6 +1,6 @@
 -- Events by which a transaction gets ready, and waits for its superior.
 use Rattle.std.proofs.Common.{◌≤◌, ◌≡◌, ℕ, ◌+◌, ◌<◌, ◌^◌, ◌==◌, ◌&&◌, ◌||◌, not, Bool, true, false, cond, is_none, List, [], ◌∷◌, ◌++◌, length, nat_le, Option, Some, None, refl, sym, ◌∙◌, ap, subst, append_assoc, arith, inl, inr, ◌⊎◌}
-use Rattle.std.proofs.lemmas.Bool.{and_parts, and_from, or_cases, or_left, or_right, le-leb, leb-true, eqb-true, eq-eqb, not-true, not_from_false, true≢false}
+use Rattle.std.proofs.lemmas.Bool.{and_parts, and_from, or_cases, or_left, or_right, le-leb, leb-true, eqb-true, not-true, not_from_false, true≢false}
 use Rattle.std.proofs.lemmas.List.Folds.{list_all-append}
 use Rattle.std.specs.List.{list_all, list_any}
 use Rattle.ktm_base.specs.declared.limits.TheConstants.{MOST_INFORMATION_BYTES}
@@ -99,7 +99,7 @@ begun s id good counts may = go (recorded_or_new s.transactions id) (and_parts (
       now = now;
       alone = elim (or_cases _ _ (table.fit t there).ready) [
         | inl other ↦ absurd (true≢false (sym ready ∙ not-true _ other))
-        | inr well ↦ none-is t.superior (and_parts (t.id.boot == s.boots && has_part t) (is_none t.superior) well).1
+        | inr well ↦ none-is t.superior (and_parts (has_part t) (is_none t.superior) well).1
       ];
       stage = ready-is t.stage ready;
       beside = λ u there' other. table.beside t u there there' (λ e. other (sym e ∙ is));
@@ -195,7 +195,7 @@ module _ (s : Durable) (id : Id) (t : Recorded) (start : Begun s id t) (part : P
   Fitting-pushed : Fitting s' (pushed t part)
   Fitting-pushed = record {
     core = Core-pushed;
-    ready = or_right _ _ (and_from _ _ (and_from _ _ (eq-eqb t.id.boot s.boots (ap (λ (i : Id). i.boot) start.is ∙ start.now)) (list_any-from (λ (q : RecordedPart). true) (t.parts ++ record { is_done = false; part = part } ∷ []) _ (IsIn-right _ t.parts _ (inl refl)) refl))
+    ready = or_right _ _ (and_from _ _ (list_any-from (λ (q : RecordedPart). true) (t.parts ++ record { is_done = false; part = part } ∷ []) _ (IsIn-right _ t.parts _ (inl refl)) refl)
         (ap (λ o. is_none o) start.alone));
   }
 

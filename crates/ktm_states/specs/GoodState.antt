@@ -48,9 +48,9 @@ enlisted t = superiors_in t.superior ++ flat_map (λ p. enlisted_in p.part) t.pa
 abbrev pub has_one_part_each : Recorded → Bool
 has_one_part_each t = nat_le (count_by (λ p. is_part_of DonePart.Files p.part) t.parts) 1 && nat_le (count_by (λ p. is_part_of DonePart.Keys p.part) t.parts) 1
 
--- a transaction that is ready is of the present boot, and has a part, and no superior
-abbrev pub is_ready_well : Durable → Recorded → Bool
-is_ready_well s t = not (is_ready t.stage) || (t.id.boot == s.boots && has_part t && is_none t.superior)
+-- a transaction that is ready has a part, and no superior
+abbrev pub is_ready_well : Recorded → Bool
+is_ready_well t = not (is_ready t.stage) || (has_part t && is_none t.superior)
 
 -- a transaction that waits for its superior has one
 abbrev pub is_held_well : Recorded → Bool
@@ -106,8 +106,8 @@ pub record IsGoodState (s : Durable) : Type 0 where
   pub information_fits : list_all (λ e. nat_le (length e.information) MOST_INFORMATION_BYTES) (flat_map enlisted s.transactions) ≡ true
   -- a transaction has at most one part of the files, and one of the keys
   pub parts : list_all has_one_part_each s.transactions ≡ true
-  -- a transaction that is ready is of the present boot, and has a part, and no superior
-  pub ready : list_all (is_ready_well s) s.transactions ≡ true
+  -- a transaction that is ready has a part, and no superior
+  pub ready : list_all is_ready_well s.transactions ≡ true
   -- a transaction that is held has a superior
   pub held : list_all is_held_well s.transactions ≡ true
   -- a decided transaction has a part that is not done

@@ -11,14 +11,39 @@ use std::alloc::Global;
 
 #[derive(Drop)]
 struct Table<'a> {
-    front: &'a str,
-    last: &'a str,
+    script: &'a str,
+    then: &'a str,
     restarted: &'a str,
+    /// How many calls of the disk its last line makes.
+    calls: u64,
 }
 
-/// How many calls of the disk pass before the power goes, and the pick of the restart. What is recorded takes four calls: its
-/// body, a sync, the gate, a sync.
+/// What is recorded takes four calls of the disk: its body, a sync, the gate, a sync.
+const RECORDING: u64 = 4;
+
+/// Where the log has no room for it, six more before them, for a snapshot.
+const COMPACTION: u64 = 10;
+
+/// How many calls of the disk pass before the power goes, and the pick of the restart, where the log has room.
 const CUTS: [(u64, u64); 7] = [(0, 1), (1, 1), (2, 2), (2, 7), (3, 2), (3, 7), (4, 1)];
+
+/// Where it has none, fewer calls pass than this, each number of them.
+const MOST_PASSED: u64 = 30;
+
+/// And these are the picks.
+const PICKS: [u64; 2] = [1, 2];
+
+// The parts of a table whose last line makes so many calls.
+fn table_of(text: &str, calls: u64) -> Table<'_> {
+    let (script, rest) = text.split_once("\n\n").unwrap_or((text, ""));
+    let (then, restarted) = rest.split_once("\n\n").unwrap_or((rest, ""));
+    Table {
+        script,
+        then,
+        restarted,
+        calls,
+    }
+}
 
 // Adds what is seen after the restart by the pick, where the last line of the script was done, or was lost.
 fn add_seen(
@@ -56,11 +81,12 @@ fn add_cut(
     alloc: Global,
     transcript: &mut Transcript,
     table: &Table<'_>,
+    last: &str,
     (calls, pick): (u64, u64),
     is_done: bool,
 ) -> Result<(), NoMemory> {
-    let (line, reply) = table.last.split_once(" => ").unwrap_or((table.last, ""));
-    let (reply, crash) = if calls < 4 {
+    let (line, reply) = last.split_once(" => ").unwrap_or((last, ""));
+    let (reply, crash) = if calls < table.calls {
         ("MACHINE_DOWN", "MACHINE_DOWN")
     } else {
         (reply, "ok")
@@ -81,26 +107,29 @@ fn cut(
     at: (u64, u64),
     is_done: bool,
 ) -> Result<Transcript, NoMemory> {
-    let mut transcript = Transcript::of(alloc, table.front)?;
-    add_cut(alloc, &mut transcript, table, at, is_done)?;
+    let (front, last) = table.script.rsplit_once('\n').unwrap_or(("", table.script));
+    let mut transcript = Transcript::of(alloc, front)?;
+    add_cut(alloc, &mut transcript, table, last, at, is_done)?;
     Ok(transcript)
 }
 
-// What is not as it is wanted of a run where so many calls passed. Only behind the second call the line may be done or lost.
+// What is not as it is wanted of a run where so many calls passed. Only in the last two calls the line may be done or lost.
 fn difference(
     alloc: Global,
+    table: &Table<'_>,
     outcome: &Outcome,
     calls: u64,
     lost: &[u8],
     done: &[u8],
 ) -> Result<Option<String>, NoMemory> {
     let replies = outcome.sink.bytes();
-    let is_lost = calls < 4 && replies == lost;
-    let is_done = calls > 1 && replies == done;
+    let may_be_done = calls >= table.calls.saturating_sub(2);
+    let is_lost = calls < table.calls && replies == lost;
+    let is_done = may_be_done && replies == done;
     if outcome.status == Status::Done && (is_lost || is_done) {
         return Ok(None);
     }
-    let what = first_difference(alloc, replies, if calls < 2 { lost } else { done })?;
+    let what = first_difference(alloc, replies, if may_be_done { done } else { lost })?;
     Ok(Some(format!(in alloc; "behind {calls} calls {what}")?))
 }
 
@@ -113,27 +142,21 @@ fn found_of_cut(
     let lost = cut(alloc, table, at, false)?;
     let done = cut(alloc, table, at, true)?;
     let outcome = run_small(alloc, &lost.script)?;
-    difference(alloc, &outcome, at.0, &lost.replies, &done.replies)
+    difference(alloc, table, &outcome, at.0, &lost.replies, &done.replies)
 }
 
 // What is not as it is wanted where the power stays.
-fn found_uncut(alloc: Global, script: &str, then: &str) -> Result<Option<String>, NoMemory> {
+fn found_uncut(alloc: Global, table: &Table<'_>) -> Result<Option<String>, NoMemory> {
+    let Table { script, then, .. } = table;
     let whole = format!(in alloc; "{script}\n{then}")?;
     let (_, what) = follow(alloc, &whole, small_image(alloc)?)?;
     Ok(what)
 }
 
-/// What does not hold of the table.
+/// What does not hold of the table, for whose last line the log has room.
 pub fn found(alloc: Global, text: &str) -> Result<Option<String>, NoMemory> {
-    let (script, rest) = text.split_once("\n\n").unwrap_or((text, ""));
-    let (then, restarted) = rest.split_once("\n\n").unwrap_or((rest, ""));
-    let (front, last) = script.rsplit_once('\n').unwrap_or(("", script));
-    let table = Table {
-        front,
-        last,
-        restarted,
-    };
-    let what = found_uncut(alloc, script, then)?;
+    let table = table_of(text, RECORDING);
+    let what = found_uncut(alloc, &table)?;
     if what.is_some() {
         return Ok(what);
     }
@@ -141,6 +164,24 @@ pub fn found(alloc: Global, text: &str) -> Result<Option<String>, NoMemory> {
         let what = found_of_cut(alloc, &table, at)?;
         if what.is_some() {
             return Ok(what);
+        }
+    }
+    Ok(None)
+}
+
+/// What does not hold of the table, for whose last line the log has no room.
+pub fn found_in_compaction(alloc: Global, text: &str) -> Result<Option<String>, NoMemory> {
+    let table = table_of(text, COMPACTION);
+    let what = found_uncut(alloc, &table)?;
+    if what.is_some() {
+        return Ok(what);
+    }
+    for calls in 0..MOST_PASSED {
+        for &pick in PICKS.iter() {
+            let what = found_of_cut(alloc, &table, (calls, pick))?;
+            if what.is_some() {
+                return Ok(what);
+            }
         }
     }
     Ok(None)

@@ -1,5 +1,5 @@
 // Devices of which a call fails.
-use crate::run::{Fails, NO_FAIL, Outcome, block_of, run, small_image, text_of};
+use crate::run::{Fails, NO_FAIL, Outcome, block_of, goes_down_once, run, small_image, text_of};
 use crate::transcript::{Transcript, number_before};
 use ktm_base::NoMemory;
 use ktm_run::Status;
@@ -24,22 +24,6 @@ fn fails(device: &str, call: u64) -> Fails {
             ..NO_FAIL
         },
     }
-}
-
-// From the first reply that is not the usual one, each is MACHINE_DOWN.
-fn goes_down_once(replies: &str, usual: &str) -> bool {
-    let mut is_down = false;
-    let mut usual = usual.lines();
-    for reply in replies.lines() {
-        let Some(line) = usual.next() else {
-            return false;
-        };
-        is_down = is_down || reply != line;
-        if is_down && reply != "MACHINE_DOWN" {
-            return false;
-        }
-    }
-    usual.next().is_none()
 }
 
 // May a run end so where a call of the device failed. A sink that fails at once is found before anything is touched.

@@ -1,5 +1,5 @@
 // The bytes of images that a script leaves, and what is read of them when some are changed.
-use crate::run::{NO_FAIL, block_of, follow, run, small_image, text_of};
+use crate::run::{NO_FAIL, block_of, follow, is_bad, run, small_image, text_of};
 use crate::transcript::number_before;
 use ktm_base::NoMemory;
 use ktm_run::Status;
@@ -56,24 +56,36 @@ fn wrong_bytes(alloc: Global, image: &[u8], rows: &str) -> Result<Option<String>
     Ok(None)
 }
 
-// Changes a byte, or the length: `AT BYTE` or `len N`.
+// Changes bytes, or the length: `AT BYTE ..` or `len N`.
 fn change(image: &mut Vec<u8>, what: &str) -> Result<(), NoMemory> {
-    let (at, byte) = number_before(what);
     match what.strip_prefix("len ") {
         Some(len) => image.resize(len.parse::<usize>().unwrap_or(0), 0)?,
-        None => put(image, at as usize, byte.parse::<u8>().unwrap_or(0)),
+        None => put_at(image, what),
     }
     Ok(())
 }
 
-fn put(image: &mut [u8], at: usize, byte: u8) {
+/// Puts bytes at a place: `AT BYTE ..`.
+pub fn put_at(image: &mut [u8], what: &str) {
+    let (at, bytes) = number_before(what);
+    for (place, byte) in bytes.split(' ').enumerate() {
+        put(
+            image,
+            (at as usize).saturating_add(place),
+            byte.parse::<u8>().unwrap_or(0),
+        );
+    }
+}
+
+/// Puts a byte at a place, if the image has it.
+pub fn put(image: &mut [u8], at: usize, byte: u8) {
     if at < image.len() {
         image[at] = byte;
     }
 }
 
 /// What does not hold of a table of images. Its second part has comments, and rows of a change of the image and what a plain
-/// KvGet of "k" is answered then.
+/// KvGet of "k" is answered then, or that the image is bad, which whatever opens it then says.
 pub fn found(alloc: Global, table: &str) -> Result<Option<String>, NoMemory> {
     let (script, rows) = table.split_once("\n\n").unwrap_or((table, ""));
     let (left, what) = follow(alloc, script, small_image(alloc)?)?;
@@ -101,13 +113,11 @@ fn wrong_row(alloc: Global, image: &[u8], rows: &str) -> Result<Option<String>, 
 fn is_answered(alloc: Global, image: &[u8], what: &str, reply: &str) -> Result<bool, NoMemory> {
     let mut image = image.to_vec(alloc)?;
     change(&mut image, what)?;
-    let status = if reply.starts_with("bad image") {
-        Status::BadImage
-    } else {
-        Status::Done
-    };
+    if reply.starts_with("bad image") {
+        return is_bad(alloc, &image, reply);
+    }
     let block = block_of(alloc, &image, 0)?;
     let outcome = run(alloc, b"p1 KvGet - \"k\"", block, NO_FAIL)?;
     let replies = text_of(outcome.sink.bytes());
-    Ok(outcome.status == status && replies.lines().next() == Some(reply))
+    Ok(outcome.status == Status::Done && replies.lines().next() == Some(reply))
 }

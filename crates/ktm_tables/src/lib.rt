@@ -2,8 +2,11 @@
 //!
 //! - `rows`: runs one after another on one image, which has 16 units at first; and `blank`, where it has no byte at first.
 //! - `cuts`: a script whose last line records something, and what is seen where the power goes in that line.
+//! - `compactions`: the same of a line for which the log has no room.
 //! - `bytes`: the bytes of an image that a script leaves.
 //! - `images`: what is read of an image that a script leaves, where some of its bytes are changed.
+//! - `snapshots`: a snapshot of a state, and what is read of it where pieces of it are others.
+//! - `dumps`: what is left of an image where the power goes in each call of the disk, at some places of a script.
 //! - `faults`: a script that is run with the first, the second, and so on to the last call of a device failing.
 //! - `forms`: command lines of every form one after another on one image, which has no byte at first, and what each writes.
 //!
@@ -11,10 +14,12 @@
 #![tactic(auto)]
 
 mod cuts;
+mod dumps;
 mod faults;
 mod forms;
 mod images;
 mod run;
+mod snapshots;
 mod transcript;
 
 use crate::run::{NO_FAIL, blank, first_difference, follow, run, small_image};
@@ -29,8 +34,11 @@ pub fn found(alloc: Global, kind: &str, table: &str) -> Result<Option<String>, N
         "rows" => runs(alloc, table, small_image(alloc)?),
         "blank" => runs(alloc, table, blank(alloc)?),
         "cuts" => cuts::found(alloc, table),
+        "compactions" => cuts::found_in_compaction(alloc, table),
         "bytes" => images::bytes_found(alloc, table),
         "images" => images::found(alloc, table),
+        "snapshots" => snapshots::found(alloc, table),
+        "dumps" => dumps::found(alloc, table),
         "faults" => faults::found(alloc, table),
         "forms" => forms::found(alloc, table),
         _ => Ok(Some(String::from_str(alloc, "a table of no kind")?)),

@@ -135,6 +135,56 @@ pub fn text_of(bytes: &[u8]) -> &str {
     str::from_utf8(bytes).unwrap_or("no text")
 }
 
+/// The command lines that open an image.
+const OPENING: [&str; 3] = ["run image script", "dump image", "gen image 1 1"];
+
+/// A script for the run among them.
+const SCRIPT: &[u8] = b"p1 KvList -";
+
+/// Is this line all that comes of opening the image, in each way.
+pub fn is_bad(alloc: Global, image: &[u8], line: &str) -> Result<bool, NoMemory> {
+    for &opening in OPENING.iter() {
+        let block = block_of(alloc, image, 0)?;
+        let outcome = run_line(alloc, opening, SCRIPT, block, NO_FAIL)?;
+        let is_said = text_of(outcome.sink.bytes()).strip_suffix('\n') == Some(line);
+        if outcome.status != Status::BadImage || !is_said || outcome.block.bytes() != image {
+            return Ok(false);
+        }
+    }
+    Ok(true)
+}
+
+/// Can the image be opened in each way.
+pub fn opens(alloc: Global, image: &[u8]) -> Result<bool, NoMemory> {
+    for &opening in OPENING.iter() {
+        let block = block_of(alloc, image, 0)?;
+        let outcome = run_line(alloc, opening, SCRIPT, block, NO_FAIL)?;
+        if outcome.status != Status::Done {
+            return Ok(false);
+        }
+    }
+    Ok(true)
+}
+
+/// Are the replies the usual ones up to the call in which the power goes, and MACHINE_DOWN from there on up to a restart. Behind
+/// that they may be any.
+pub fn goes_down_once(replies: &str, usual: &str) -> bool {
+    let mut is_down = false;
+    let mut is_back = false;
+    let mut usual = usual.lines();
+    for reply in replies.lines() {
+        let Some(line) = usual.next() else {
+            return false;
+        };
+        is_down = is_down || reply != line;
+        is_back = is_back || (is_down && reply.starts_with("restarted "));
+        if is_down && !is_back && reply != "MACHINE_DOWN" {
+            return false;
+        }
+    }
+    usual.next().is_none()
+}
+
 fn told_reply(alloc: Global, place: usize, reply: &str, wanted: &str) -> Result<String, NoMemory> {
     Ok(format!(in alloc; "reply {place} is {reply:.99}, not {wanted:.99}")?)
 }

@@ -1,6 +1,7 @@
 // Scripts with the replies that are wanted.
 use ktm_base::NoMemory;
 use std::alloc::Global;
+use std::mem::replace;
 
 #[derive(Drop)]
 pub struct Transcript {
@@ -114,6 +115,13 @@ impl Transcript {
             }
         }
         Ok(())
+    }
+
+    /// No script, and these rows as what is written.
+    pub fn written(alloc: Global, rows: &str) -> Result<Self, NoMemory> {
+        let mut written = Transcript::of(alloc, rows)?;
+        written.replies = replace(&mut written.script, Vec::new(alloc));
+        Ok(written)
     }
 
     /// The lines and replies of these rows.

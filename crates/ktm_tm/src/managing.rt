@@ -5,11 +5,13 @@ ghost use Rattle.ktm_world.specs.Durable.{is_before};
 ghost use Rattle.ktm_world.specs.Enlistments.{is_durable_at, manager_at};
 ghost use Rattle.ktm_world.specs.Outcome.{served};
 ghost use Rattle.ktm_world.specs.TransactionCalls.{no_manager_left};
+ghost use Rattle.ktm_manager.specs.Durable.{durable_in};
 ghost use Rattle.ktm_manager.specs.Managers.{first_of, note_of};
 ghost use Rattle.ktm_tm.specs.TmState.{id_after, KeepsNow, KeepsRoom};
 
 use crate::tm::Tm;
 use ktm_base::{Id, MOST_LIVE, MOST_NUMBER, NoMemory};
+use ktm_manager::DurableManagers;
 use ktm_notify::Note;
 
 impl Tm {
@@ -32,6 +34,13 @@ impl Tm {
         ensures { result ≡ is_durable_at self.now.managers id }
     {
         self.managers.is_durable(id)
+    }
+
+    /// The Ids of the durable ones, one after another, by rising Id.
+    pub fn durable_managers(&self) -> DurableManagers<'_>
+        ensures { result ≡ durable_in self.now.managers }
+    {
+        self.managers.durable()
     }
 
     /// The first notification that waits for the resource manager.

@@ -3,4 +3,5 @@ pub mod Traces
 pub mod Contents
 pub mod Joined
 pub mod Recordings
+pub mod Lent
 pub mod Few

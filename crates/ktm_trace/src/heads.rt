@@ -78,6 +78,12 @@ impl Heads {
         })
     }
 
+    pub(crate) fn as_slice(&self) -> &[Head]
+        ensures { result.now ≡ self.now.heads }
+    {
+        &self.items
+    }
+
     /// Makes room for one transaction more.
     pub(crate) fn reserve_one(&mut self) -> Result<(), NoMemory>
         ensures room { OnOk result (length self.new.heads < self.new.capacity) }

@@ -5,11 +5,15 @@
 mod heads;
 mod laws;
 mod marks;
+mod parts;
 mod recording;
 mod room;
 mod trace;
+mod transactions;
 
 pub use laws::{law_of_contents, law_of_few, law_of_kept, law_of_traces};
+pub use parts::{PartRef, Parts};
 pub use recording::Recording;
 pub use room::{MOST_LIVE_PARTS, MOST_NOTED};
 pub use trace::Trace;
+pub use transactions::{TransactionRef, Transactions};

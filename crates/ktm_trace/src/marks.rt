@@ -92,6 +92,12 @@ impl Marks {
         })
     }
 
+    pub(crate) fn as_slice(&self) -> &[Mark]
+        ensures { result.now ≡ self.now.marks }
+    {
+        &self.items
+    }
+
     /// Makes room for so many parts more.
     pub(crate) fn reserve(&mut self, many: usize) -> Result<(), NoMemory>
         ensures room { OnOk result (length self.new.marks + many ≤ self.new.capacity) }

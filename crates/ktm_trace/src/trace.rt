@@ -11,6 +11,7 @@ use crate::heads::{Head, Heads};
 use crate::marks::{Mark, Marks};
 use crate::recording::Recording;
 use crate::room::{MOST_HEADS, MOST_MARKS, MOST_NOTED};
+use crate::transactions::Transactions;
 use ktm_base::{Id, NoMemory};
 use ktm_types::{DonePart, Fact, Stage, Step, Superior};
 use ktm_world::Recorded;
@@ -85,6 +86,13 @@ impl Trace {
             trace.add(transaction)?;
         }
         Ok(trace)
+    }
+
+    /// The transactions, one after another, by rising Id.
+    pub fn transactions(&self) -> Transactions<'_>
+        ensures { result ≡ self.now }
+    {
+        Transactions::new(self.heads.as_slice(), self.marks.as_slice())
     }
 
     // Brings a transaction of the log back, with its parts, where there is memory for it. It takes none while few are there.

@@ -151,7 +151,7 @@ known-out a ts id rises all = go (recorded_at ts id) refl
     go (Some t) found = subst (IsOut a ts id) (sym (or-new ts id ∙ ap (or_new id) found)) (taken-out a ts id t rises all found)
 
 -- one comes that was not there
-put-in : (a : Amounts) (us : List Recorded) (t : Recorded) (b : Amounts) → TakeTogether a us → recorded_at us t.id ≡ None → IsAmountOf b t → TakeTogether (plus b a) (with_recorded us t)
+pub put-in : (a : Amounts) (us : List Recorded) (t : Recorded) (b : Amounts) → TakeTogether a us → recorded_at us t.id ≡ None → IsAmountOf b t → TakeTogether (plus b a) (with_recorded us t)
 put-in a [] t b all none is = (b, nothing, is, refl, ap (plus b) all)
 put-in a (x ∷ us) t b (d, c, this, rest, sum) none is = elim (cases_Bool (same_id x.id t.id)) [
   | inl same ↦ absurd (none-some x (sym (rw same at none)))

@@ -219,8 +219,8 @@ pub(crate) fn added_by_superior(transaction: &Recorded) -> u128
     1 - count_superiors(&transaction.superior)
 }
 
-// How many enlistments a transaction has, the superior's included.
-pub(crate) fn enlistments_of(transaction: &Recorded) -> u128
+/// How many enlistments a transaction has, the superior's included.
+pub fn enlistments_of(transaction: &Recorded) -> u128
     ensures { result ≡ length (enlistments_of transaction.now) }
 {
     count_superiors(&transaction.superior) + count_enlistments(&transaction.parts) as u128

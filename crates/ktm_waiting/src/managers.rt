@@ -9,7 +9,7 @@ use std::alloc::Global;
 use std::marker::Model;
 
 /// Does the first Id come before the second: by its boot, and then by its number.
-pub(crate) fn is_before(a: Id, b: Id) -> bool
+pub fn is_before(a: Id, b: Id) -> bool
     ensures { result ≡ is_before a b }
 {
     a.boot < b.boot || (a.boot == b.boot && a.number < b.number)

@@ -11,7 +11,8 @@ use ktm_types::{Change, DonePart, Part, RecordedPart, Setting, Stage};
 use std::alloc::Global;
 use std::mem::replace;
 
-pub(crate) fn is_ready(stage: Stage) -> bool
+/// Are parts of a transaction in this stage ready, and is it neither held nor decided.
+pub fn is_ready(stage: Stage) -> bool
     ensures { result ≡ is_ready stage }
 {
     match stage {
@@ -20,7 +21,8 @@ pub(crate) fn is_ready(stage: Stage) -> bool
     }
 }
 
-pub(crate) fn is_held(stage: Stage) -> bool
+/// Does a transaction in this stage wait for its superior.
+pub fn is_held(stage: Stage) -> bool
     ensures { result ≡ is_held stage }
 {
     match stage {
@@ -29,7 +31,8 @@ pub(crate) fn is_held(stage: Stage) -> bool
     }
 }
 
-pub(crate) fn is_decided(stage: Stage) -> bool
+/// Is it decided that a transaction in this stage commits.
+pub fn is_decided(stage: Stage) -> bool
     ensures { result ≡ is_decided stage }
 {
     match stage {
@@ -58,8 +61,8 @@ pub(crate) fn settings_in(part: &Part) -> &[Setting]
     }
 }
 
-// Is the part that of this participant.
-fn is_part_of(done: DonePart, part: &Part) -> bool
+/// Is the part that of this participant.
+pub fn is_part_of(done: DonePart, part: &Part) -> bool
     ensures { result ≡ is_part_of done part.now }
 {
     match (done, part) {
@@ -77,14 +80,14 @@ fn part_of(parts: &[RecordedPart], done: DonePart) -> Option<&RecordedPart>
 }
 
 /// Is the part of this participant there.
-pub(crate) fn has_part_of(parts: &[RecordedPart], done: DonePart) -> bool
+pub fn has_part_of(parts: &[RecordedPart], done: DonePart) -> bool
     ensures { result ≡ list_any (λ p. is_part_of done p.part) parts.now }
 {
     parts.iter().any(|p| is_part_of(done, &p.part))
 }
 
 /// The changes of the parts, of which one has any.
-pub(crate) fn changes_of(parts: &[RecordedPart]) -> &[Change]
+pub fn changes_of(parts: &[RecordedPart]) -> &[Change]
     requires { count_by (λ p. is_part_of DonePart.Files p.part) parts.now ≤ 1 }
     ensures { result.now ≡ flat_map (λ p. changes_in p.part) parts.now }
 {
@@ -95,7 +98,7 @@ pub(crate) fn changes_of(parts: &[RecordedPart]) -> &[Change]
 }
 
 /// The settings of the parts, of which one has any.
-pub(crate) fn settings_of(parts: &[RecordedPart]) -> &[Setting]
+pub fn settings_of(parts: &[RecordedPart]) -> &[Setting]
     requires { count_by (λ p. is_part_of DonePart.Keys p.part) parts.now ≤ 1 }
     ensures { result.now ≡ flat_map (λ p. settings_in p.part) parts.now }
 {
@@ -115,14 +118,14 @@ pub(crate) fn has_undone_part_of(parts: &[RecordedPart], done: DonePart) -> bool
 }
 
 /// Is a part not done.
-pub(crate) fn has_undone_part(parts: &[RecordedPart]) -> bool
+pub fn has_undone_part(parts: &[RecordedPart]) -> bool
     ensures { result ≡ list_any (λ p. not p.is_done) parts.now }
 {
     parts.iter().any(|p| !p.is_done)
 }
 
 /// Is there a part.
-pub(crate) fn has_part(parts: &[RecordedPart]) -> bool
+pub fn has_part(parts: &[RecordedPart]) -> bool
     ensures { result ≡ list_any (λ p. true) parts.now }
 {
     match parts {

@@ -1,5 +1,5 @@
 // The transactions that are not over, and what they take together.
-ghost use Rattle.std.specs.Prelude.{◌≡◌, ◌-◌, ◌&&◌, ◌||◌, Ok, [], Some, not, false, true, filter, length};
+ghost use Rattle.std.specs.Prelude.{◌≡◌, ◌-◌, ◌&&◌, ◌||◌, Ok, [], None, Some, not, false, true, filter, length};
 ghost use Rattle.std.specs.List.{list_all, list_any};
 ghost use Rattle.std.specs.Option.{option_copied};
 ghost use Rattle.ktm_world.specs.Changes.{changes_apply, has_changes};
@@ -188,6 +188,24 @@ impl Transactions {
         let taken = without_ready(files, self.taken, self.table.as_slice());
         self.table.forget_ready();
         self.taken = taken;
+    }
+
+    /// Puts a transaction at its place, where there is none with its Id. It answers false where no image has room for what they
+    /// would take. Where memory is wanted they stay as they were.
+    pub fn add(&mut self, files: &DurableFiles, transaction: Recorded) -> Result<bool, NoMemory>
+        requires kept { IsWaitingKept (tree_of files.now.tree) transaction }
+        requires new { recorded_at self.old.transactions transaction.id ≡ None }
+        ensures added { result ≡ Ok true → self.new.transactions ≡ with_recorded self.old.transactions transaction }
+        ensures refused { result ≡ Ok false → PassImages (with_recorded self.old.transactions transaction) }
+    {
+        let Some(taken) = plus(amounts_of(files, &transaction), self.taken) else {
+            drop(transaction);
+            return Ok(false);
+        };
+        self.table.reserve()?;
+        self.table.put(transaction);
+        self.taken = taken;
+        Ok(true)
     }
 
     /// The transaction has one part more that is ready. It answers false where no image has room for what they would take. Out of

@@ -5,6 +5,7 @@ use Rattle.ktm_base.specs.declared.id.Pid.{Pid}
 use Rattle.ktm_base.specs.declared.refusal.Refusal.{Refusal}
 use Rattle.ktm_kernel.specs.Answers.{CallLeaves, IsAsItWas}
 use Rattle.ktm_kernel.specs.Stands.{KernelAt, KernelState}
+use Rattle.ktm_laws.specs.Running.{HasEventsLeft}
 use Rattle.ktm_log.specs.OnDisk.{OnDisk}
 use Rattle.ktm_types.specs.declared.command.Command.{Command}
 use Rattle.ktm_types.specs.declared.reply.Reply.{Reply}
@@ -75,5 +76,5 @@ pub record Commits (process : Pid) (command : Command) (old new : OnDisk KernelS
 
 -- so it is around every call
 abbrev pub WorksLaw : Type 0
-WorksLaw = (process : Pid) (command : Command) (old new : OnDisk KernelState) (answer : Result Reply NoMemory) → CallLeaves process command old new answer → OnErr answer (IsAsItWas old.it new.it)
-    → Commits process command old new answer
+WorksLaw = (process : Pid) (command : Command) (old new : OnDisk KernelState) (answer : Result Reply NoMemory) → HasEventsLeft old.it.now → CallLeaves process command old new answer
+    → OnErr answer (IsAsItWas old.it new.it) → Commits process command old new answer

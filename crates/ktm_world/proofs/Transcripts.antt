@@ -2,14 +2,14 @@
 use Rattle.std.specs.Prelude.{Contains}
 use Rattle.std.proofs.Common.{◌≡◌, ℕ, ◌+◌, ◌-◌, ◌≤◌, Bool, true, false, cond, List, [], ◌∷◌, length, get_or, Option, None, Some, refl, ◌∙◌, ap, subst, arith, length-drop}
 use Rattle.std.proofs.lemmas.List.{get_or-drop, get_or-map, length-map}
-use Rattle.ktm_base.specs.declared.refusal.Refusal.TheVariants.{MachineDown, MachineUp, LogFull}
+use Rattle.ktm_base.specs.declared.refusal.Refusal.TheVariants.{MachineDown, MachineUp, ImageWorn}
 use Rattle.ktm_types.specs.declared.command.Line.{Line}
 use Rattle.ktm_types.specs.declared.command.Line.TheVariants.{Tick, Cut, Crash, Restart, Process}
 use Rattle.ktm_types.specs.declared.reply.Reply.TheVariants.{Refused, Done, Restarted}
-use Rattle.ktm_world.specs.Transcript.{answered, found, full, CrashDoes, StartDoes, RestartDoes, Transcript}
+use Rattle.ktm_world.specs.Transcript.{answered, found, worn, CrashDoes, StartDoes, RestartDoes, Transcript}
 use Rattle.ktm_world.specs.Logs.{Group, Power, up, down, is_up, possible_by, prefixes, prefixes_from}
 use Rattle.ktm_world.specs.Scripts.{says, restarts, answer, answers}
-use Rattle.ktm_world.specs.World.{World, crashed, opened, possible_logs, is_full_to_open, found_full, in_doubt}
+use Rattle.ktm_world.specs.World.{World, crashed, opened, possible_logs, is_worn_log, found_worn, in_doubt}
 use Rattle.ktm_world.specs.Durable.{stand}
 use Rattle.ktm_world.specs.Laws.{MayFindAll, RestartsMayFindAll, TranscriptLaw, steps_of}
 
@@ -44,16 +44,16 @@ crash_does : (on : Bool) (w : World) → let a = cond on (says Done (crashed w))
 crash_does true w = (refl, refl)
 crash_does false w = (refl, refl)
 
-start_does : (b : Bool) (w : World) → is_full_to_open w w.log ≡ b → Contains (possible_logs w) w.log
-    → let s = stand w.base w.log in let a = cond b (says (Refused LogFull) (found_full w w.log)) (says (Restarted s.events (length (in_doubt s))) (opened w.base w.room w.log)) in
-    StartDoes w (cond b (full w.log) (found w.log)) a.reply a.world
-start_does true w room possible = (record { possible = possible; room = room }, refl, refl)
-start_does false w room possible = (record { possible = possible; room = room }, refl, refl)
+start_does : (b : Bool) (w : World) → is_worn_log w w.log ≡ b → Contains (possible_logs w) w.log
+    → let s = stand w.base w.log in let a = cond b (says (Refused ImageWorn) (found_worn w w.log)) (says (Restarted s.events (length (in_doubt s))) (opened w.base w.log)) in
+    StartDoes w (cond b (worn w.log) (found w.log)) a.reply a.world
+start_does true w is possible = (record { possible = possible; worn = is }, refl, refl)
+start_does false w is possible = (record { possible = possible; worn = is }, refl, refl)
 
 restart_does : (on : Bool) (w : World) → MayFindAll on w
-    → let a = cond on (says (Refused MachineUp) w) (restarts w) in RestartDoes on w (cond on answered (cond (is_full_to_open w w.log) (full w.log) (found w.log))) a.reply a.world
+    → let a = cond on (says (Refused MachineUp) w) (restarts w) in RestartDoes on w (cond on answered (cond (is_worn_log w w.log) (worn w.log) (found w.log))) a.reply a.world
 restart_does true w may = (refl, refl)
-restart_does false w may = start_does (is_full_to_open w w.log) w refl may
+restart_does false w may = start_does (is_worn_log w w.log) w refl may
 
 transcript_of : (w : World) (lines : List (Option Line)) → RestartsMayFindAll w lines → (new : World) × Transcript w lines (steps_of w lines) (answers w lines) new
 transcript_of w [] may = (w, refl)

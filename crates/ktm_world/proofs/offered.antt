@@ -1,5 +1,4 @@
 -- Lemmas that other crates cite.
-pub mod SizeLemmas
 pub mod Durables
 pub mod KeyLemmas
 pub mod Worlds

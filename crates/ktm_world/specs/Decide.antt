@@ -12,7 +12,7 @@ use Rattle.ktm_types.specs.declared.event.Event.{Event}
 use Rattle.ktm_types.specs.declared.event.Event.TheVariants.{Plain}
 use Rattle.ktm_types.specs.declared.object.Object.{Object}
 use Rattle.ktm_types.specs.declared.reply.Reply.TheVariants.{Done}
-use Rattle.ktm_world.specs.Outcome.{first_refusal, Outcome, only_reply, refuse_or, within_log}
+use Rattle.ktm_world.specs.Outcome.{first_refusal, Outcome, only_reply, refuse_or}
 use Rattle.ktm_world.specs.Enlistments.{is_live_enlistment, owes_pre_prepare, owes_prepare, owes_commit, owes_rollback}
 use Rattle.ktm_world.specs.FileCalls.{create_file_tests, create_file, read_file_tests, read_file, write_access_test, write_file_tests, write_file, set_end_tests, set_end, get_size, flush_file, delete_file_tests, delete_file, create_directory_tests, create_directory, remove_directory_tests, remove_directory, move_file_tests, move_file, find_files_tests, find_files}
 use Rattle.ktm_world.specs.FileOutcome.{FileOutcome, works_of, openings_of, table_after}
@@ -199,14 +199,10 @@ command_tests x process command = (call_of x process command).0
 abbrev pub command_effect : Present → Pid → Command → Outcome
 command_effect x process command = (call_of x process command).1
 
--- the refusal of a command, if it has one beside that of a full log
+-- the refusal of a command, if it has one
 abbrev pub refusal_of : Present → Pid → Command → Option Refusal
 refusal_of x process command = first_refusal ((not x.machine.is_up, MachineDown) ∷ command_tests x process command)
 
--- what a command does where the log has room
-abbrev pub with_room : Present → Pid → Command → Outcome
-with_room x process command = refuse_or x (refusal_of x process command) (command_effect x process command)
-
 -- a command is decided once, on what is so now
 abbrev pub decide : Present → Pid → Command → Outcome
-decide x process command = within_log x (with_room x process command)
+decide x process command = refuse_or x (refusal_of x process command) (command_effect x process command)

@@ -386,6 +386,10 @@ is_within_limits s =
     nat_le (units_in_use s) s.units && nat_le (nodes_in_use s) s.units && nat_le (keys_in_use s) s.units && nat_le (changes_in_wait s) s.units
     && nat_le (length s.transactions) MOST_LIVE && nat_le (enlistments_in_use s) MOST_LIVE && nat_le (length s.managers) MOST_LIVE
 
+-- is the state worn: the count of its boots, or that of its events, is so near its end that no machine starts from it
+abbrev pub is_worn : Durable → Bool
+is_worn s = nat_le (2 ^ 32 - 2) s.boots || nat_le (2 ^ 62) s.events
+
 -- does an event apply: the limits hold then, and there are fewer than 2^63 events
 abbrev pub event_applies : Durable → Event → Bool
 event_applies s event = fact_applies s event && is_within_limits (fact_of s event) && nat_lt (s.events + 1) (2 ^ 63)

@@ -8,7 +8,7 @@ use Rattle.ktm_base.specs.Names.{IsName, IsPath, IsPattern}
 use Rattle.ktm_types.specs.declared.command.Command.{Command}
 use Rattle.ktm_types.specs.declared.command.Line.{Line}
 use Rattle.ktm_types.specs.declared.command.Line.TheVariants.{Restart}
-use Rattle.ktm_world.specs.Transcript.{Step, answered, found, full, Transcript}
+use Rattle.ktm_world.specs.Transcript.{Step, answered, found, worn, Transcript}
 use Rattle.ktm_world.specs.Logs.{Group, is_up}
 use Rattle.ktm_world.specs.Decide.{decide, refusal_of, of_files, opening}
 use Rattle.ktm_world.specs.Durable.{Durable}
@@ -18,7 +18,7 @@ use Rattle.ktm_world.specs.Paths.{is_name, path_of, pattern_of}
 use Rattle.ktm_world.specs.Present.{Present}
 use Rattle.ktm_world.specs.Scripts.{answer, answers}
 use Rattle.ktm_world.specs.Uses.{file_room, is_over_quota, is_over_disk}
-use Rattle.ktm_world.specs.World.{World, OpenedAfter, present, extend, after, decide_tick, is_full_to_open, opened, possible_logs, crashed}
+use Rattle.ktm_world.specs.World.{World, OpenedAfter, present, extend, after, decide_tick, is_worn_log, opened, possible_logs, crashed}
 
 -- each first open was made after works that the world has
 pub record FirstOpensLieWithin (w : World) : Type 0 where
@@ -33,10 +33,10 @@ StepLaw = ((w : World) (o : Outcome) → FirstOpensLieWithin w → present (exte
 
 -- the first opens lie within the works of every world of a run: of one that a restart opens, and after every outcome
 abbrev pub FirstOpensLaw : Type 0
-FirstOpensLaw = ((base : Durable) (room : ℕ) (log : List Group) → FirstOpensLieWithin (opened base room log))
+FirstOpensLaw = ((base : Durable) (log : List Group) → FirstOpensLieWithin (opened base log))
     × ((w : World) (o : Outcome) → FirstOpensLieWithin w → FirstOpensLieWithin (extend w o))
 
--- a command that is refused, but for a full log, leaves the world as it was, and so does the passing of time on a machine that is down
+-- a command that is refused leaves the world as it was, and so does the passing of time on a machine that is down
 abbrev pub RefusalLaw : Type 0
 RefusalLaw = ((w : World) (process : Pid) (command : Command) (refusal : Refusal) → refusal_of (present w) process command ≡ Some refusal → after w process command ≡ w)
     × ((w : World) (ms : ℕ) → is_up w.power ≡ false → extend w (decide_tick (present w) ms) ≡ w)
@@ -54,9 +54,9 @@ PathLaw = ((name : List ℕ) → (is_name name ≡ true) ↔ IsName name)
     × ((text : List ℕ) (names : List (List ℕ)) → (path_of text ≡ Some names) ↔ IsPath names text)
     × ((text : List ℕ) (directory : List (List ℕ)) (last : List ℕ) → (pattern_of text ≡ Some (record { directory = directory; last = last })) ↔ IsPattern directory last text)
 
--- the step by which a line comes to its answer: a restart of a machine that is down finds all that was recorded, with room or without
+-- the step by which a line comes to its answer: a restart of a machine that is down finds all that was recorded
 abbrev pub step_of : World → Option Line → Step
-step_of w (Some (Restart pick)) = if is_up w.power then answered else (if is_full_to_open w w.log then full w.log else found w.log)
+step_of w (Some (Restart pick)) = if is_up w.power then answered else (if is_worn_log w w.log then worn w.log else found w.log)
 step_of w _ = answered
 
 -- the steps by which the lines of a script come to their answers

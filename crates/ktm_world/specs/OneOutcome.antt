@@ -17,11 +17,11 @@ use Rattle.ktm_types.specs.declared.object.TransactionOutcome.{TransactionOutcom
 use Rattle.ktm_types.specs.declared.reply.Reply.{Reply}
 use Rattle.ktm_types.specs.declared.reply.Reply.TheVariants.{Refused, Committed, Information, Notification}
 use Rattle.ktm_world.specs.Handles.{object_at, transaction_id}
-use Rattle.ktm_world.specs.Transcript.{Step, answered, interrupted, found, full}
+use Rattle.ktm_world.specs.Transcript.{Step, answered, interrupted, found, worn}
 use Rattle.ktm_world.specs.Logs.{is_up}
 use Rattle.ktm_world.specs.Decide.{decide}
 use Rattle.ktm_world.specs.Outcome.{Outcome}
-use Rattle.ktm_world.specs.World.{World, present, extend, decide_tick, crashed, interrupted_by, interrupted_restart, found_full, opened}
+use Rattle.ktm_world.specs.World.{World, present, extend, decide_tick, crashed, interrupted_by, interrupted_restart, found_worn, opened}
 
 -- a transaction is told to have committed, or to have rolled back
 pub record Telling : Type 0 where
@@ -115,8 +115,8 @@ crash_goes false w = w
 abbrev pub restart_goes : World → Step → World
 restart_goes w answered = w
 restart_goes w interrupted = interrupted_restart w
-restart_goes w (found log) = opened w.base w.room log
-restart_goes w (full log) = found_full w log
+restart_goes w (found log) = opened w.base log
+restart_goes w (worn log) = found_worn w log
 
 -- the world after a line that came by this step
 abbrev pub goes : World → Option Line → Step → World

@@ -1,18 +1,14 @@
 -- What a command does, as data, and what it makes of what is so now.
-use Rattle.std.specs.Prelude.{◌-◌, ◌&&◌, ◌||◌, not, Bool, true, false, List, [], ◌∷◌, ◌++◌, map, filter, drop, Option, Some, None, if◌then◌else◌}
+use Rattle.std.specs.Prelude.{not, Bool, List, [], ◌∷◌, ◌++◌, map, filter, drop, Option, Some, None, if◌then◌else◌}
 use Rattle.std.specs.List.{list_any}
 use Rattle.ktm_base.specs.declared.id.Id.{Id}
 use Rattle.ktm_base.specs.declared.refusal.Refusal.{Refusal}
-use Rattle.ktm_base.specs.declared.refusal.Refusal.TheVariants.{LogFull}
 use Rattle.ktm_types.specs.declared.event.Event.{Event}
 use Rattle.ktm_types.specs.declared.object.Handle.{Handle}
 use Rattle.ktm_types.specs.declared.reply.Reply.{Reply}
 use Rattle.ktm_types.specs.declared.reply.Reply.TheVariants.{Refused}
 use Rattle.ktm_world.specs.Keys.{Own}
-use Rattle.ktm_types.specs.Sizes.{log_size}
-pub use Rattle.ktm_types.specs.Groups.{is_full}
 use Rattle.ktm_world.specs.Transactions.{same_id}
-use Rattle.ktm_world.specs.Logs.{as_groups}
 use Rattle.ktm_world.specs.Committed.{Committed, Work, committed_with}
 use Rattle.ktm_world.specs.Durable.{after_events}
 use Rattle.ktm_world.specs.Enlistments.{Manager, Sent, notes_for, taken_count}
@@ -40,8 +36,6 @@ pub record Outcome : Type 0 where
   pub table : FileTable
   pub own : List Own
   pub handles : List Handle
-  -- the machine is down then
-  pub stops : Bool
 
 -- nothing changes
 abbrev pub only_reply : Present → Reply → Outcome
@@ -58,7 +52,6 @@ only_reply x reply = record {
   table = x.files.table;
   own = x.keys.own;
   handles = x.handles;
-  stops = false;
 }
 
 -- ---- what an outcome makes of what is so now
@@ -82,10 +75,7 @@ first_opens_after x o = filter (λ f. not (is_forgotten o.forgotten f.transactio
 -- what is so after an outcome
 abbrev pub apply : Present → Outcome → Present
 apply x o = record {
-  machine = record x.machine {
-    is_up = x.machine.is_up && not o.stops;
-    left = x.machine.left - log_size (as_groups o.events);
-  };
+  machine = x.machine;
   recorded = after_events x.recorded o.events;
   transactions = o.transactions;
   managers = map (served o.took o.sent) (x.managers ++ o.made);
@@ -109,7 +99,6 @@ joined a b = record {
   table = b.table;
   own = b.own;
   handles = b.handles;
-  stops = a.stops || b.stops;
 }
 
 -- one outcome, and then what a second command does on what is so then; the first one answers
@@ -127,7 +116,3 @@ first_refusal (test ∷ tests) = if test.0 then Some test.1 else first_refusal t
 abbrev pub refuse_or : Present → Option Refusal → Outcome → Outcome
 refuse_or x (Some refusal) effect = only_reply x (Refused refusal)
 refuse_or x None effect = effect
-
--- the outcome, where the log has room for its events; else nothing changes but that the machine is down
-abbrev pub within_log : Present → Outcome → Outcome
-within_log x o = if is_full x.machine.left o.events then record (only_reply x (Refused LogFull)) { stops = true } else o

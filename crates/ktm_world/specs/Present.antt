@@ -7,11 +7,9 @@ use Rattle.ktm_world.specs.Keys.{KeysNow}
 use Rattle.ktm_world.specs.Enlistments.{Enlistment, Manager}
 use Rattle.ktm_world.specs.Files.{FilesNow}
 
--- the machine itself, and the room in its log
+-- the machine itself
 pub record Machine : Type 0 where
   pub is_up : Bool
-  -- how many bytes are left in the log
-  pub left : ℕ
 
 -- the clock, and the transactions with their enlistments
 pub record Transactions : Type 0 where

@@ -5,19 +5,18 @@ use Rattle.ktm_base.specs.declared.id.Label.{Label}
 use Rattle.ktm_base.specs.declared.id.ObjectKind.{ObjectKind}
 use Rattle.ktm_base.specs.declared.id.Pid.{Pid}
 use Rattle.ktm_base.specs.declared.notify.Notify.{Notify}
-use Rattle.ktm_base.specs.declared.refusal.Refusal.TheVariants.{BadLine, MachineDown, MachineUp, LogFull}
+use Rattle.ktm_base.specs.declared.refusal.Refusal.TheVariants.{BadLine, MachineDown, MachineUp, ImageWorn}
 use Rattle.ktm_base.specs.Guid.{guid_of}
 use Rattle.ktm_types.specs.declared.command.Command.{Command}
 use Rattle.ktm_types.specs.declared.command.Line.{Line}
 use Rattle.ktm_types.specs.declared.command.Line.TheVariants.{Tick, Cut, Crash, Restart, Process}
 use Rattle.ktm_types.specs.declared.reply.Reply.{Reply}
 use Rattle.ktm_types.specs.declared.reply.Reply.TheVariants.{Refused, Done, Notification, Restarted}
-use Rattle.ktm_types.specs.Sizes.{area_len}
 use Rattle.ktm_world.specs.Logs.{is_up}
 use Rattle.ktm_world.specs.Decide.{decide}
 use Rattle.ktm_world.specs.Durable.{empty_state, stand}
 use Rattle.ktm_world.specs.Outcome.{Outcome}
-use Rattle.ktm_world.specs.World.{World, present, extend, decide_tick, crashed, is_full_to_open, found_full, opened, in_doubt}
+use Rattle.ktm_world.specs.World.{World, present, extend, decide_tick, crashed, is_worn_log, found_worn, opened, in_doubt}
 
 -- ---- what lines are answered
 
@@ -34,11 +33,11 @@ says reply w = record { reply = reply; world = w }
 abbrev pub comes_to : World → Outcome → Answer
 comes_to w o = says o.reply (extend w o)
 
--- a restart that finds all that was recorded, with room for what it records or without
+-- a restart that finds all that was recorded
 abbrev pub restarts : World → Answer
 restarts w =
     let s = stand w.base w.log in
-    if is_full_to_open w w.log then says (Refused LogFull) (found_full w w.log) else says (Restarted s.events (length (in_doubt s))) (opened w.base w.room w.log)
+    if is_worn_log w w.log then says (Refused ImageWorn) (found_worn w w.log) else says (Restarted s.events (length (in_doubt s))) (opened w.base w.log)
 
 -- each line, of which one that is not in the grammar is none
 abbrev pub answer : World → Option Line → Answer
@@ -64,9 +63,9 @@ Answered w row = answers w (map (λ l. l.0) row) ≡ map (λ l. l.1) row
 
 -- ---- worlds to begin with
 
--- a new image with the number 1 and so many units, after its first boot; its log has a whole area
+-- a new image with the number 1 and so many units, after its first boot
 abbrev pub new_image : ℕ → World
-new_image units = opened (empty_state units 1) (area_len units) []
+new_image units = opened (empty_state units 1) []
 
 -- one of 1,024 units
 abbrev pub blank : World

@@ -1,6 +1,6 @@
 -- What the lines of a script may come to.
 use Rattle.std.specs.Prelude.{◌≡◌, Bool, true, false, List, [], ◌∷◌, length, Option, Some, None, Contains}
-use Rattle.ktm_base.specs.declared.refusal.Refusal.TheVariants.{BadLine, MachineDown, MachineUp, LogFull}
+use Rattle.ktm_base.specs.declared.refusal.Refusal.TheVariants.{BadLine, MachineDown, MachineUp, ImageWorn}
 use Rattle.ktm_types.specs.declared.command.Line.{Line}
 use Rattle.ktm_types.specs.declared.command.Line.TheVariants.{Tick, Cut, Crash, Restart, Process}
 use Rattle.ktm_types.specs.declared.reply.Reply.{Reply}
@@ -9,50 +9,49 @@ use Rattle.ktm_world.specs.Logs.{Group, is_up}
 use Rattle.ktm_world.specs.Decide.{decide}
 use Rattle.ktm_world.specs.Durable.{stand}
 use Rattle.ktm_world.specs.Outcome.{Outcome}
-use Rattle.ktm_world.specs.World.{World, present, extend, decide_tick, crashed, interrupted_by, interrupted_restart, found_full, is_full_to_open, opened, in_doubt, possible_logs}
+use Rattle.ktm_world.specs.World.{World, present, extend, decide_tick, crashed, interrupted_by, interrupted_restart, found_worn, is_worn_log, opened, in_doubt, possible_logs}
 
--- what came of a line: it was answered, the power went in it, or it was a restart that found this log, with room for what it
--- records or without
+-- what came of a line: it was answered, the power went in it, or it was a restart that found this log, which was not worn or was
 pub data Step : Type 0 where
   answered : Step
   interrupted : Step
   found : List Group → Step
-  full : List Group → Step
+  worn : List Group → Step
 
 -- a call comes to its outcome, or the power went in it
 abbrev pub CallDoes : World → Outcome → Step → Reply → World → Type 0
 CallDoes w o answered reply new = (reply ≡ o.reply) × (new ≡ extend w o)
 CallDoes w o interrupted reply new = (is_up w.power ≡ true) × (reply ≡ Refused MachineDown) × (new ≡ interrupted_by w o)
 CallDoes w o (found log) reply new = ⊥
-CallDoes w o (full log) reply new = ⊥
+CallDoes w o (worn log) reply new = ⊥
 
 -- a line that is answered, and leaves the world as it is
 abbrev pub IsAnswered : World → Reply → Step → Reply → World → Type 0
 IsAnswered w says answered reply new = (reply ≡ says) × (new ≡ w)
 IsAnswered w says interrupted reply new = ⊥
 IsAnswered w says (found log) reply new = ⊥
-IsAnswered w says (full log) reply new = ⊥
+IsAnswered w says (worn log) reply new = ⊥
 
 -- a crash of a machine that is up or down
 abbrev pub CrashDoes : Bool → World → Step → Reply → World → Type 0
 CrashDoes true w answered reply new = (reply ≡ Done) × (new ≡ crashed w)
 CrashDoes true w interrupted reply new = ⊥
 CrashDoes true w (found log) reply new = ⊥
-CrashDoes true w (full log) reply new = ⊥
+CrashDoes true w (worn log) reply new = ⊥
 CrashDoes false w step reply new = IsAnswered w (Refused MachineDown) step reply new
 
--- one of the possible logs was found, with room for what a restart records or without
-pub record Finds (w : World) (log : List Group) (is_full : Bool) : Type 0 where
+-- one of the possible logs was found, which was worn or was not
+pub record Finds (w : World) (log : List Group) (is_worn : Bool) : Type 0 where
   pub possible : Contains (possible_logs w) log
-  pub room : is_full_to_open w log ≡ is_full
+  pub worn : is_worn_log w log ≡ is_worn
 
 -- a restart of a machine that is down
 abbrev pub StartDoes : World → Step → Reply → World → Type 0
 StartDoes w answered reply new = ⊥
 StartDoes w interrupted reply new = (reply ≡ Refused MachineDown) × (new ≡ interrupted_restart w)
 StartDoes w (found log) reply new =
-    Finds w log false × (reply ≡ Restarted (stand w.base log).events (length (in_doubt (stand w.base log)))) × (new ≡ opened w.base w.room log)
-StartDoes w (full log) reply new = Finds w log true × (reply ≡ Refused LogFull) × (new ≡ found_full w log)
+    Finds w log false × (reply ≡ Restarted (stand w.base log).events (length (in_doubt (stand w.base log)))) × (new ≡ opened w.base log)
+StartDoes w (worn log) reply new = Finds w log true × (reply ≡ Refused ImageWorn) × (new ≡ found_worn w log)
 
 -- a restart of a machine that is up or down
 abbrev pub RestartDoes : Bool → World → Step → Reply → World → Type 0

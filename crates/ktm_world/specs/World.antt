@@ -1,5 +1,5 @@
 -- The machine with its whole history, and how it relates to what is so now.
-use Rattle.std.specs.Prelude.{ℕ, ◌+◌, ◌-◌, ◌==◌, ◌&&◌, ◌||◌, not, Bool, true, false, List, [], ◌∷◌, ◌++◌, length, map, filter, take, drop, Option, Some, None, if◌then◌else◌}
+use Rattle.std.specs.Prelude.{ℕ, ◌+◌, ◌==◌, ◌&&◌, ◌||◌, not, Bool, true, false, List, [], ◌∷◌, ◌++◌, length, map, filter, take, drop, Option, Some, None, if◌then◌else◌}
 use Rattle.std.specs.List.{flat_map, list_any}
 use Rattle.ktm_base.specs.declared.id.Id.{Id}
 use Rattle.ktm_base.specs.declared.id.Pid.{Pid}
@@ -17,12 +17,11 @@ use Rattle.ktm_types.specs.declared.object.Transaction.{Transaction}
 use Rattle.ktm_types.specs.declared.object.TransactionOutcome.{TransactionOutcome}
 use Rattle.ktm_types.specs.declared.options.EnlistmentKind.{EnlistmentKind}
 use Rattle.ktm_world.specs.Keys.{Own}
-use Rattle.ktm_world.specs.Outcome.{is_full, first_refusal, Outcome, is_forgotten, refuse_or, within_log}
-use Rattle.ktm_types.specs.Sizes.{log_size}
+use Rattle.ktm_world.specs.Outcome.{first_refusal, Outcome, is_forgotten, refuse_or}
 use Rattle.ktm_world.specs.Logs.{Group, Power, up, down, is_up, as_groups, kept_after, prefixes_from, possible_by}
 use Rattle.ktm_world.specs.Committed.{Committed, Work, committed_with}
 use Rattle.ktm_world.specs.Decide.{decide}
-use Rattle.ktm_world.specs.Durable.{Durable, Recorded, is_held, is_decided, has_undone, changes_of, settings_of, is_before, after_events, stand}
+use Rattle.ktm_world.specs.Durable.{Durable, Recorded, is_held, is_decided, has_undone, changes_of, settings_of, is_before, is_worn, after_events, stand}
 use Rattle.ktm_world.specs.Enlistments.{Enlistment, Manager, Note, Sent, notes_for, taken_count}
 use Rattle.ktm_world.specs.Files.{FileTable, FirstOpen, OwnChanges, Opening, first_open, files_with}
 use Rattle.ktm_world.specs.Present.{Present, Transactions}
@@ -43,9 +42,8 @@ pub record OpenedAfter : Type 0 where
 
 -- the machine with its whole history: its log since the run began, and its works since the restart
 pub record World : Type 0 where
-  -- the durable state of the image that the run began with, and how many bytes were left in its log
+  -- the durable state of the image that the run began with
   pub base : Durable
-  pub room : ℕ
   -- what was recorded since, a group for each command that recorded anything
   pub log : List Group
   -- how many groups no loss of power takes
@@ -86,7 +84,7 @@ first_open_now w o = first_open (at_work w o.works) (record { transaction = o.tr
 -- what is so now, which is computed from the history
 abbrev pub present : World → Present
 present w = record {
-  machine = record { is_up = is_up w.power; left = w.room - log_size w.log };
+  machine = record { is_up = is_up w.power };
   recorded = w.recorded;
   transactions = w.transactions;
   managers = map manager_now w.managers;
@@ -116,11 +114,6 @@ opened_after w o = record { transaction = o.transaction; file = o.file; works = 
 abbrev pub possible_logs : World → List (List Group)
 possible_logs w = possible_by w.power w.kept w.log
 
--- the power after an outcome: a machine that stops has its possible logs on the disk
-abbrev pub power_after : Bool → World → Power
-power_after false w = w.power
-power_after true w = down (possible_logs w)
-
 -- the world after an outcome, which goes into the history
 abbrev pub extend : World → Outcome → World
 extend w o = record w {
@@ -134,7 +127,6 @@ extend w o = record w {
   table = o.table;
   own = o.own;
   handles = o.handles;
-  power = power_after o.stops w;
 }
 
 -- the world after a command
@@ -143,7 +135,7 @@ after w process command = extend w (decide (present w) process command)
 
 -- what the passing of time does
 abbrev pub decide_tick : Present → ℕ → Outcome
-decide_tick x ms = within_log x (refuse_or x (first_refusal ((not x.machine.is_up, MachineDown) ∷ [])) (tick x ms))
+decide_tick x ms = refuse_or x (first_refusal ((not x.machine.is_up, MachineDown) ∷ [])) (tick x ms)
 
 -- ---- losses of power
 
@@ -170,17 +162,21 @@ own_events t = done_if (has_undone DonePart.Files t) t.id DonePart.Files ++ done
 abbrev pub own_group : Durable → Group
 own_group s = Boot (s.boots + 1) ∷ flat_map own_events s.transactions
 
--- has the log that was found no room for what a restart records
-abbrev pub is_full_to_open : World → List Group → Bool
-is_full_to_open w log = is_full (w.room - log_size log) (own_group (stand w.base log))
+-- does the log come to a state that is worn
+abbrev pub is_worn_log : World → List Group → Bool
+is_worn_log w log = is_worn (stand w.base log)
 
--- the power went during a restart: of each log that may have been found the group of the restart may have been recorded
+-- the log with the group of a restart that found it
+abbrev pub with_own : World → List Group → List Group
+with_own w log = log ++ own_group (stand w.base log) ∷ []
+
+-- the power went during a restart: of each log that may have been found, and is not worn, the group of the restart may have been recorded
 abbrev pub interrupted_restart : World → World
-interrupted_restart w = record w { power = down (possible_logs w ++ map (λ l. l ++ own_group (stand w.base l) ∷ []) (possible_logs w)) }
+interrupted_restart w = record w { power = down (possible_logs w ++ map (with_own w) (filter (λ l. not (is_worn_log w l)) (possible_logs w))) }
 
--- a restart found this log, and it was full: the machine stays down
-abbrev pub found_full : World → List Group → World
-found_full w log = record w { power = down (log ∷ []) }
+-- a restart found this log, and it was worn: the machine stays down
+abbrev pub found_worn : World → List Group → World
+found_worn w log = record w { power = down (log ∷ []) }
 
 -- ---- the world that starts from a durable state
 
@@ -272,10 +268,9 @@ abbrev pub has_own_settings : Own → Bool
 has_own_settings o = not (length o.settings == 0)
 
 -- the world of a durable state, before the restart has recorded anything
-abbrev pub reboot : Durable → ℕ → List Group → World
-reboot base room log = let s = stand base log in record {
+abbrev pub reboot : Durable → List Group → World
+reboot base log = let s = stand base log in record {
   base = base;
-  room = room;
   log = log;
   kept = length log;
   start = record { tree = s.tree; versions = []; store = s.keys };
@@ -303,8 +298,8 @@ reboot base room log = let s = stand base log in record {
 }
 
 -- the world that starts from a log, once the restart has recorded its own group
-abbrev pub opened : Durable → ℕ → List Group → World
-opened base room log = let own = own_group (stand base log) in record (reboot base room log) {
+abbrev pub opened : Durable → List Group → World
+opened base log = let own = own_group (stand base log) in record (reboot base log) {
   log = log ++ own ∷ [];
   kept = length log + 1;
   recorded = after_events (stand base log) own;

@@ -11,7 +11,7 @@ pub fn law_of_first_opens()
     ensures { FirstOpensLaw }
 {}
 
-/// A refusal, but for that of a full log, changes nothing.
+/// A refusal changes nothing.
 pub fn law_of_refusals()
     ensures { RefusalLaw }
 {}

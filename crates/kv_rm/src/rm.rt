@@ -24,7 +24,7 @@ use crate::own::{OwnList, Seat};
 use crate::setting_list::SettingList;
 use ktm_base::{Bytes, Id, NoMemory, Refusal, Text, TextList};
 use ktm_keyed::KeyedList;
-use ktm_types::{Reply, Setting};
+use ktm_types::{Entry, Reply, Setting};
 use ktm_world::{is_bad_key, is_bad_value, make_all};
 use std::alloc::Global;
 use std::marker::Model;
@@ -344,6 +344,13 @@ impl KvRm {
             return Ok(Reply::Refused(Refusal::NotEnoughQuota));
         }
         self.add(who, plan, key, None)
+    }
+
+    /// The committed keys with their values, by rising key.
+    pub fn store(&self) -> &[Entry]
+        ensures { result.now ≡ self.now.store }
+    {
+        self.store.as_slice()
     }
 
     /// In the order in which a commit makes them.

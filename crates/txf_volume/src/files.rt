@@ -185,6 +185,13 @@ impl Files {
         }
     }
 
+    /// The committed files and directories.
+    pub fn tree(&self) -> &Tree
+        ensures { result.now ≡ self.now.tree }
+    {
+        &self.tree
+    }
+
     // What a transaction changed, if it changed anything.
     pub(crate) fn overlay(&self, transaction: Id) -> Option<&Overlay>
         ensures overlay { option_copied result ≡ overlay_in self.now.overlays transaction }

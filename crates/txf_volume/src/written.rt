@@ -1,8 +1,8 @@
 // The files that a transaction wrote, as they are recorded.
-ghost use Rattle.std.specs.Prelude.{◌≡◌};
+ghost use Rattle.std.specs.Prelude.{◌≡◌, []};
 ghost use Rattle.std.specs.Option.{option_copied, option_map};
 ghost use Rattle.ktm_event.specs.Work.{final_file};
-ghost use Rattle.txf_volume.specs.Shown.{recorded_file};
+ghost use Rattle.txf_volume.specs.Shown.{recorded_file, shown};
 
 use ktm_event::{FileBytes, WrittenFiles};
 use std::marker::Model;
@@ -26,6 +26,15 @@ impl<'a> Model for Written<'a> {
     ghost view = { λ w. recorded_files (option_copied w.overlay) };
 
     ghost invariant = { λ w. are_rising (recorded_files (option_copied w.overlay)) ≡ true };
+}
+
+impl<'a> Written<'a> {
+    /// Those of a transaction that changed nothing.
+    pub fn none() -> Written<'a>
+        ensures { shown result ≡ [] }
+    {
+        Written { overlay: None }
+    }
 }
 
 // A file, if there is one, as it is shown.

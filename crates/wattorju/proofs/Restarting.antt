@@ -1,7 +1,7 @@
 -- A restart of a machine that is down, on a disk whose power is given back.
-use Rattle.std.proofs.Common.{◌≡◌, ◌++◌, ℕ, Bool, true, false, Option, Result, Ok, Err, sym, ◌∙◌, ap, subst, refl}
+use Rattle.std.proofs.Common.{◌≡◌, ℕ, Bool, true, false, Option, Result, Ok, Err, sym, ◌∙◌, ap, subst, refl}
 use Rattle.ktm_base.specs.declared.fault.NoMemory.{NoMemory}
-use Rattle.ktm_base.specs.declared.refusal.Refusal.TheVariants.{LogFull, MachineDown}
+use Rattle.ktm_base.specs.declared.refusal.Refusal.TheVariants.{ImageWorn, MachineDown}
 use Rattle.ktm_base.specs.Count.{Rose}
 use Rattle.ktm_base.specs.Disk.{DiskState, DiskStatus}
 use Rattle.ktm_base.specs.Power.{NotRestored, Restored}
@@ -9,11 +9,12 @@ use Rattle.ktm_base.specs.Told.{Goes}
 use Rattle.ktm_base.proofs.offered.Images.{safe_law}
 use Rattle.ktm_base.proofs.offered.ToldSteps.{IsSomeAnd-map}
 use Rattle.ktm_kernel.specs.Answers.{IfUnwrittenBy, IsAsBefore, StartAgainLeaves}
-use Rattle.ktm_kernel.specs.Stands.{FoundAt, HasFallen, KernelAt, KernelState, LeavesPossible, PowerLaw, StandsBy}
+use Rattle.ktm_kernel.specs.Stands.{FoundAt, HasFallen, KernelAt, KernelState, LeavesStates, PowerLaw, StandsBy}
 use Rattle.ktm_log.specs.OnDisk.{on}
-use Rattle.ktm_restart.specs.Logs.{HoldsLog}
+use Rattle.ktm_restart.specs.Logs.{StandsFor}
 use Rattle.ktm_types.specs.declared.reply.Reply.{Reply}
 use Rattle.ktm_types.specs.declared.reply.Reply.TheVariants.{BadImage, Refused}
+use Rattle.ktm_world.specs.Durable.{stand}
 use Rattle.ktm_world.specs.Logs.{is_up}
 use Rattle.ktm_world.specs.Present.{Present}
 use Rattle.ktm_world.specs.Transcript.{RestartDoes, interrupted}
@@ -33,18 +34,16 @@ found_stands : (k : KernelState) (told : Option DiskState) (w : World) → Found
 found_stands k told w at = subst (λ up. StandsBy up k told w) (sym at.off) (let fallen : HasFallen k told w = record {
   now = at.now;
   standing = at.standing;
-  before = at.before;
-  began = at.began;
-  disk = IsSomeAnd-map told _ (LeavesPossible k.journal at.before w) at.disk (λ s both image may.
+  disk = IsSomeAnd-map told _ (LeavesStates w) at.disk (λ s both image may.
       let (safe, held) = both in
-      let (log, possible, holds) = held in
-      (log, possible, subst (λ l. HoldsLog k.journal.units k.journal.image (at.before ++ log) l) (sym ((safe_law s image safe).0 may)) holds));
+      let (log, possible, stands) = held in
+      (log, possible, subst (StandsFor (stand w.base log)) (sym ((safe_law s image safe).0 may)) stands));
 } in fallen)
 
 -- what a reply says of what was not written, said of something that follows from it
 unwritten_with : (reply : Reply) (P Q : Type 0) → (P → Q) → IfUnwrittenBy reply P → IfUnwrittenBy reply Q
 unwritten_with (BadImage offset) P Q follows is = follows is
-unwritten_with (Refused LogFull) P Q follows is = follows is
+unwritten_with (Refused ImageWorn) P Q follows is = follows is
 unwritten_with reply P Q follows is = tt
 
 -- the disk tells what it told, and went down as often

@@ -2,7 +2,7 @@
 use Rattle.std.specs.Prelude.{◌≡◌, ℕ, Bool, false, Some, Result, Ok, Err, IfOk, OnErr}
 use Rattle.ktm_base.specs.Count.{Rose}
 use Rattle.ktm_base.specs.declared.fault.NoMemory.{NoMemory}
-use Rattle.ktm_base.specs.declared.refusal.Refusal.TheVariants.{LogFull, MachineDown}
+use Rattle.ktm_base.specs.declared.refusal.Refusal.TheVariants.{ImageWorn, MachineDown}
 use Rattle.ktm_base.specs.Power.{Restored}
 use Rattle.ktm_base.specs.Told.{Goes}
 use Rattle.ktm_kernel.specs.Answers.{IfUnwrittenBy, says_started}
@@ -21,7 +21,7 @@ abbrev pub answer_of_restart : Result Found OpenFault → Result Reply NoMemory
 answer_of_restart (Ok found) = Ok (Restarted found.events found.in_doubt)
 answer_of_restart (Err (opening.BadImage offset)) = Ok (BadImage offset)
 answer_of_restart (Err opening.Down) = Ok (Refused MachineDown)
-answer_of_restart (Err opening.Full) = Ok (Refused LogFull)
+answer_of_restart (Err opening.Worn) = Ok (Refused ImageWorn)
 answer_of_restart (Err opening.NoMemory) = Err (record {})
 
 -- did the machine start

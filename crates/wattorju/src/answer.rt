@@ -1,9 +1,9 @@
 // What the machine's replies say, by what a call tells. No other reply comes.
-ghost use Rattle.std.specs.Prelude.{◌≡◌, IfOk};
+ghost use Rattle.std.specs.Prelude.{◌≡◌};
 ghost use Rattle.ktm_forms.specs.Tells.{IsTold, a_guid, a_notification, a_size, a_transaction, bytes, keys, names, nothing, progress};
 ghost use Rattle.ktm_types.specs.declared.reply.Reply.TheVariants.{Contents, Done, Guid, Keys, Names, Size};
 ghost use Rattle.ktm_world.specs.KeyCalls.{reply_of_value};
-ghost use Rattle.wattorju.specs.Calls.{answer_of};
+ghost use Rattle.wattorju.specs.Calls.{IfReplied, answer_of};
 ghost use Rattle.wattorju.specs.Told.{reply_of_information, reply_of_notification, reply_of_state};
 
 use crate::Failure;
@@ -12,19 +12,20 @@ use ktm_base::{Bytes, NoMemory, Refusal, TextList};
 use ktm_types::Reply;
 use uuid::Uuid;
 
-// The reply, or that it is out of memory.
-fn told(answer: Result<Reply, NoMemory>) -> Result<Reply, Failure>
+// The reply; or that it is out of memory, or that the machine was not asked.
+fn told(answer: Option<Result<Reply, NoMemory>>) -> Result<Reply, Failure>
     ensures { answer_of result (λ reply. reply) ≡ answer }
 {
     match answer {
-        Ok(reply) => Ok(reply),
-        Err(NoMemory) => Err(Failure::NoMemory),
+        Some(Ok(reply)) => Ok(reply),
+        Some(Err(NoMemory)) => Err(Failure::NoMemory),
+        None => Err(Failure::Worn),
     }
 }
 
 /// That it is done.
-pub fn to_done(answer: Result<Reply, NoMemory>) -> Result<(), Failure>
-    requires { IfOk answer (λ reply. IsTold reply nothing) }
+pub fn to_done(answer: Option<Result<Reply, NoMemory>>) -> Result<(), Failure>
+    requires { IfReplied answer (λ reply. IsTold reply nothing) }
     ensures { answer_of result (λ done. Done) ≡ answer }
 {
     match told(answer)? {
@@ -35,8 +36,8 @@ pub fn to_done(answer: Result<Reply, NoMemory>) -> Result<(), Failure>
 }
 
 /// The GUID of what was made.
-pub fn to_guid(answer: Result<Reply, NoMemory>) -> Result<Uuid, Failure>
-    requires { IfOk answer (λ reply. IsTold reply a_guid) }
+pub fn to_guid(answer: Option<Result<Reply, NoMemory>>) -> Result<Uuid, Failure>
+    requires { IfReplied answer (λ reply. IsTold reply a_guid) }
     ensures { answer_of result Guid ≡ answer }
 {
     match told(answer)? {
@@ -47,8 +48,8 @@ pub fn to_guid(answer: Result<Reply, NoMemory>) -> Result<Uuid, Failure>
 }
 
 /// That a transaction has committed, or that it waits.
-pub fn to_progress(answer: Result<Reply, NoMemory>) -> Result<CommitState, Failure>
-    requires { IfOk answer (λ reply. IsTold reply progress) }
+pub fn to_progress(answer: Option<Result<Reply, NoMemory>>) -> Result<CommitState, Failure>
+    requires { IfReplied answer (λ reply. IsTold reply progress) }
     ensures { answer_of result reply_of_state ≡ answer }
 {
     match told(answer)? {
@@ -60,8 +61,10 @@ pub fn to_progress(answer: Result<Reply, NoMemory>) -> Result<CommitState, Failu
 }
 
 /// How a transaction stands.
-pub fn to_information(answer: Result<Reply, NoMemory>) -> Result<TransactionInformation, Failure>
-    requires { IfOk answer (λ reply. IsTold reply a_transaction) }
+pub fn to_information(
+    answer: Option<Result<Reply, NoMemory>>,
+) -> Result<TransactionInformation, Failure>
+    requires { IfReplied answer (λ reply. IsTold reply a_transaction) }
     ensures { answer_of result reply_of_information ≡ answer }
 {
     match told(answer)? {
@@ -80,8 +83,8 @@ pub fn to_information(answer: Result<Reply, NoMemory>) -> Result<TransactionInfo
 }
 
 /// Bytes.
-pub fn to_bytes(answer: Result<Reply, NoMemory>) -> Result<Bytes, Failure>
-    requires { IfOk answer (λ reply. IsTold reply bytes) }
+pub fn to_bytes(answer: Option<Result<Reply, NoMemory>>) -> Result<Bytes, Failure>
+    requires { IfReplied answer (λ reply. IsTold reply bytes) }
     ensures { answer_of result Contents ≡ answer }
 {
     match told(answer)? {
@@ -92,8 +95,8 @@ pub fn to_bytes(answer: Result<Reply, NoMemory>) -> Result<Bytes, Failure>
 }
 
 /// How many bytes a file has.
-pub fn to_size(answer: Result<Reply, NoMemory>) -> Result<u64, Failure>
-    requires { IfOk answer (λ reply. IsTold reply a_size) }
+pub fn to_size(answer: Option<Result<Reply, NoMemory>>) -> Result<u64, Failure>
+    requires { IfReplied answer (λ reply. IsTold reply a_size) }
     ensures { answer_of result Size ≡ answer }
 {
     match told(answer)? {
@@ -104,8 +107,8 @@ pub fn to_size(answer: Result<Reply, NoMemory>) -> Result<u64, Failure>
 }
 
 /// Names in a directory.
-pub fn to_names(answer: Result<Reply, NoMemory>) -> Result<TextList, Failure>
-    requires { IfOk answer (λ reply. IsTold reply names) }
+pub fn to_names(answer: Option<Result<Reply, NoMemory>>) -> Result<TextList, Failure>
+    requires { IfReplied answer (λ reply. IsTold reply names) }
     ensures { answer_of result Names ≡ answer }
 {
     match told(answer)? {
@@ -116,8 +119,8 @@ pub fn to_names(answer: Result<Reply, NoMemory>) -> Result<TextList, Failure>
 }
 
 /// Keys.
-pub fn to_keys(answer: Result<Reply, NoMemory>) -> Result<TextList, Failure>
-    requires { IfOk answer (λ reply. IsTold reply keys) }
+pub fn to_keys(answer: Option<Result<Reply, NoMemory>>) -> Result<TextList, Failure>
+    requires { IfReplied answer (λ reply. IsTold reply keys) }
     ensures { answer_of result Keys ≡ answer }
 {
     match told(answer)? {
@@ -128,8 +131,8 @@ pub fn to_keys(answer: Result<Reply, NoMemory>) -> Result<TextList, Failure>
 }
 
 /// The value of a key, or that it has none.
-pub fn to_value(answer: Result<Reply, NoMemory>) -> Result<Option<Bytes>, Failure>
-    requires { IfOk answer (λ reply. IsTold reply bytes) }
+pub fn to_value(answer: Option<Result<Reply, NoMemory>>) -> Result<Option<Bytes>, Failure>
+    requires { IfReplied answer (λ reply. IsTold reply bytes) }
     ensures { answer_of result reply_of_value ≡ answer }
 {
     match told(answer)? {
@@ -141,8 +144,10 @@ pub fn to_value(answer: Result<Reply, NoMemory>) -> Result<Option<Bytes>, Failur
 }
 
 /// A notification, or that none waits.
-pub fn to_notification(answer: Result<Reply, NoMemory>) -> Result<Option<Notification>, Failure>
-    requires { IfOk answer (λ reply. IsTold reply a_notification) }
+pub fn to_notification(
+    answer: Option<Result<Reply, NoMemory>>,
+) -> Result<Option<Notification>, Failure>
+    requires { IfReplied answer (λ reply. IsTold reply a_notification) }
     ensures { answer_of result reply_of_notification ≡ answer }
 {
     match told(answer)? {

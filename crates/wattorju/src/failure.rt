@@ -10,7 +10,22 @@ pub enum Failure {
     Refused(Refusal),
     /// Out of memory. Nothing has changed.
     NoMemory,
+    /// The image has recorded nearly 2^63 events, and one call more might pass that count: the machine was not asked, and nothing has
+    /// changed. Each further call says so too. Once the machine is closed, the image is not opened again.
+    Worn,
 }
+
+/// Why no time has passed.
+#[derive(Clone, Copy, PartialEq, Eq)]
+pub enum TickFault {
+    /// The machine refused it.
+    Refused(Refusal),
+    /// The image has recorded nearly 2^63 events, as in `Failure::Worn`. Nothing has changed.
+    Worn,
+}
+
+// What is said of an image whose count of events is near its end.
+const WORN: &str = "the image has recorded nearly 2^63 events; it is closed and not opened again";
 
 // A refusal in words.
 fn words_of(refusal: Refusal) -> &'static str {
@@ -44,7 +59,7 @@ fn words_of(refusal: Refusal) -> &'static str {
         Refusal::WaitTimeout => "no notification waits",
         Refusal::NotEnoughQuota => "a limit on objects, handles or changes is reached",
         Refusal::DiskFull => "a limit on contents, files or keys is reached",
-        Refusal::LogFull => "the log is full",
+        Refusal::ImageWorn => "the image is worn",
     }
 }
 
@@ -53,6 +68,7 @@ impl fmt::Display for Failure {
         match self {
             Failure::Refused(refusal) => f.write_str(words_of(*refusal)),
             Failure::NoMemory => f.write_str("out of memory"),
+            Failure::Worn => f.write_str(WORN),
         }
     }
 }
@@ -64,3 +80,20 @@ impl fmt::Debug for Failure {
 }
 
 impl Error for Failure {}
+
+impl fmt::Display for TickFault {
+    fn fmt<W: fmt::Write>(&self, f: &mut fmt::Formatter<W>) -> fmt::Result {
+        match self {
+            TickFault::Refused(refusal) => f.write_str(words_of(*refusal)),
+            TickFault::Worn => f.write_str(WORN),
+        }
+    }
+}
+
+impl fmt::Debug for TickFault {
+    fn fmt<W: fmt::Write>(&self, f: &mut fmt::Formatter<W>) -> fmt::Result {
+        write!(f, "TickFault({self})")
+    }
+}
+
+impl Error for TickFault {}

@@ -1,26 +1,24 @@
 // The machine with its disk.
-ghost use Rattle.std.specs.Prelude.{◌≡◌, ◌⊎◌, ◌<◌, ◌≤◌, ℕ, Option, true, false, IfErr, IfOk, IfSome, IsTrue};
+ghost use Rattle.std.specs.Prelude.{◌≡◌, ◌⊎◌, ◌↔◌, ◌<◌, ◌≤◌, ℕ, Option, Some, true, false, IfErr, IfOk, IfSome, IsTrue};
 ghost use Rattle.ktm_forms.specs.Tells.{IsTold, Telling, a_guid, a_notification, a_size, a_transaction, bytes, keys, names, nothing, progress, tells};
-ghost use Rattle.ktm_kernel.specs.Answers.{IsLineAnswered};
 ghost use Rattle.ktm_kernel.specs.Stands.{IsReady, KernelState};
+ghost use Rattle.ktm_laws.specs.Running.{HasEventsLeft};
 ghost use Rattle.ktm_log.specs.OnDisk.{OnDisk, on};
 ghost use Rattle.ktm_open.specs.Opened.{IsOpened, NotOpenedLeaves};
-ghost use Rattle.ktm_types.specs.declared.command.Line.TheVariants.{Tick};
 ghost use Rattle.ktm_types.specs.declared.reply.Reply.TheVariants.{Contents, Done, Guid, Keys, Names, Size};
 ghost use Rattle.ktm_types.specs.Values.{IsCommand, IsLabel};
 ghost use Rattle.ktm_world.specs.KeyCalls.{reply_of_value};
 ghost use Rattle.ktm_world.specs.Labels.{is_bound};
-ghost use Rattle.ktm_world.specs.World.{decide_tick};
-ghost use Rattle.wattorju.specs.Calls.{IsCalled, IsFree, answer_of, own, reply_of_tick};
+ghost use Rattle.wattorju.specs.Calls.{IfReplied, IsCalled, IsFree, IsTicked, answer_of, own, reply_of_tick};
 ghost use Rattle.wattorju.specs.Told.{reply_of_information, reply_of_notification, reply_of_state};
 
-use crate::Failure;
 use crate::answer::{
     to_bytes, to_done, to_guid, to_information, to_keys, to_names, to_notification, to_progress,
     to_size, to_value,
 };
 use crate::told::{CommitState, Notification, TransactionInformation};
-use ktm_base::{Bytes, Disk, Label, NoMemory, Pid, Refusal, TextList};
+use crate::{Failure, TickFault};
+use ktm_base::{Bytes, Disk, Label, NoMemory, Pid, TextList};
 use ktm_forms::law_of_replies;
 use ktm_kernel::Kernel;
 use ktm_open::{OpenFault, open_kernel};
@@ -32,6 +30,9 @@ use uuid::Uuid;
 
 // The process of all calls.
 pub(crate) const OWN: Pid = Pid(1);
+
+// The least number of recorded events with which the machine is asked nothing more: 2^63, less the most that are recorded at once.
+const WORN_EVENTS: u64 = (1 << 63) - (1 << 20);
 
 /// A machine and the disk that its image is on. Its calls are those of one process.
 #[derive(Drop)]
@@ -71,27 +72,41 @@ pub struct NotOpened<D: Disk> {
     pub disk: D,
 }
 
-// Answers a command. What it may reply is known by its form.
-fn ask<D: Disk>(kernel: &mut Kernel, disk: &mut D, command: Command) -> Result<Reply, NoMemory>
+// May the machine be asked once more: the count of events does not end with that.
+fn has_events_left(kernel: &Kernel) -> bool
+    ensures { IsTrue result ↔ HasEventsLeft kernel.now.now }
+{
+    kernel.events() < WORN_EVENTS
+}
+
+// Answers a command, while the image has events left. What it may reply is known by its form.
+fn ask<D: Disk>(
+    kernel: &mut Kernel,
+    disk: &mut D,
+    command: Command,
+) -> Option<Result<Reply, NoMemory>>
     requires ready { IsReady kernel.old (D.told disk.old) (D.status disk.old) }
     requires command { IsCommand command }
     ensures called { IsCalled command (on kernel.old (D.told disk.old) (D.status disk.old)) (on kernel.new (D.told disk.new) (D.status disk.new)) result }
-    ensures told { (telling : Telling) → tells command ≡ telling → IfOk result (λ reply. IsTold reply telling) }
+    ensures told { (telling : Telling) → tells command ≡ telling → IfReplied result (λ reply. IsTold reply telling) }
     ensures ready { IsReady kernel.new (D.told disk.new) (D.status disk.new) }
 {
     law_of_replies();
     law_of_works();
-    kernel.call(disk, OWN, command)
+    if !has_events_left(kernel) {
+        return None;
+    }
+    Some(kernel.call(disk, OWN, command))
 }
 
 // What the passing of time comes to.
-fn to_passed(reply: Reply) -> Result<(), Refusal>
+fn to_passed(reply: Reply) -> Result<(), TickFault>
     requires { IsTold reply nothing }
-    ensures { reply_of_tick result ≡ reply }
+    ensures { reply_of_tick result ≡ Some reply }
 {
     match reply {
         Reply::Done => Ok(()),
-        Reply::Refused(refusal) => Err(refusal),
+        Reply::Refused(refusal) => Err(TickFault::Refused(refusal)),
         _ => unreachable!(),
     }
 }
@@ -138,7 +153,7 @@ impl<D: Disk> Machine<D> {
         }
     }
 
-    /// Is the machine up. It is down after `MachineDown` and `LogFull`, and then refuses each call.
+    /// Is the machine up. It is down after `MachineDown`, and then refuses each call.
     pub fn is_up(&self) -> bool
         ensures { result ≡ self.now.it.now.machine.is_up }
     {
@@ -147,10 +162,13 @@ impl<D: Disk> Machine<D> {
 
     /// So many milliseconds pass, and the transactions roll back whose timeouts are reached then, in order of creation. It takes
     /// no memory.
-    pub fn tick(&mut self, ms: u32) -> Result<(), Refusal>
-        ensures { IsLineAnswered (Tick ms) (decide_tick self.old.it.now ms) self.old self.new (reply_of_tick result) }
+    pub fn tick(&mut self, ms: u32) -> Result<(), TickFault>
+        ensures { IsTicked ms self.old self.new (reply_of_tick result) }
     {
         law_of_replies();
+        if !has_events_left(&self.kernel) {
+            return Err(TickFault::Worn);
+        }
         to_passed(self.kernel.tick(&mut self.disk, ms))
     }
 

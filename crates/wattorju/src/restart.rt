@@ -30,7 +30,7 @@ fn to_found(answer: Result<Reply, NoMemory>) -> Result<Found, OpenFault>
     match reply {
         Reply::Restarted { events, in_doubt } => Ok(Found { events, in_doubt }),
         Reply::BadImage(offset) => Err(OpenFault::BadImage(offset)),
-        Reply::Refused(Refusal::LogFull) => Err(OpenFault::Full),
+        Reply::Refused(Refusal::ImageWorn) => Err(OpenFault::Worn),
         Reply::Refused(Refusal::MachineDown) => Err(OpenFault::Down),
         _ => unreachable!(),
     }

@@ -1,6 +1,6 @@
 -- What a restart of a good state makes is sound.
 use Rattle.std.specs.Prelude.{if◌then◌else◌}
-use Rattle.std.proofs.Common.{◌≡◌, ℕ, ◌+◌, ◌≤◌, ◌&&◌, ◌||◌, not, Bool, true, false, List, [], ◌∷◌, length, map, nat_lt, nat_le, Option, Some, None, is_some, is_none, refl, sym, ◌∙◌, ap, subst, arith, inl, inr, ◌⊎◌}
+use Rattle.std.proofs.Common.{◌≡◌, ◌+◌, ◌≤◌, ◌&&◌, ◌||◌, not, Bool, true, false, List, [], ◌∷◌, length, map, nat_lt, nat_le, Option, Some, None, is_some, is_none, refl, sym, ◌∙◌, ap, subst, arith, inl, inr, ◌⊎◌}
 use Rattle.std.proofs.lemmas.Bool.{cases_Bool, and_parts, and_from, and_left, or_cases, or_left, or_right, lt-ltb, le-leb, leb-true, true≢false, not-true, not_from_false, false_from_ne_true}
 use Rattle.std.proofs.lemmas.Option.{same_Some}
 use Rattle.std.specs.List.{list_any, list_all, flat_map}
@@ -116,12 +116,12 @@ no-boots (t ∷ rs) = NoBoots-append (NoBoots-append (done (has_undone DonePart.
 pub booted : (s : Durable) → ((after_events s (own_group s)).boots ≡ s.boots + 1) × ((after_events s (own_group s)).image ≡ s.image)
 booted s = events-kept (flat_map own_events s.transactions) (after_event s (Boot (s.boots + 1))) (no-boots s.transactions)
 
-module _ (base : Durable) (room : ℕ) (log : List Group) (good : IsGoodState (stand base log)) where
+module _ (base : Durable) (log : List Group) (good : IsGoodState (stand base log)) where
   abbrev s : Durable
   s = stand base log
 
   abbrev x : Present
-  x = present (opened base room log)
+  x = present (opened base log)
 
   -- with the boot that began
   abbrev y : Present
@@ -340,7 +340,7 @@ module _ (base : Durable) (room : ℕ) (log : List Group) (good : IsGoodState (s
       rises : RiseEnlistments es
       rises = Rises-by_rising_id (flat_map enlistments_back (back s)) differ
 
-  pub sound-opened : IsSoundCourse (present (opened base room log))
+  pub sound-opened : IsSoundCourse (present (opened base log))
   sound-opened =
       let kept = booted s in
       sound-alike y x (record { boots = sym kept.0; image = sym kept.1; transactions = refl; managers = refl; handles = refl; own = refl; settings = refl }) sound-y

@@ -1,15 +1,14 @@
 -- Which logs a loss of power may leave, and what each of them passes.
 use Rattle.std.specs.Prelude.{Contains}
-use Rattle.std.proofs.Common.{◌≡◌, ℕ, zero, suc, Bool, true, false, List, [], ◌∷◌, ◌++◌, length, map, refl, sym, ◌∙◌, ap, subst, arith, length-append}
-use Rattle.std.proofs.lemmas.Bool.{and_from, and_parts}
+use Rattle.std.proofs.Common.{◌≡◌, ℕ, zero, suc, not, Bool, true, false, List, [], ◌∷◌, ◌++◌, filter, length, map, inl, inr, refl, sym, ◌∙◌, ap, subst, arith, length-append}
+use Rattle.std.proofs.lemmas.Bool.{and_from, and_parts, cases_Bool}
 use Rattle.std.proofs.lemmas.List.{append-nil, drop-map}
 use Rattle.std.proofs.lemmas.List.Folds.{list_all-append, list_all-map}
 use Rattle.std.specs.List.{list_all}
 use Rattle.ktm_types.specs.declared.event.Event.{Event}
-use Rattle.ktm_world.specs.Durable.{stand}
 use Rattle.ktm_world.specs.Logs.{Group, Power, up, down, as_groups, kept_after, prefixes, prefixes_from, possible_by}
 use Rattle.ktm_world.specs.Outcome.{Outcome}
-use Rattle.ktm_world.specs.World.{World, extend, power_after, possible_logs, own_group}
+use Rattle.ktm_world.specs.World.{World, extend, is_worn_log, possible_logs, with_own}
 
 pub contains-passes : {X : Type 0} (p : X → Bool) (xs : List X) (x : X) → list_all p xs ≡ true → Contains xs x → p x ≡ true
 contains-passes p [] x all (k, within, is) = absurd (omega arith)
@@ -47,20 +46,25 @@ kept-all kept log (event ∷ events) all = sym (length-append log ((event ∷ ev
 
 -- after an outcome
 pub left-extend : (p : List Group → Bool) (w : World) (o : Outcome) → w.kept ≡ length w.log → p (w.log ++ as_groups o.events) ≡ true → list_all p (possible_logs w) ≡ true → list_all p (possible_logs (extend w o)) ≡ true
-left-extend p w o all then before = go o.stops w.power refl
+left-extend p w o all then before = go w.power refl
   where
-    go : (stops : Bool) (power : Power) → w.power ≡ power → list_all p (possible_by (power_after stops w) (kept_after w.kept w.log o.events) (w.log ++ as_groups o.events)) ≡ true
-    go true power is = before
-    go false up is = subst (λ power. list_all p (possible_by power (kept_after w.kept w.log o.events) (w.log ++ as_groups o.events)) ≡ true) (sym is)
+    go : (power : Power) → w.power ≡ power → list_all p (possible_by w.power (kept_after w.kept w.log o.events) (w.log ++ as_groups o.events)) ≡ true
+    go up is = subst (λ power. list_all p (possible_by power (kept_after w.kept w.log o.events) (w.log ++ as_groups o.events)) ≡ true) (sym is)
         (left-all p (w.log ++ as_groups o.events) (kept_after w.kept w.log o.events) (kept-all w.kept w.log o.events all) then)
-    go false (down may) is = subst (λ power. list_all p (possible_by power (kept_after w.kept w.log o.events) (w.log ++ as_groups o.events)) ≡ true) (sym is)
+    go (down may) is = subst (λ power. list_all p (possible_by power (kept_after w.kept w.log o.events) (w.log ++ as_groups o.events)) ≡ true) (sym is)
         (subst (λ power. list_all p (possible_by power w.kept w.log) ≡ true) is before)
 
 -- after a restart in which the power went
-pub left-restart : (p : List Group → Bool) (w : World) → ((l : List Group) → p l ≡ true → p (l ++ own_group (stand w.base l) ∷ []) ≡ true) → (logs : List (List Group)) → list_all p logs ≡ true
-    → list_all p (logs ++ map (λ l. l ++ own_group (stand w.base l) ∷ []) logs) ≡ true
+pub left-restart : (p : List Group → Bool) (w : World) → ((l : List Group) → is_worn_log w l ≡ false → p l ≡ true → p (with_own w l) ≡ true) → (logs : List (List Group)) → list_all p logs ≡ true
+    → list_all p (logs ++ map (with_own w) (filter (λ l. not (is_worn_log w l)) logs)) ≡ true
 left-restart p w then logs all = list_all-append p logs _ ∙ and_from _ _ all (go logs all)
   where
-    go : (logs : List (List Group)) → list_all p logs ≡ true → list_all p (map (λ l. l ++ own_group (stand w.base l) ∷ []) logs) ≡ true
+    go : (logs : List (List Group)) → list_all p logs ≡ true → list_all p (map (with_own w) (filter (λ l. not (is_worn_log w l)) logs)) ≡ true
     go [] all = refl
-    go (l ∷ logs) all = let parts = and_parts (p l) (list_all p logs) all in and_from _ _ (then l parts.0) (go logs parts.1)
+    go (l ∷ logs) all =
+        let parts = and_parts (p l) (list_all p logs) all in
+        let rest = go logs parts.1 in
+        elim (cases_Bool (is_worn_log w l)) [
+          | inl worn ↦ rw worn rest
+          | inr fresh ↦ rw fresh (and_from _ _ (then l fresh parts.0) rest)
+        ]

@@ -1,10 +1,10 @@
 -- What changes nothing of what memory holds before it is recorded.
-use Rattle.std.proofs.Common.{◌≡◌, ◌≢◌, false, [], refl, sym, ◌∙◌, ap, subst}
+use Rattle.std.proofs.Common.{◌≡◌, ◌≢◌, [], refl, sym, ◌∙◌, ap, subst}
 use Rattle.ktm_base.specs.declared.refusal.Refusal.{Refusal}
 use Rattle.ktm_event.specs.Kept.{EventsState, Holds}
 use Rattle.ktm_types.specs.declared.reply.Reply.{Reply}
 use Rattle.ktm_types.specs.declared.reply.Reply.TheVariants.{Refused}
-use Rattle.ktm_world.specs.Outcome.{Outcome, apply, is_full, only_reply}
+use Rattle.ktm_world.specs.Outcome.{Outcome, apply, only_reply}
 use Rattle.ktm_memory.specs.declared.settlement.Settlement.{Settlement}
 use Rattle.ktm_memory.specs.declared.settlement.Settlement.TheVariants.{Nothing}
 use Rattle.ktm_memory.specs.Decided.{Decides}
@@ -12,13 +12,12 @@ use Rattle.ktm_memory.specs.Memory.{LayersNow, MaySettle, MemoryState, held, now
 use Rattle.ktm_memory.specs.Settled.{left_to_do}
 
 -- what is left to do comes to what the outcome comes to
-pub decided : (h : LayersNow) (n : MemoryState) (o : Outcome) (reply : Reply) (then : Settlement) (events : EventsState) → reply ≡ o.reply → Holds events o.events → is_full (now_of h).machine.left o.events ≡ false
+pub decided : (h : LayersNow) (n : MemoryState) (o : Outcome) (reply : Reply) (then : Settlement) (events : EventsState) → reply ≡ o.reply → Holds events o.events
     → held n ≡ h → (left_to_do (now_of h) then).events ≡ o.events → (left_to_do (now_of h) then).sent ≡ o.sent → apply (now_of h) (left_to_do (now_of h) then) ≡ apply (now_of h) o → MaySettle n then
     → (o.events ≢ [] → (refusal : Refusal) → reply ≢ Refused refusal) → Decides h o reply then events n
-decided h n o reply then events says holds room same group tells comes may answers = record {
+decided h n o reply then events says holds same group tells comes may answers = record {
   says = says;
   records = holds;
-  room = room;
   journal = ap (λ (g : LayersNow). g.journal) same;
   group = ap (λ (g : LayersNow). (left_to_do (now_of g) then).events) same ∙ group;
   tells = ap (λ (g : LayersNow). (left_to_do (now_of g) then).sent) same ∙ tells;
@@ -32,7 +31,7 @@ decided h n o reply then events says holds room same group tells comes may answe
 pub quiet_decided : (h : LayersNow) (n : MemoryState) (o : Outcome) (reply : Reply) (then : Settlement) (events : EventsState) → reply ≡ o.reply → o.events ≡ [] → held n ≡ h
     → (left_to_do (now_of h) then).events ≡ o.events → (left_to_do (now_of h) then).sent ≡ o.sent → apply (now_of h) (left_to_do (now_of h) then) ≡ apply (now_of h) o → MaySettle n then → Holds events [] → Decides h o reply then events n
 quiet_decided h n o reply then events says none same group tells comes may holds =
-    decided h n o reply then events says (subst (Holds events) (sym none) holds) (ap (is_full (now_of h).machine.left) none) same group tells comes may (λ some. absurd (some none))
+    decided h n o reply then events says (subst (Holds events) (sym none) holds) same group tells comes may (λ some. absurd (some none))
 
 -- a reply, and nothing left to do
 pub only_decided : (m : MemoryState) (o : Outcome) (reply : Reply) (events : EventsState) → o ≡ only_reply (present_of m) reply → Holds events []

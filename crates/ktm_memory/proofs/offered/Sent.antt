@@ -120,7 +120,7 @@ sends-alike m rest x shows = sym (left-aside rest x) ∙ ap (λ (y : Present). (
   where
     same : aside x ≡ aside (present_of m)
     same i = record {
-      machine = record { is_up = (sym shows.is_up) i; left = 0 };
+      machine = record { is_up = (sym shows.is_up) i };
       recorded = empty_state 0 0;
       transactions = (sym shows.transactions) i;
       managers = (sym shows.managers) i;

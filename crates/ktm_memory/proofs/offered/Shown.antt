@@ -1,5 +1,5 @@
 -- What memory shows, and what is so.
-use Rattle.std.proofs.Common.{◌≡◌, ◌≢◌, ◌-◌, List, [], ◌∷◌, map, refl, sym, subst, ap, ◌∙◌}
+use Rattle.std.proofs.Common.{◌≡◌, ◌≢◌, List, [], ◌∷◌, map, refl, sym, subst, ap, ◌∙◌}
 use Rattle.ktm_event.specs.Kept.{EventsState}
 use Rattle.ktm_journal.specs.Image.{JournalState}
 use Rattle.ktm_records.specs.Kept.{IsKept}
@@ -30,12 +30,11 @@ shown-itself kept m = record {
   handles = refl;
 }
 
--- the journal is of the image, and has the events and what is left of its log
+-- the journal is of the image, and has the events
 pub record Counts (j : JournalState) (x : Present) : Type 0 where
   pub units : j.units ≡ x.recorded.units
   pub image : j.image ≡ x.recorded.image
   pub events : j.events ≡ x.recorded.events
-  pub left : j.log.area.len - j.log.end ≡ x.machine.left
 
 -- where memory shows what is so and kept, and its journal is so, that is what memory makes of itself
 pub shown-is : ContentsLaw → (m : MemoryState) (x : Present) → Shows m x → Counts m.journal x → IsKept x → present_of m ≡ x
@@ -47,7 +46,7 @@ shown-is contents m x shows counts kept =
     (λ i. map (expanded (shows.transactions i).enlistments (shows.files i).table.own (shows.keys i).own) (shows.traces i))
     ∙ contents x kept.sound.course kept.good kept.agrees in
     λ i. record {
-      machine = record { is_up = shows.is_up i; left = counts.left i };
+      machine = record { is_up = shows.is_up i };
       recorded = record {
         units = counts.units i;
         image = counts.image i;

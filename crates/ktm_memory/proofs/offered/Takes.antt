@@ -1,15 +1,14 @@
 -- Which calls may take memory: from a call to what is made of it.
-use Rattle.std.proofs.Common.{◌≡◌, ◌&&◌, ◌||◌, not, Bool, true, false, [], ◌∷◌, Option, Some, None, is_none, refl, sym, ◌∙◌, ap}
+use Rattle.std.proofs.Common.{◌≡◌, ◌||◌, not, Bool, true, false, [], ◌∷◌, Option, is_none, refl, sym, ◌∙◌, ap}
 use Rattle.ktm_base.specs.declared.id.Id.{Id}
 use Rattle.ktm_base.specs.declared.refusal.Refusal.{Refusal}
-use Rattle.ktm_world.specs.Decide.{events_of}
 use Rattle.ktm_world.specs.FileOutcome.{FileOutcome}
-use Rattle.ktm_world.specs.Outcome.{first_refusal, is_full}
+use Rattle.ktm_world.specs.Outcome.{first_refusal}
 use Rattle.ktm_world.specs.Present.{Present}
 use Rattle.ktm_world.specs.Uses.{file_room}
 use Rattle.txf_calls.specs.Calls.{file_outcome, takes_memory as decision_takes_memory}
 use Rattle.txf_calls.specs.declared.call.FileCall.{FileCall}
-use Rattle.ktm_memory.specs.Takes.{files_take_memory, is_quiet, plan_takes_memory}
+use Rattle.ktm_memory.specs.Takes.{files_take_memory, is_quiet}
 
 -- ---- calls that are not refused
 
@@ -33,21 +32,12 @@ from_not true is = refl
 from_not false is = absurd (cc)
 
 module _ (x : Present) (who : Option Id) (call : FileCall) (none : files_take_memory x who call ≡ false) where
+  both_none : (decision_takes_memory call ≡ false) × (not (is_quiet (file_outcome x.files (file_room x) who call)) ≡ false)
+  both_none = neither (decision_takes_memory call) (not (is_quiet (file_outcome x.files (file_room x) who call))) none
+
   pub quick_decision : decision_takes_memory call ≡ false
-  quick_decision = (neither (decision_takes_memory call) (plan_takes_memory x who (file_outcome x.files (file_room x) who call)) none).0
+  quick_decision = both_none.0
 
-  module _ (o : FileOutcome) (planned : o ≡ file_outcome x.files (file_room x) who call) (changes : is_quiet o ≡ false) where
-    takes_none : plan_takes_memory x who o ≡ false
-    takes_none = ap (plan_takes_memory x who) planned ∙ (neither (decision_takes_memory call) (plan_takes_memory x who (file_outcome x.files (file_room x) who call)) none).1
-
-    -- a call in a transaction only answers
-    pub own_quiet : (id : Id) → who ≡ Some id → ⊥
-    own_quiet id is =
-        let takes : plan_takes_memory x (Some id) o ≡ true = ap (λ quiet. not quiet && true) changes in
-        let both = sym takes ∙ ap (λ w. plan_takes_memory x w o) (sym is) ∙ takes_none in absurd (cc)
-
-    -- for a plain call the log has no room
-    pub plain_full : who ≡ None → is_full x.machine.left (events_of None o.change) ≡ true
-    plain_full is =
-        let full : Bool = is_full x.machine.left (events_of None o.change) in
-        from_not full (sym (ap (λ quiet. not quiet && not full) changes) ∙ ap (λ w. plan_takes_memory x w o) (sym is) ∙ takes_none)
+  -- a call that takes none to be made only answers
+  pub only_answers : (o : FileOutcome) → o ≡ file_outcome x.files (file_room x) who call → is_quiet o ≡ false → ⊥
+  only_answers o planned changes = let answers = sym (ap (λ quiet. not quiet) changes) ∙ ap (λ (p : FileOutcome). not (is_quiet p)) planned ∙ both_none.1 in absurd (cc)

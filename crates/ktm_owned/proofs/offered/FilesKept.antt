@@ -1,11 +1,11 @@
 -- Every call, and the passing of time, keep sound what undecided transactions own of the files.
-use Rattle.std.proofs.Common.{◌≡◌, ℕ, not, Bool, true, false, if◌then◌else◌, List, [], ◌∷◌, Option, Some, None, refl, sym, subst, is_none, ◌∙◌, ◌++◌}
+use Rattle.std.proofs.Common.{◌≡◌, ℕ, not, Bool, true, false, List, [], ◌∷◌, Option, Some, None, refl, sym, subst, is_none, ◌∙◌, ◌++◌}
 use Rattle.std.proofs.lemmas.Option.{none-some}
 use Rattle.ktm_base.specs.declared.id.Id.{Id}
 use Rattle.ktm_base.specs.declared.id.Label.{Label}
 use Rattle.ktm_base.specs.declared.id.Pid.{Pid}
 use Rattle.ktm_base.specs.declared.refusal.Refusal.{Refusal}
-use Rattle.ktm_base.specs.declared.refusal.Refusal.TheVariants.{LogFull, MachineDown}
+use Rattle.ktm_base.specs.declared.refusal.Refusal.TheVariants.{MachineDown}
 use Rattle.std.specs.Prelude.{option_and_then}
 use Rattle.ktm_types.specs.declared.command.Command.{Command}
 use Rattle.ktm_types.specs.declared.command.Command.TheVariants.{CreateFile, CreateFileTransacted, WriteFile, SetEndOfFile, DeleteFileTransacted, CreateDirectoryTransacted, RemoveDirectoryTransacted, MoveFileTransacted, Exit, CloseHandle, MoveFile, RemoveDirectory, CreateDirectory, DeleteFile, OpenTransaction, CommitTransaction, RollbackTransaction, GetTransactionInformation, CreateResourceManager, OpenResourceManager, RecoverResourceManager, GetNotificationResourceManager, CreateEnlistment, OpenEnlistment, RecoverEnlistment, PrePrepareComplete, PrepareComplete, ReadOnlyEnlistment, CommitComplete, RollbackComplete, SinglePhaseReject, RollbackEnlistment, PrePrepareEnlistment, PrepareEnlistment, CommitEnlistment, SetEnlistmentRecoveryInformation, GetEnlistmentRecoveryInformation, ReadFile, GetFileSizeEx, FlushFileBuffers, FindFiles, FindFilesTransacted, KvSet, KvUnset, KvGet, KvList, DuplicateHandle, CreateTransaction}
@@ -16,14 +16,14 @@ use Rattle.ktm_types.specs.declared.options.Durability.{Durability}
 use Rattle.ktm_types.specs.declared.options.EnlistmentKind.{EnlistmentKind}
 use Rattle.ktm_types.specs.declared.reply.Reply.{Reply}
 use Rattle.ktm_types.specs.declared.reply.Reply.TheVariants.{Done, Refused}
-use Rattle.ktm_world.specs.Decide.{of_files, on_file, opening, caller, transacted, refusal_of, command_tests, command_effect, with_room}
+use Rattle.ktm_world.specs.Decide.{of_files, on_file, opening, caller, transacted, refusal_of, command_tests, command_effect}
 use Rattle.ktm_world.specs.Enlistments.{Enlistment, Manager}
 use Rattle.ktm_world.specs.FileCalls.{read_file, get_size, flush_file, find_files, create_file, create_file_tests, delete_file, delete_file_tests, create_directory, create_directory_tests, remove_directory, remove_directory_tests, move_file, move_file_tests}
 use Rattle.ktm_world.specs.Files.{OpenFile}
 use Rattle.ktm_world.specs.HandleCalls.{exit, close_handle, duplicate_handle, bind_to}
 use Rattle.ktm_world.specs.Handles.{object_at, transaction_id}
 use Rattle.ktm_world.specs.Labels.{transaction_named, manager_named, enlistment_named, file_named}
-use Rattle.ktm_world.specs.Outcome.{apply, Outcome, only_reply, first_refusal, refuse_or, within_log, is_full}
+use Rattle.ktm_world.specs.Outcome.{apply, Outcome, first_refusal, refuse_or}
 use Rattle.ktm_world.specs.Phases.{Course}
 use Rattle.ktm_world.specs.Present.{Present}
 use Rattle.ktm_world.specs.Steps.{led, share_of}
@@ -276,20 +276,12 @@ module _ (lists : ListsLaw) (formed : FormedLaw) where
   refuse_or-keeps x (Some refusal) effect keeps = replies lists formed x (Refused refusal)
   refuse_or-keeps x None effect keeps = keeps refl
 
-  within_log-keeps : (x : Present) (o : Outcome) → Keeps x o → Keeps x (within_log x o)
-  within_log-keeps x o keeps = go (is_full x.machine.left o.events)
-    where
-      go : (b : Bool) → Keeps x (if b then record (only_reply x (Refused LogFull)) { stops = true } else o)
-      go true = leaves lists formed x (record (only_reply x (Refused LogFull)) { stops = true }) refl refl refl refl refl (λ object has. has) refl
-      go false = keeps
-
   order-of : (x : Present) → IsSoundCourse x → AreInOrder x
   order-of x course = record { transactions_rise = course.transactions.rise; labels_differ = course.handles.labels_differ }
 
   pub files_kept_law : FilesKeptLaw
   files_kept_law = record {
-    commands = λ x process command course. within_log-keeps x (with_room x process command) (refuse_or-keeps x (refusal_of x process command) (command_effect x process command) (effect x process command course)) (order-of x course);
-    ticks = λ x ms course. let refusal = first_refusal ((not x.machine.is_up, MachineDown) ∷ []) in
-        within_log-keeps x (refuse_or x refusal (tick x ms)) (refuse_or-keeps x refusal (tick x ms) (λ none. tick-sound lists formed x ms)) (order-of x course);
+    commands = λ x process command course. refuse_or-keeps x (refusal_of x process command) (command_effect x process command) (effect x process command course) (order-of x course);
+    ticks = λ x ms course. refuse_or-keeps x (first_refusal ((not x.machine.is_up, MachineDown) ∷ [])) (tick x ms) (λ none. tick-sound lists formed x ms) (order-of x course);
     restarts = files-opened;
   }

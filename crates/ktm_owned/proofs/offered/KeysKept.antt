@@ -8,7 +8,7 @@ use Rattle.ktm_base.specs.declared.id.Id.{Id}
 use Rattle.ktm_base.specs.declared.id.Label.{Label}
 use Rattle.ktm_base.specs.declared.id.Pid.{Pid}
 use Rattle.ktm_base.specs.declared.refusal.Refusal.{Refusal}
-use Rattle.ktm_base.specs.declared.refusal.Refusal.TheVariants.{LogFull, MachineDown}
+use Rattle.ktm_base.specs.declared.refusal.Refusal.TheVariants.{MachineDown}
 use Rattle.std.specs.Prelude.{option_and_then, ⊤}
 use Rattle.ktm_types.specs.declared.change.Change.{Change}
 use Rattle.ktm_types.specs.declared.command.Command.{Command}
@@ -21,7 +21,7 @@ use Rattle.ktm_types.specs.declared.options.EnlistmentKind.{EnlistmentKind}
 use Rattle.ktm_types.specs.declared.reply.Reply.{Reply}
 use Rattle.ktm_types.specs.declared.reply.Reply.TheVariants.{Done, Refused}
 use Rattle.ktm_world.specs.Committed.{Committed, Work, with_work, committed_with}
-use Rattle.ktm_world.specs.Decide.{of_files, opening, bound_file, on_file, caller, refusal_of, command_effect, command_tests, with_room}
+use Rattle.ktm_world.specs.Decide.{of_files, opening, bound_file, on_file, caller, refusal_of, command_effect, command_tests}
 use Rattle.ktm_world.specs.Enlistments.{Enlistment, Manager}
 use Rattle.ktm_world.specs.FileCalls.{create_file, read_file, write_file, set_end, get_size, flush_file, delete_file, create_directory, remove_directory, move_file, find_files}
 use Rattle.ktm_world.specs.FileOutcome.{FileOutcome, works_of}
@@ -33,7 +33,7 @@ use Rattle.ktm_keyed.specs.Keyed.{is_rising}
 use Rattle.ktm_world.specs.Keys.{Own, OwnSettings, own_settings, without_own, with_own, are_good_settings, is_bad_key, is_bad_value, is_good_setting}
 use Rattle.ktm_world.specs.Labels.{transaction_named, manager_named, enlistment_named, file_named, id_of_named, holds_of}
 use Rattle.ktm_world.specs.Lawful.{set_both, others_undecided, undecided}
-use Rattle.ktm_world.specs.Outcome.{Outcome, apply, only_reply, committed_now, first_refusal, refuse_or, within_log, is_full, and_then}
+use Rattle.ktm_world.specs.Outcome.{Outcome, apply, only_reply, committed_now, first_refusal, refuse_or, and_then}
 use Rattle.ktm_world.specs.Phases.{Course}
 use Rattle.ktm_world.specs.Present.{Present, Transactions}
 use Rattle.ktm_world.specs.Steps.{led, share_of}
@@ -395,13 +395,6 @@ refuse_or-keeps : (x : Present) (refusal : Option Refusal) (effect : Outcome) �
 refuse_or-keeps x (Some refusal) effect keeps = only_reply-keeps x (Refused refusal)
 refuse_or-keeps x None effect keeps = keeps refl
 
-within_log-keeps : (x : Present) (o : Outcome) → Keeps x o → Keeps x (within_log x o)
-within_log-keeps x o keeps = go (is_full x.machine.left o.events)
-  where
-    go : (b : Bool) → Keeps x (if b then record (only_reply x (Refused LogFull)) { stops = true } else o)
-    go true = same x _ (λ id is. is) refl refl
-    go false = keeps
-
 -- ---- no two transactions set a key both
 
 pub sets-apart : (x : Present) → IsSoundKeys x → (a b : Id) → same_id b a ≡ false → set_both (own_settings x.keys.own a) (own_settings x.keys.own b) ≡ false
@@ -418,8 +411,8 @@ all_set-apart x sound = list_all-from _ (undecided x) (λ t there. list_all-from
 
 pub own_keys_law : OwnKeysLaw
 own_keys_law = (
-  λ x process command. within_log-keeps x (with_room x process command) (refuse_or-keeps x (refusal_of x process command) (command_effect x process command) (effect-keeps x process command)),
-  λ x ms. let refusal = first_refusal ((not x.machine.is_up, MachineDown) ∷ []) in within_log-keeps x (refuse_or x refusal (tick x ms)) (refuse_or-keeps x refusal (tick x ms) (λ none. tick-keeps x ms)),
+  λ x process command. refuse_or-keeps x (refusal_of x process command) (command_effect x process command) (effect-keeps x process command),
+  λ x ms. refuse_or-keeps x (first_refusal ((not x.machine.is_up, MachineDown) ∷ [])) (tick x ms) (λ none. tick-keeps x ms),
   keys-opened,
   all_set-apart,
 )

@@ -42,12 +42,12 @@ use Rattle.txf_laws.proofs.offered.Tables.{is_earlier, before_other, same_id-equ
 use Rattle.ktm_courses.proofs.offered.Views.{each_pair-map}
 use Rattle.ktm_states.proofs.offered.WaitingChanges.{no_changes_part, no_settings_part}
 
-module _ (base : Durable) (room : ℕ) (log : List Group) (good : IsGoodState (stand base log)) where
+module _ (base : Durable) (log : List Group) (good : IsGoodState (stand base log)) where
   abbrev s : Durable
   s = stand base log
 
   abbrev x : Present
-  x = present (opened base room log)
+  x = present (opened base log)
 
   table : TableOf s s.transactions
   table = table-of s good

@@ -1,35 +1,44 @@
--- Bytes hold one log at most and stand for one state, or they are bad at one place.
+-- Bytes stand for one state at most, or they are bad at one place.
 use Rattle.std.proofs.Common.{◌≡◌, inl, inr, ℕ, ◌+◌, true, IsTrue, List, [], ◌∷◌, ◌++◌, drop, refl, sym, ◌∙◌, ap, subst}
 use Rattle.std.proofs.lemmas.Bool.{and_parts}
 use Rattle.ktm_log.specs.Log.{BeginsWith, IsFrame, IsClosed, IsLog, area_bytes, end_of}
 use Rattle.ktm_log.proofs.Frames.{begins-split}
 use Rattle.ktm_log.proofs.GoodOrBad.{begins_compare, one_frame, torn_is_no_frame}
+use Rattle.ktm_snapshot.specs.Laws.{OneStateAtMost}
+use Rattle.ktm_snapshot.specs.StateGrammar.{IsStateOf}
 use Rattle.ktm_world.specs.Logs.{Group}
-use Rattle.ktm_world.specs.Durable.{Durable, empty_state, stand, events_apply, log_applies}
+use Rattle.ktm_world.specs.Durable.{Durable, stand, events_apply, log_applies}
 use Rattle.ktm_types.specs.EventGrammar.{IsGroupOf}
 use Rattle.ktm_types.specs.Sizes.{log_size}
-use Rattle.ktm_world.proofs.offered.Durables.{log_applies-append}
-use Rattle.ktm_journal.specs.Image.{HasSnapshot, HoldGroups, IsFormatted, IsImage, empty_snapshot, half_of, log_area, snapshot_area}
-use Rattle.ktm_journal.proofs.offered.OneImage.{one_groups, one_header, one_image}
-use Rattle.ktm_restart.specs.Logs.{HoldsLog, StandsFor}
-use Rattle.ktm_restart.specs.Bad.{IsBadAt, IsBadFrame, IsBadStart}
+use Rattle.ktm_world.proofs.offered.Durables.{log_applies-append, stand-image, stand-units}
+use Rattle.ktm_journal.specs.Image.{HasSnapshot, HoldGroups, half_of, log_area, snapshot_area}
+use Rattle.ktm_journal.proofs.offered.OneImage.{one_groups, one_header, one_image, one_snapshot}
+use Rattle.ktm_restart.specs.Logs.{ComeTo, StandsFor}
+use Rattle.ktm_restart.specs.Bad.{BeginsAs, IsBadAt, IsBadFrame, IsBadStart}
 
--- a new image holds a log of no group
-pub new_log : (units image : ℕ) (bytes : List ℕ) → IsImage units image empty_snapshot [] bytes → HoldsLog units image [] bytes
-new_log units image bytes is = record { is = is; applies = refl }
+-- in an image of one size and number a snapshot is that of one state
+one_first : OneStateAtMost → (a b : Durable) (snapshot : List ℕ) → a.units ≡ b.units → a.image ≡ b.image → IsStateOf a snapshot → IsStateOf b snapshot → a ≡ b
+one_first law a b snapshot units image left right = (law a b snapshot snapshot [] [] units image left right refl).0
 
--- bytes hold one log at most
-pub one_held : (u v i j : ℕ) (log more : List Group) (bytes : List ℕ) → HoldsLog u i log bytes → HoldsLog v j more bytes → (u ≡ v) × (i ≡ j) × (log ≡ more)
-one_held u v i j log more bytes left right =
-    let (units, image, snapshot, logs) = one_image u v i j empty_snapshot empty_snapshot log more bytes left.is right.is in
-    (units, image, logs)
+-- a state has the size and the number of the one that its image begins with
+first_units : (state : Durable) (snapshot : List ℕ) (log : List Group) (come : ComeTo state snapshot log) → come.first.units ≡ state.units
+first_units state snapshot log come = sym (ap (λ (s : Durable). s.units) come.is ∙ stand-units come.first log)
+
+first_image : (state : Durable) (snapshot : List ℕ) (log : List Group) (come : ComeTo state snapshot log) → come.first.image ≡ state.image
+first_image state snapshot log come = sym (ap (λ (s : Durable). s.image) come.is ∙ stand-image come.first log)
+
+-- in an image of one size and number a snapshot and groups come to one state
+one_come : OneStateAtMost → (a b : Durable) (snapshot : List ℕ) (log : List Group) → a.units ≡ b.units → a.image ≡ b.image → ComeTo a snapshot log → ComeTo b snapshot log → a ≡ b
+one_come law a b snapshot log units image left right =
+    let first =
+    one_first law left.first right.first snapshot (first_units a snapshot log left ∙ units ∙ sym (first_units b snapshot log right)) (first_image a snapshot log left ∙ image ∙ sym (first_image b snapshot log right)) left.spelled right.spelled in
+    left.is ∙ ap (λ (s : Durable). stand s log) first ∙ sym right.is
 
 -- bytes stand for one state at most
-pub one_state : (a b : Durable) (bytes : List ℕ) → StandsFor a bytes → StandsFor b bytes → a ≡ b
-one_state a b bytes left right =
-    let (units, image, log) = one_held a.units b.units a.image b.image left.log right.log bytes left.holds right.holds in
-    left.comes_to ∙ ap (λ n. stand (empty_state n a.image) left.log) units ∙ ap (λ n. stand (empty_state b.units n) left.log) image
-    ∙ ap (λ (l : List Group). stand (empty_state b.units b.image) l) log ∙ sym right.comes_to
+pub one_state : OneStateAtMost → (a b : Durable) (bytes : List ℕ) → StandsFor a bytes → StandsFor b bytes → a ≡ b
+one_state law a b bytes left right =
+    let (units, image, snapshot, log) = one_image a.units b.units a.image b.image left.snapshot right.snapshot left.log right.log bytes left.is right.is in
+    one_come law a b right.snapshot right.log units image (subst (λ (l : List Group). ComeTo a right.snapshot l) log (subst (λ (x : List ℕ). ComeTo a x left.log) snapshot left.come)) right.come
 
 -- a group behind others, and those
 pub record IsSplit (log : List Group) (qs : List (List ℕ)) (p : List ℕ) : Type 0 where
@@ -60,20 +69,36 @@ applies_behind : (base : Durable) (front more : List Group) (events : Group) →
 applies_behind base front more events applies =
     (and_parts _ _ (and_parts _ _ (sym (log_applies-append base front (events ∷ more)) ∙ applies)).1).0
 
-module _ (units image selector : ℕ) (log : List Group) (bytes : List ℕ) (bad : IsBadFrame units image selector log bytes) where
+-- bytes that begin with the snapshots of two good states begin with one
+one_begin : OneStateAtMost → (u i k : ℕ) (a b : Durable) (bytes : List ℕ) → BeginsAs u i k a bytes → BeginsAs u i k b bytes → a ≡ b
+one_begin law u i k a b bytes left right =
+    let snapshot = one_snapshot u (half_of k) left.snapshot right.snapshot bytes left.formatted.has right.formatted.has in
+    one_first law a b right.snapshot (left.units_are ∙ sym right.units_are) (left.number ∙ sym right.number) (subst (λ (x : List ℕ). IsStateOf a x) snapshot left.spelled) right.spelled
+
+-- bytes that stand for a state begin with that of their snapshot
+begin_of : (state : Durable) (bytes : List ℕ) (stands : StandsFor state bytes) → BeginsAs state.units state.image stands.is.selector stands.come.first bytes
+begin_of state bytes stands = record {
+  units_are = first_units state stands.snapshot stands.log stands.come;
+  number = first_image state stands.snapshot stands.log stands.come;
+  snapshot = stands.snapshot;
+  formatted = stands.is.formatted;
+  spelled = stands.come.spelled;
+  good = stands.come.good;
+}
+
+module _ (units image selector : ℕ) (first : Durable) (log : List Group) (bytes : List ℕ) (bad : IsBadFrame units image selector first log bytes) where
   abbrev log_bytes : List ℕ
   log_bytes = area_bytes (log_area units (half_of selector)) bytes
 
   -- where the bad frame is no log goes on
-  not_longer : (more : List Group) (ps rest : List (List ℕ)) (r : List ℕ) → HoldGroups more ps → IsTrue (log_applies (empty_state units image) more)
+  not_longer : (more : List Group) (ps rest : List (List ℕ)) (r : List ℕ) → HoldGroups more ps → IsTrue (log_applies first more)
       → BeginsWith ps log_bytes → ps ≡ bad.payloads ++ r ∷ rest → ⊥
   not_longer more ps rest r groups applies begins is =
-      let base = empty_state units image in
       let at = drop (end_of bad.payloads) log_bytes in
       let frame : IsFrame r at = (begins-split bad.payloads rest r _ (subst (λ (l : List (List ℕ)). BeginsWith l log_bytes) is begins)).1 in
       let split = split_groups more bad.payloads rest r (subst (λ (l : List (List ℕ)). HoldGroups more l) is groups) in
-      let good = applies_behind base split.front split.more split.events (subst (λ (l : List Group). IsTrue (log_applies base l)) split.is applies) in
-      let here = subst (λ (l : List Group). events_apply (stand base l) split.events ≡ true) (one_groups split.front log bad.payloads split.groups bad.groups) good in
+      let good = applies_behind first split.front split.more split.events (subst (λ (l : List Group). IsTrue (log_applies first l)) split.is applies) in
+      let here = subst (λ (l : List Group). events_apply (stand first l) split.events ≡ true) (one_groups split.front log bad.payloads split.groups bad.groups) good in
       elim bad.bad [
         | inl torn ↦ torn_is_no_frame r at frame torn
         | inr (p, other, is_bad) ↦ absurd (cc (here, is_bad split.events (subst (λ (x : List ℕ). IsGroupOf split.events x) (one_frame r p at frame other) split.group)))
@@ -83,65 +108,77 @@ module _ (units image selector : ℕ) (log : List Group) (bytes : List ℕ) (bad
   no_end : IsClosed (drop (end_of bad.payloads) log_bytes) → ⊥
   no_end closed = elim bad.bad [ inl torn ↦ closed.closed torn.open_gate | inr (p, frame, is_bad) ↦ closed.closed frame.open_gate ]
 
-  no_log : (more : List Group) → HoldsLog units image more bytes → ⊥
-  no_log more holds =
-      let ps = holds.is.payloads in
-      let selected : holds.is.selector ≡ selector = sym holds.is.formatted.headed.selector_is ∙ bad.formatted.headed.selector_is in
-      let frames : IsLog ps log_bytes = subst (λ k. IsLog ps (area_bytes (log_area units (half_of k)) bytes)) selected holds.is.frames in
-      elim (begins_compare ps bad.payloads log_bytes frames.frames bad.frames) [
-        | inl (r, rest, is) ↦ not_longer more ps rest r holds.is.groups holds.applies frames.frames is
-        | inr (inl same) ↦ no_end (subst (λ (l : List (List ℕ)). IsClosed (drop (end_of l) log_bytes)) same frames.gate)
-        | inr (inr (r, rest, is)) ↦ frames.gate.closed (begins-split ps rest r log_bytes (subst (λ (l : List (List ℕ)). BeginsWith l log_bytes) is bad.frames)).1.open_gate
-      ]
+  no_log : (more : List Group) (ps : List (List ℕ)) → HoldGroups more ps → IsTrue (log_applies first more) → IsLog ps log_bytes → ⊥
+  no_log more ps groups applies frames = elim (begins_compare ps bad.payloads log_bytes frames.frames bad.frames) [
+    | inl (r, rest, is) ↦ not_longer more ps rest r groups applies frames.frames is
+    | inr (inl same) ↦ no_end (subst (λ (l : List (List ℕ)). IsClosed (drop (end_of l) log_bytes)) same frames.gate)
+    | inr (inr (r, rest, is)) ↦ frames.gate.closed (begins-split ps rest r log_bytes (subst (λ (l : List (List ℕ)). BeginsWith l log_bytes) is bad.frames)).1.open_gate
+  ]
 
--- where one half counts it has the snapshot of a new image, or another
-bad_or_good : (u v i j k m : ℕ) (bytes : List ℕ) → IsBadStart u i k bytes → IsFormatted v j m empty_snapshot bytes → ⊥
-bad_or_good u v i j k m bytes bad good =
-    let (units, image, selector) = one_header v u j i m k bytes good.headed bad.headed in
-    bad.other (subst (λ n. HasSnapshot u (half_of n) empty_snapshot bytes) selector (subst (λ n. HasSnapshot n (half_of m) empty_snapshot bytes) units good.has))
+-- where one half counts it has the snapshot of a good state, or another
+bad_or_good : (u v i j k m : ℕ) (first : Durable) (bytes : List ℕ) → IsBadStart u i k bytes → BeginsAs v j m first bytes → ⊥
+bad_or_good u v i j k m first bytes bad good =
+    let (units, image, selector) = one_header v u j i m k bytes good.formatted.headed bad.headed in
+    bad.bad good.snapshot (subst (λ n. HasSnapshot u (half_of n) good.snapshot bytes) selector (subst (λ n. HasSnapshot n (half_of m) good.snapshot bytes) units good.formatted.has))
+    first (good.units_are ∙ units) (good.number ∙ image) good.spelled good.good
 
-pub not_bad : (state : Durable) (bytes : List ℕ) (offset : ℕ) → StandsFor state bytes → IsBadAt bytes offset → ⊥
-not_bad state bytes offset stands bad =
-    let is = stands.holds.is in
+-- what begins the bytes does so by their header
+same_begin : (u v i j k m : ℕ) (first : Durable) (bytes : List ℕ) → u ≡ v → i ≡ j → k ≡ m → BeginsAs u i k first bytes → BeginsAs v j m first bytes
+same_begin u v i j k m first bytes units image selector begins =
+    subst (λ n. BeginsAs v j n first bytes) selector (subst (λ n. BeginsAs v n k first bytes) image (subst (λ n. BeginsAs n i k first bytes) units begins))
+
+pub not_bad : OneStateAtMost → (state : Durable) (bytes : List ℕ) (offset : ℕ) → StandsFor state bytes → IsBadAt bytes offset → ⊥
+not_bad law state bytes offset stands bad =
+    let is = stands.is in
+    let begins = begin_of state bytes stands in
     elim bad [
       | inl (none, at) ↦ none state.units state.image is.selector is.formatted.headed
-      | inr (inl (units, image, selector, start, at)) ↦ bad_or_good units state.units image state.image selector is.selector bytes start is.formatted
-      | inr (inr (units, image, selector, log, frame, at)) ↦
-          let (u, i, k) = one_header state.units units state.image image is.selector selector bytes is.formatted.headed frame.formatted.headed in
-          no_log units image selector log bytes frame stands.log (subst (λ n. HoldsLog n image stands.log bytes) u (subst (λ n. HoldsLog state.units n stands.log bytes) i stands.holds))
+      | inr (inl (units, image, selector, start, at)) ↦ bad_or_good units state.units image state.image selector is.selector stands.come.first bytes start begins
+      | inr (inr (units, image, selector, first, log, frame, at)) ↦
+          let (u, i, k) = one_header state.units units state.image image is.selector selector bytes is.formatted.headed frame.begins.formatted.headed in
+          let same = one_begin law units image selector stands.come.first first bytes (same_begin state.units units state.image image is.selector selector stands.come.first bytes u i k begins) frame.begins in
+          no_log units image selector first log bytes frame stands.log is.payloads is.groups (subst (λ (s : Durable). IsTrue (log_applies s stands.log)) same stands.come.applies)
+          (subst (λ n. IsLog is.payloads (area_bytes (log_area units (half_of n)) bytes)) k (subst (λ n. IsLog is.payloads (area_bytes (log_area n (half_of is.selector)) bytes)) u is.frames))
     ]
 
-one_bad_frame : (u i k : ℕ) (log more : List Group) (bytes : List ℕ) → IsBadFrame u i k log bytes → IsBadFrame u i k more bytes → log ≡ more
-one_bad_frame u i k log more bytes left right = elim (begins_compare left.payloads right.payloads (area_bytes (log_area u (half_of k)) bytes) left.frames right.frames) [
-  | inl (r, rest, is) ↦ absurd (not_longer u i k more bytes right log left.payloads rest r left.groups left.applies left.frames is)
+one_bad_frame : (u i k : ℕ) (first : Durable) (log more : List Group) (bytes : List ℕ) → IsBadFrame u i k first log bytes → IsBadFrame u i k first more bytes → log ≡ more
+one_bad_frame u i k first log more bytes left right = elim (begins_compare left.payloads right.payloads (area_bytes (log_area u (half_of k)) bytes) left.frames right.frames) [
+  | inl (r, rest, is) ↦ absurd (not_longer u i k first more bytes right log left.payloads rest r left.groups left.applies left.frames is)
   | inr (inl same) ↦ one_groups log more right.payloads (subst (λ (ps : List (List ℕ)). HoldGroups log ps) same left.groups) right.groups
-  | inr (inr (r, rest, is)) ↦ absurd (not_longer u i k log bytes left more right.payloads rest r right.groups right.applies right.frames is)
+  | inr (inr (r, rest, is)) ↦ absurd (not_longer u i k first log bytes left more right.payloads rest r right.groups right.applies right.frames is)
 ]
 
 -- where two halves of two sizes are one
 same_area : (at : ℕ → ℕ → ℕ) (u v k m : ℕ) → u ≡ v → k ≡ m → at u k ≡ at v m
 same_area at u v k m units selector = ap (λ n. at n k) units ∙ ap (λ n. at v n) selector
 
-pub one_bad_place : (a b : ℕ) (bytes : List ℕ) → IsBadAt bytes a → IsBadAt bytes b → a ≡ b
-one_bad_place a b bytes left right = elim left [
+-- two bad frames behind one header are behind the same groups
+same_frame : OneStateAtMost → (u v i j k m : ℕ) (a b : Durable) (log more : List Group) (bytes : List ℕ) → u ≡ v → i ≡ j → k ≡ m → IsBadFrame u i k a log bytes → IsBadFrame v j m b more bytes → log ≡ more
+same_frame law u v i j k m a b log more bytes units image selector left right =
+    let here : IsBadFrame v j m a log bytes = subst (λ n. IsBadFrame v j n a log bytes) selector (subst (λ n. IsBadFrame v n k a log bytes) image (subst (λ n. IsBadFrame n i k a log bytes) units left)) in
+    let first = one_begin law v j m a b bytes here.begins right.begins in
+    one_bad_frame v j m b log more bytes (subst (λ (s : Durable). IsBadFrame v j m s log bytes) first here) right
+
+pub one_bad_place : OneStateAtMost → (a b : ℕ) (bytes : List ℕ) → IsBadAt bytes a → IsBadAt bytes b → a ≡ b
+one_bad_place law a b bytes left right = elim left [
   | inl (none, here) ↦ elim right [
     | inl (neither, there) ↦ here ∙ sym there
     | inr (inl (v, j, m, start, there)) ↦ absurd (none v j m start.headed)
-    | inr (inr (v, j, m, more, frame, there)) ↦ absurd (none v j m frame.formatted.headed)
+    | inr (inr (v, j, m, first, more, frame, there)) ↦ absurd (none v j m frame.begins.formatted.headed)
   ]
   | inr (inl (u, i, k, start, here)) ↦ elim right [
     | inl (none, there) ↦ absurd (none u i k start.headed)
     | inr (inl (v, j, m, another, there)) ↦
         let (units, image, selector) = one_header u v i j k m bytes start.headed another.headed in
         here ∙ same_area (λ n s. (snapshot_area n (half_of s)).at) u v k m units selector ∙ sym there
-    | inr (inr (v, j, m, more, frame, there)) ↦ absurd (bad_or_good u v i j k m bytes start frame.formatted)
+    | inr (inr (v, j, m, first, more, frame, there)) ↦ absurd (bad_or_good u v i j k m first bytes start frame.begins)
   ]
-  | inr (inr (u, i, k, log, bad, here)) ↦ elim right [
-    | inl (none, there) ↦ absurd (none u i k bad.formatted.headed)
-    | inr (inl (v, j, m, start, there)) ↦ absurd (bad_or_good v u j i m k bytes start bad.formatted)
-    | inr (inr (v, j, m, more, frame, there)) ↦
-        let (units, image, selector) = one_header u v i j k m bytes bad.formatted.headed frame.formatted.headed in
-        let same = one_bad_frame v j m log more bytes (subst (λ n. IsBadFrame v j n log bytes) selector (subst (λ n. IsBadFrame n j k log bytes) units (subst (λ n. IsBadFrame u n k log bytes) image bad))) frame in
+  | inr (inr (u, i, k, first, log, bad, here)) ↦ elim right [
+    | inl (none, there) ↦ absurd (none u i k bad.begins.formatted.headed)
+    | inr (inl (v, j, m, start, there)) ↦ absurd (bad_or_good v u j i m k first bytes start bad.begins)
+    | inr (inr (v, j, m, other, more, frame, there)) ↦
+        let (units, image, selector) = one_header u v i j k m bytes bad.begins.formatted.headed frame.begins.formatted.headed in
+        let same = same_frame law u v i j k m first other log more bytes units image selector bad frame in
         here ∙ same_area (λ n s. (log_area n (half_of s)).at + log_size log) u v k m units selector ∙ ap (λ (l : List Group). (log_area v (half_of m)).at + log_size l) same ∙ sym there
   ]
 ]

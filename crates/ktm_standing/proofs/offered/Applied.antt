@@ -1,18 +1,14 @@
 -- What an outcome makes of what is so now: one that records, commits and sends nothing, and one after another.
-use Rattle.std.proofs.Common.{◌≡◌, ◌-◌, ◌++◌, ◌&&◌, ◌||◌, not, Bool, true, false, List, [], ◌∷◌, filter, map, drop, append-nil, append_assoc, Option, None, refl, sym, ap, ◌∙◌, inl, inr}
-use native.Mathlib.Nat.{sub-zero}
-use Rattle.std.proofs.Math.Bool.{and-true, or-false}
+use Rattle.std.proofs.Common.{◌≡◌, ◌++◌, not, List, [], ◌∷◌, filter, map, drop, append-nil, append_assoc, Option, None, refl, sym, ap, ◌∙◌, inl, inr}
+use Rattle.std.proofs.Math.Bool.{or-false}
 use Rattle.std.proofs.lemmas.Bool.{cases_Bool}
 use Rattle.std.proofs.lemmas.List.Sums.{fold-append}
 use Rattle.ktm_base.specs.declared.id.Id.{Id}
-use Rattle.ktm_types.specs.Sizes.{log_size}
-use Rattle.ktm_types.specs.declared.event.Event.{Event}
 use Rattle.ktm_types.specs.declared.reply.Reply.{Reply}
 use Rattle.ktm_world.specs.Committed.{committed_with, with_work}
 use Rattle.ktm_world.specs.Durable.{after_events, empty_state}
 use Rattle.ktm_world.specs.Enlistments.{Manager, Sent, notes_for, taken_count}
 use Rattle.ktm_world.specs.Files.{FirstOpen, Opening, files_with, first_open}
-use Rattle.ktm_world.specs.Logs.{as_groups}
 use Rattle.ktm_world.specs.Outcome.{Outcome, apply, committed_now, first_opens_after, only_reply, joined, and_then, served}
 use Rattle.ktm_world.specs.Present.{Present}
 use Rattle.ktm_world.specs.Transactions.{same_id}
@@ -60,19 +56,12 @@ served-both took one two (m ∷ ms) = λ i. record m { queue = queue m i } ∷ s
 
 pub apply-silent : (x : Present) (o : Outcome) → IsSilent o → apply x o ≡ with_parts x o
 apply-silent x o silent i = record (with_parts x o) {
-  machine = record x.machine { is_up = up i; left = left i };
   recorded = recorded i;
   managers = managers i;
   files = files_with (committed i) (opens i) o.table;
   keys = record { store = (committed i).store; own = o.own };
 }
   where
-    up : (x.machine.is_up && not o.stops) ≡ x.machine.is_up
-    up = ap (λ (b : Bool). x.machine.is_up && not b) silent.goes_on ∙ and-true x.machine.is_up
-
-    left : x.machine.left - log_size (as_groups o.events) ≡ x.machine.left
-    left = ap (λ (es : List Event). x.machine.left - log_size (as_groups es)) silent.records ∙ sub-zero x.machine.left
-
     recorded : after_events x.recorded o.events ≡ x.recorded
     recorded = ap (after_events x.recorded) silent.records
 
@@ -98,7 +87,7 @@ apply-kept x o silent all =
 
 -- a reply changes nothing
 pub silent-reply : (x : Present) (reply : Reply) → IsSilent (only_reply x reply)
-silent-reply x reply = record { records = refl; commits = refl; sends = refl; opens = refl; makes = refl; takes = refl; goes_on = refl }
+silent-reply x reply = record { records = refl; commits = refl; sends = refl; opens = refl; makes = refl; takes = refl }
 
 pub apply-reply : (x : Present) (reply : Reply) → apply x (only_reply x reply) ≡ x
 apply-reply x reply = apply-kept x (only_reply x reply) (silent-reply x reply) refl
@@ -108,7 +97,7 @@ apply-reply x reply = apply-kept x (only_reply x reply) (silent-reply x reply) r
 -- the second one is applied to what the first one leaves, but that the log has one group of both
 pub apply-joined : (x : Present) (a b : Outcome) → a.openings ≡ [] → IsLater b → aside (apply x (joined a b)) ≡ aside (apply (apply x a) b)
 apply-joined x a b none later i = record {
-  machine = record { is_up = up x.machine.is_up a.stops b.stops i; left = 0 };
+  machine = x.machine;
   recorded = empty_state 0 0;
   transactions = b.transactions;
   managers = managers i;
@@ -117,11 +106,6 @@ apply-joined x a b none later i = record {
   handles = b.handles;
 }
   where
-    up : (on first second : Bool) → (on && not (first || second)) ≡ (on && not first && not second)
-    up true true second = refl
-    up true false second = refl
-    up false first second = refl
-
     managers : map (served a.took (a.sent ++ b.sent)) (x.managers ++ (a.made ++ b.made)) ≡ map (served b.took b.sent) (map (served a.took a.sent) (x.managers ++ a.made) ++ b.made)
     managers =
         ap (λ (ms : List Manager). map (served a.took (a.sent ++ b.sent)) (x.managers ++ (a.made ++ ms))) later.makes

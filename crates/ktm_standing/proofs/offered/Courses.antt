@@ -1,6 +1,5 @@
 -- What is so once a transaction has gone on by steps.
 use Rattle.std.proofs.Common.{◌≡◌, ◌||◌, Bool, true, false, cond, map, List, [], ◌∷◌, ◌++◌, fold, Option, Some, None, append-nil, refl, sym, ap, subst, ◌∙◌}
-use Rattle.std.proofs.Math.Bool.{and-true}
 use Rattle.std.specs.List.{list_any}
 use Rattle.ktm_base.specs.declared.id.Id.{Id}
 use Rattle.ktm_types.specs.declared.change.Change.{Change}
@@ -99,7 +98,6 @@ module _ (x : Present) (t : Transaction) (c : Course) (reply : Reply) where
         managers = map (served None c.sent) x.managers;
       }
       plain i = record (aside x) {
-        machine = record { is_up = and-true x.machine.is_up i; left = 0 };
         transactions = record x.transactions { items = change_at x.transactions.items c.transaction.id (λ u. c.transaction); enlistments = c.enlistments };
         managers = map (served None c.sent) (append-nil x.managers i);
         files = files_with (committed_with (committed_now x) (none i)) (opens_all x.files.first_opens i) x.files.table;
@@ -124,7 +122,6 @@ module _ (x : Present) (t : Transaction) (c : Course) (reply : Reply) where
         keys = record x.keys { own = without_own x.keys.own c.transaction.id };
       }
       plain i = record (aside x) {
-        machine = record { is_up = and-true x.machine.is_up i; left = 0 };
         transactions = record x.transactions { items = change_at x.transactions.items c.transaction.id (λ u. c.transaction); enlistments = c.enlistments };
         managers = map (served None c.sent) (append-nil x.managers i);
         files = files_with (committed_with (committed_now x) (none i)) (opens_ended i) (without_transaction x.files.table c.transaction.id);
@@ -134,7 +131,6 @@ module _ (x : Present) (t : Transaction) (c : Course) (reply : Reply) where
   -- its work is committed
   left_committed : c.transaction.id ≡ t.id → c.works ≡ commit_works t.id (changes_of x t) (settings_of x t) → aside (apply x (released_by false c (arriving x c reply))) ≡ aside (with_course x c true)
   left_committed same works i = record (aside x) {
-    machine = record { is_up = and-true x.machine.is_up i; left = 0 };
     transactions = record x.transactions { items = change_at x.transactions.items c.transaction.id (λ u. c.transaction); enlistments = c.enlistments };
     managers = map (served None c.sent) (append-nil x.managers i);
     files = record { tree = tree i; versions = versions i; first_opens = opens_ended i; table = without_transaction x.files.table c.transaction.id };

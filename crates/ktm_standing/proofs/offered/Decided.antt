@@ -1,15 +1,14 @@
 -- What holds of every outcome of a command.
 use Rattle.std.proofs.Common.{◌≡◌, ℕ, Bool, true, false, not, ◌&&◌, cond, List, [], ◌∷◌, Option, Some, None, refl, sym, ◌∙◌, ap, inl, inr}
-use Rattle.std.proofs.lemmas.Bool.{cases_Bool, and_from, and_parts, or_from}
+use Rattle.std.proofs.lemmas.Bool.{cases_Bool, and_from, and_parts}
 use Rattle.ktm_base.specs.declared.id.Id.{Id}
 use Rattle.ktm_base.specs.declared.id.Label.{Label}
 use Rattle.ktm_base.specs.declared.id.Pid.{Pid}
 use Rattle.ktm_base.specs.declared.refusal.Refusal.{Refusal}
-use Rattle.ktm_base.specs.declared.refusal.Refusal.TheVariants.{MachineDown, LogFull}
+use Rattle.ktm_base.specs.declared.refusal.Refusal.TheVariants.{MachineDown}
 use Rattle.ktm_types.specs.declared.command.Command.{Command}
 use Rattle.ktm_types.specs.declared.command.Command.TheVariants.{CreateTransaction, OpenTransaction, CommitTransaction, RollbackTransaction, GetTransactionInformation, CreateResourceManager, OpenResourceManager, RecoverResourceManager, GetNotificationResourceManager, CreateEnlistment, OpenEnlistment, RecoverEnlistment, PrePrepareComplete, PrepareComplete, ReadOnlyEnlistment, CommitComplete, RollbackComplete, SinglePhaseReject, RollbackEnlistment, PrePrepareEnlistment, PrepareEnlistment, CommitEnlistment, SetEnlistmentRecoveryInformation, GetEnlistmentRecoveryInformation, CreateFile, CreateFileTransacted, ReadFile, WriteFile, SetEndOfFile, GetFileSizeEx, FlushFileBuffers, DeleteFile, CreateDirectory, RemoveDirectory, MoveFile, DeleteFileTransacted, CreateDirectoryTransacted, RemoveDirectoryTransacted, MoveFileTransacted, FindFiles, FindFilesTransacted, KvSet, KvUnset, KvGet, KvList, CloseHandle, DuplicateHandle, Exit}
 use Rattle.ktm_types.specs.declared.command.View.TheVariants.{Plain, Transaction as Through}
-use Rattle.ktm_types.specs.declared.event.Event.{Event}
 use Rattle.ktm_types.specs.declared.input.PhaseInput.{PhaseInput}
 use Rattle.ktm_types.specs.declared.object.Object.{Object}
 use Rattle.ktm_types.specs.declared.object.Transaction.{Transaction}
@@ -19,7 +18,7 @@ use Rattle.ktm_types.specs.declared.options.Disposition.{Disposition}
 use Rattle.ktm_types.specs.declared.options.ShareMode.{ShareMode}
 use Rattle.ktm_types.specs.declared.reply.Reply.{Reply}
 use Rattle.ktm_types.specs.declared.reply.Reply.TheVariants.{Refused, Done}
-use Rattle.ktm_world.specs.Decide.{bound_file, caller, decide, with_room, refusal_of, command_tests, command_effect, on_file, opening, own_tests}
+use Rattle.ktm_world.specs.Decide.{bound_file, caller, decide, refusal_of, command_tests, command_effect, on_file, opening, own_tests}
 use Rattle.ktm_world.specs.Enlistments.{Enlistment, Manager, Note, is_ended}
 use Rattle.ktm_courses.proofs.offered.HandlesAndTime.{Closes, close_handle-so, exit-so, tick-so}
 use Rattle.ktm_world.specs.HandleCalls.{close_handle, exit, bind_to, duplicate_handle, duplicate_handle_tests}
@@ -32,7 +31,7 @@ use Rattle.ktm_world.specs.Keys.{without_own}
 use Rattle.ktm_world.specs.KeyCalls.{reply_of_value}
 use Rattle.ktm_world.specs.Holds.{Act}
 use Rattle.ktm_world.specs.Labels.{enlistment_named, file_named, manager_named, transaction_named}
-use Rattle.ktm_world.specs.Outcome.{Outcome, only_reply, refuse_or, first_refusal, is_full, within_log}
+use Rattle.ktm_world.specs.Outcome.{Outcome, only_reply, refuse_or, first_refusal}
 use Rattle.ktm_world.specs.Phases.{Course}
 use Rattle.ktm_world.specs.Present.{Present}
 use Rattle.ktm_world.specs.Steps.{led, share_of}
@@ -41,72 +40,51 @@ use Rattle.ktm_world.specs.Uses.{file_room}
 use Rattle.ktm_world.specs.World.{decide_tick}
 use Rattle.ktm_standing.specs.Laws.{DecidedLaw}
 
--- the outcome of a full log
-abbrev pub full_log : Present → Outcome
-full_log x = record (only_reply x (Refused LogFull)) { stops = true }
-
--- ---- refused, or with nothing to record
+-- ---- refused, or done
 
 refused_is : (x : Present) (process : Pid) (command : Command) (refusal : Refusal) → refusal_of x process command ≡ Some refusal → decide x process command ≡ only_reply x (Refused refusal)
-refused_is x process command refusal tested =
-    let refused : with_room x process command ≡ only_reply x (Refused refusal) = ap (λ r. refuse_or x r (command_effect x process command)) tested in
-    ap (λ (o : Outcome). cond (is_full x.machine.left o.events) (full_log x) o) refused
-
-quiet_or_refused : (x : Present) (tested : Option Refusal) (effect : Outcome) → effect.events ≡ [] → (refuse_or x tested effect).events ≡ []
-quiet_or_refused x None effect none = none
-quiet_or_refused x (Some refusal) effect none = refl
-
-quiet_is : (x : Present) (process : Pid) (command : Command) → (command_effect x process command).events ≡ [] → decide x process command ≡ with_room x process command
-quiet_is x process command none =
-    let o = with_room x process command in
-    ap (λ (es : List Event). cond (is_full x.machine.left es) (full_log x) o) (quiet_or_refused x (refusal_of x process command) (command_effect x process command) none)
-
--- ---- a command by itself stops no machine
-
-released_goes_on : (c : Course) (o : Outcome) → (released c o).stops ≡ o.stops
-released_goes_on c o = elim (is_undecided c.transaction) as (λ b. (cond b o (record o { forgotten = c.transaction.id ∷ []; table = without_transaction o.table c.transaction.id; own = without_own o.own c.transaction.id })).stops ≡ o.stops) [ true ↦ refl | false ↦ refl ]
+refused_is x process command refusal tested = ap (λ r. refuse_or x r (command_effect x process command)) tested
 
 released_says : (c : Course) (o : Outcome) → (released c o).reply ≡ o.reply
 released_says c o = elim (is_undecided c.transaction) as (λ b. (cond b o (record o { forgotten = c.transaction.id ∷ []; table = without_transaction o.table c.transaction.id; own = without_own o.own c.transaction.id })).reply ≡ o.reply) [ true ↦ refl | false ↦ refl ]
 
--- an outcome answers that it is done, and the machine goes on
+-- an outcome answers that it is done
 pub record IsDone (o : Outcome) : Type 0 where
-  pub goes_on : o.stops ≡ false
   pub says : o.reply ≡ Done
 
 pub done_open : (x : Present) (process : Pid) (label : Label) (named : Option Transaction) → IsDone (open_to_transaction x process label named)
-done_open x process label None = record { goes_on = refl; says = refl }
-done_open x process label (Some t) = record { goes_on = refl; says = refl }
+done_open x process label None = record { says = refl }
+done_open x process label (Some t) = record { says = refl }
 
 pub done_bind : (x : Present) (process : Pid) (label : Label) (named : Option Object) → IsDone (bind_to x process label named)
-done_bind x process label None = record { goes_on = refl; says = refl }
-done_bind x process label (Some object) = record { goes_on = refl; says = refl }
+done_bind x process label None = record { says = refl }
+done_bind x process label (Some object) = record { says = refl }
 
 done_manager : (x : Present) (process : Pid) (label : Label) (m : Option Manager) → IsDone (open_to_manager x process label m)
-done_manager x process label None = record { goes_on = refl; says = refl }
-done_manager x process label (Some m) = record { goes_on = refl; says = refl }
+done_manager x process label None = record { says = refl }
+done_manager x process label (Some m) = record { says = refl }
 
 done_enlistment : (x : Present) (process : Pid) (label : Label) (e : Option Enlistment) → IsDone (open_to_enlistment x process label e)
-done_enlistment x process label None = record { goes_on = refl; says = refl }
-done_enlistment x process label (Some e) = record { goes_on = refl; says = refl }
+done_enlistment x process label None = record { says = refl }
+done_enlistment x process label (Some e) = record { says = refl }
 
 done_recovered : (x : Present) (m : Option Manager) → IsDone (recover_all x m)
-done_recovered x None = record { goes_on = refl; says = refl }
-done_recovered x (Some m) = record { goes_on = refl; says = refl }
+done_recovered x None = record { says = refl }
+done_recovered x (Some m) = record { says = refl }
 
 done_informed : (x : Present) (e : Option Enlistment) (information : List ℕ) → IsDone (keep_information x e information)
-done_informed x None information = record { goes_on = refl; says = refl }
-done_informed x (Some e) information = record { goes_on = refl; says = refl }
+done_informed x None information = record { says = refl }
+done_informed x (Some e) information = record { says = refl }
 
 done_arrived : (x : Present) (c : Course) → IsDone (arrived x c Done)
-done_arrived x c = record { goes_on = released_goes_on c _; says = released_says c _ }
+done_arrived x c = record { says = released_says c _ }
 
 pub done_answering : (x : Present) (e : Option Enlistment) (input : Enlistment → PhaseInput) → IsDone (answering x e input)
-done_answering x None input = record { goes_on = refl; says = refl }
+done_answering x None input = record { says = refl }
 done_answering x (Some e) input = go (transaction_in x e)
   where
     go : (t : Option Transaction) → IsDone (goes_on x e t (input e))
-    go None = record { goes_on = refl; says = refl }
+    go None = record { says = refl }
     go (Some t) = done_arrived x (led (input e) (course_of x t (Some e)))
 
 done_aborted : (x : Present) (t : Transaction) → IsDone (aborted_by x t None Done)
@@ -114,19 +92,19 @@ done_aborted x t = done_arrived x (led PhaseInput.Rollback (course_of x t None))
 
 pub done_rollback : (x : Present) (named : Option Transaction) → IsDone (rollback_transaction x named)
 unfolding rollback_transaction
-done_rollback x None = record { goes_on = refl; says = refl }
+done_rollback x None = record { says = refl }
 done_rollback x (Some t) = done_aborted x t
 
 -- what closing a handle and the passing of time come to is done
 closing : Closes (λ x. Unit {0}) (λ x o. IsDone o)
 closing = record {
   rolls = record {
-    reply = λ x asked. record { goes_on = refl; says = refl };
+    reply = λ x asked. record { says = refl };
     rolls = λ x t asked there may. done_aborted x t;
-    goes_on = λ x a next first second. record { goes_on = or_from _ _ first.goes_on (second tt).goes_on; says = first.says };
+    goes_on = λ x a next first second. record { says = first.says };
   };
-  unbinds = λ x process label asked. record { goes_on = refl; says = refl };
-  ends = λ x number asked. record { goes_on = refl; says = refl };
+  unbinds = λ x process label asked. record { says = refl };
+  ends = λ x number asked. record { says = refl };
 }
 
 pub done_close : (x : Present) (process : Pid) (label : Label) → IsDone (close_handle x process label)
@@ -141,17 +119,9 @@ done_tick x ms = tick-so (λ x. Unit {0}) (λ x o. IsDone o) closing.rolls x ms 
 -- ---- calls on files
 
 -- the label that is bound changes nothing else
-bound_goes_on : (process : Pid) (label : Label) (opened : Option OpenFile) (o : Outcome) → (bound_file process label opened o).stops ≡ o.stops
-bound_goes_on process label None o = refl
-bound_goes_on process label (Some file) o = refl
-
 bound_says : (process : Pid) (label : Label) (opened : Option OpenFile) (o : Outcome) → (bound_file process label opened o).reply ≡ o.reply
 bound_says process label None o = refl
 bound_says process label (Some file) o = refl
-
-on_file_goes_on : (x : Present) (o : Option OpenFile) (call : OpenFile → FileOutcome) → (on_file x o call).stops ≡ false
-on_file_goes_on x None call = refl
-on_file_goes_on x (Some o) call = refl
 
 on_file_not_down : (x : Present) (o : Option OpenFile) (call : OpenFile → FileOutcome) → ((p : OpenFile) → (call p).reply ≡ Refused MachineDown → ⊥) → (on_file x o call).reply ≡ Refused MachineDown → ⊥
 on_file_not_down x None call says e = cc
@@ -202,88 +172,6 @@ moved_says files who source target = go (find_path (tree_seen files who) source)
     go : (from to : Whereabouts) → (move_at from to).reply ≡ Done
     go (at_node node) (free directory name) = refl
     go _ _ = refl
-
--- ---- every effect
-
-commit_goes_on : (x : Present) (t : Option Transaction) → (commit_transaction x t).stops ≡ false
-unfolding commit_transaction
-commit_goes_on x None = refl
-commit_goes_on x (Some t) = released_goes_on (led PhaseInput.CommitTransaction (course_of x t None)) _
-
-taken_goes_on : (x : Present) (m : Option Manager) → (take_first x m).stops ≡ false
-taken_goes_on x None = refl
-taken_goes_on x (Some m) = refl
-
-enlisted_goes_on : (x : Present) (process : Pid) (label : Label) (m : Option Manager) (t : Option Transaction) (kind : EnlistmentKind) → (enlist x process label m t kind).stops ≡ false
-enlisted_goes_on x process label None t kind = refl
-enlisted_goes_on x process label (Some m) None kind = refl
-enlisted_goes_on x process label (Some m) (Some t) kind = refl
-
-effect_goes_on : (x : Present) (process : Pid) (command : Command) → (command_effect x process command).stops ≡ false
-unfolding create_transaction open_transaction get_transaction_information duplicate_handle create_resource_manager open_resource_manager recover_resource_manager get_notification create_enlistment open_enlistment recover_enlistment pre_prepare_complete prepare_complete read_only_enlistment commit_complete rollback_complete single_phase_reject rollback_enlistment pre_prepare_enlistment prepare_enlistment commit_enlistment set_information get_information
-effect_goes_on x process (CreateTransaction label timeout) = refl
-effect_goes_on x process (OpenTransaction label guid) = (done_open x process label (transaction_with x guid)).goes_on
-effect_goes_on x process (CommitTransaction label) = commit_goes_on x (transaction_named x process label)
-effect_goes_on x process (RollbackTransaction label) = (done_rollback x (transaction_named x process label)).goes_on
-effect_goes_on x process (GetTransactionInformation label) = refl
-effect_goes_on x process (CreateResourceManager label durability) = refl
-effect_goes_on x process (OpenResourceManager label guid) = (done_manager x process label (manager_with x guid)).goes_on
-effect_goes_on x process (RecoverResourceManager label) = (done_recovered x (manager_named x process label)).goes_on
-effect_goes_on x process (GetNotificationResourceManager label) = taken_goes_on x (manager_named x process label)
-effect_goes_on x process (CreateEnlistment label manager transaction kind) = enlisted_goes_on x process label (manager_named x process manager) (transaction_named x process transaction) kind
-effect_goes_on x process (OpenEnlistment label manager guid) = (done_enlistment x process label (enlistment_with x (manager_named x process manager) guid)).goes_on
-effect_goes_on x process (RecoverEnlistment label) = (done_answering x (enlistment_named x process label) recovery_of).goes_on
-effect_goes_on x process (PrePrepareComplete label) = (done_answering x (enlistment_named x process label) (λ e. PhaseInput.PrePrepareComplete)).goes_on
-effect_goes_on x process (PrepareComplete label) = (done_answering x (enlistment_named x process label) (λ e. PhaseInput.PrepareComplete)).goes_on
-effect_goes_on x process (ReadOnlyEnlistment label) = (done_answering x (enlistment_named x process label) (λ e. PhaseInput.ReadOnly (share_of e))).goes_on
-effect_goes_on x process (CommitComplete label) = (done_answering x (enlistment_named x process label) (λ e. PhaseInput.CommitComplete)).goes_on
-effect_goes_on x process (RollbackComplete label) = (done_answering x (enlistment_named x process label) (λ e. PhaseInput.RollbackComplete)).goes_on
-effect_goes_on x process (SinglePhaseReject label) = (done_answering x (enlistment_named x process label) (λ e. PhaseInput.SinglePhaseReject)).goes_on
-effect_goes_on x process (RollbackEnlistment label) = (done_answering x (enlistment_named x process label) (λ e. PhaseInput.Rollback)).goes_on
-effect_goes_on x process (PrePrepareEnlistment label) = (done_answering x (enlistment_named x process label) (λ e. PhaseInput.PrePrepare)).goes_on
-effect_goes_on x process (PrepareEnlistment label) = (done_answering x (enlistment_named x process label) (λ e. PhaseInput.Prepare)).goes_on
-effect_goes_on x process (CommitEnlistment label) = (done_answering x (enlistment_named x process label) (λ e. PhaseInput.Commit)).goes_on
-effect_goes_on x process (SetEnlistmentRecoveryInformation label information) = (done_informed x (enlistment_named x process label) information).goes_on
-effect_goes_on x process (GetEnlistmentRecoveryInformation label) = refl
-effect_goes_on x process (CreateFile label path access share disposition) = bound_goes_on process label (create_file x.files None path access share disposition).opened _
-effect_goes_on x process (CreateFileTransacted label path access share disposition transaction) =
-    bound_goes_on process label (create_file x.files (caller x process transaction) path access share disposition).opened _
-effect_goes_on x process (ReadFile file offset many) = on_file_goes_on x (file_named x process file) (λ o. read_file x.files o offset many)
-effect_goes_on x process (WriteFile file offset bytes) = on_file_goes_on x (file_named x process file) (λ o. write_file o offset bytes)
-effect_goes_on x process (SetEndOfFile file size) = on_file_goes_on x (file_named x process file) (λ o. set_end o size)
-effect_goes_on x process (GetFileSizeEx file) = on_file_goes_on x (file_named x process file) (λ o. get_size x.files o)
-effect_goes_on x process (FlushFileBuffers file) = on_file_goes_on x (file_named x process file) (λ o. flush_file)
-effect_goes_on x process (DeleteFile path) = refl
-effect_goes_on x process (CreateDirectory path) = refl
-effect_goes_on x process (RemoveDirectory path) = refl
-effect_goes_on x process (MoveFile source target) = refl
-effect_goes_on x process (DeleteFileTransacted path transaction) = refl
-effect_goes_on x process (CreateDirectoryTransacted path transaction) = refl
-effect_goes_on x process (RemoveDirectoryTransacted path transaction) = refl
-effect_goes_on x process (MoveFileTransacted source target transaction) = refl
-effect_goes_on x process (FindFiles searched) = refl
-effect_goes_on x process (FindFilesTransacted searched transaction) = refl
-effect_goes_on x process (KvSet label key value) = refl
-effect_goes_on x process (KvUnset label key) = refl
-effect_goes_on x process (KvGet view key) = refl
-effect_goes_on x process (KvList view) = refl
-effect_goes_on x process (CloseHandle label) = (done_close x process label).goes_on
-effect_goes_on x process (DuplicateHandle label from source) = (done_bind x process label (object_at x.handles from source)).goes_on
-effect_goes_on x process Exit = (done_exit x process).goes_on
-
-refused_goes_on : (x : Present) (tested : Option Refusal) (effect : Outcome) → effect.stops ≡ false → (refuse_or x tested effect).stops ≡ false
-refused_goes_on x None effect goes_on = goes_on
-refused_goes_on x (Some refusal) effect goes_on = refl
-
-stops_only_full : (x : Present) (o : Outcome) (b : Bool) → o.stops ≡ false → (cond b (full_log x) o).stops ≡ true → (cond b (full_log x) o).events ≡ []
-stops_only_full x o true goes_on stops = refl
-stops_only_full x o false goes_on stops = let wrong : true ≡ false = sym stops ∙ goes_on in absurd (cc)
-
--- an outcome that stops the machine records nothing
-stopped_records_nothing : (x : Present) (process : Pid) (command : Command) → (decide x process command).stops ≡ true → (decide x process command).events ≡ []
-stopped_records_nothing x process command stops =
-    let o = with_room x process command in
-    stops_only_full x o (is_full x.machine.left o.events) (refused_goes_on x (refusal_of x process command) (command_effect x process command) (effect_goes_on x process command)) stops
 
 -- ---- on a machine that is up no reply says that it is down
 
@@ -489,38 +377,30 @@ effect_not_down x process (CloseHandle label) e = done_not_down _ (done_close x 
 effect_not_down x process (DuplicateHandle label from source) e = done_not_down _ (done_bind x process label (object_at x.handles from source)) e
 effect_not_down x process Exit e = done_not_down _ (done_exit x process) e
 
-room_not_down : (x : Present) (tested : Option Refusal) (effect : Outcome) → (tested ≡ Some MachineDown → ⊥) → (effect.reply ≡ Refused MachineDown → ⊥) → (refuse_or x tested effect).reply ≡ Refused MachineDown → ⊥
-room_not_down x None effect first then e = then e
-room_not_down x (Some refusal) effect first then e = first (cc)
-
-within_not_down : (x : Present) (b : Bool) (o : Outcome) → (o.reply ≡ Refused MachineDown → ⊥) → (cond b (full_log x) o).reply ≡ Refused MachineDown → ⊥
-within_not_down x true o then e = cc
-within_not_down x false o then e = then e
+refused_not_down : (x : Present) (tested : Option Refusal) (effect : Outcome) → (tested ≡ Some MachineDown → ⊥) → (effect.reply ≡ Refused MachineDown → ⊥) → (refuse_or x tested effect).reply ≡ Refused MachineDown → ⊥
+refused_not_down x None effect first then e = then e
+refused_not_down x (Some refusal) effect first then e = first (cc)
 
 up_not_down : (x : Present) (process : Pid) (command : Command) → x.machine.is_up ≡ true → (decide x process command).reply ≡ Refused MachineDown → ⊥
 up_not_down x process command up =
     let tested : refusal_of x process command ≡ first_refusal (command_tests x process command) = ap (λ u. cond (not u) (Some MachineDown) (first_refusal (command_tests x process command))) up in
-    within_not_down x (is_full x.machine.left (with_room x process command).events) (with_room x process command)
-    (room_not_down x (refusal_of x process command) (command_effect x process command) (λ e. first_not_down (command_tests x process command) (tests_of_up x process command) (sym tested ∙ e)) (effect_not_down x process command))
+    refused_not_down x (refusal_of x process command) (command_effect x process command) (λ e. first_not_down (command_tests x process command) (tests_of_up x process command) (sym tested ∙ e)) (effect_not_down x process command)
 
 -- ---- the passing of time
 
 -- whether time passes is decided by the power alone
 abbrev ticks : Present → ℕ → Bool → Outcome
-ticks x ms on = within_log x (refuse_or x (first_refusal ((not on, MachineDown) ∷ [])) (tick x ms))
+ticks x ms on = refuse_or x (first_refusal ((not on, MachineDown) ∷ [])) (tick x ms)
 
 tick_down : (x : Present) (ms : ℕ) → x.machine.is_up ≡ false → decide_tick x ms ≡ only_reply x (Refused MachineDown)
 tick_down x ms off = ap (ticks x ms) off
 
-tick_up : (x : Present) (ms : ℕ) → x.machine.is_up ≡ true → decide_tick x ms ≡ within_log x (tick x ms)
+tick_up : (x : Present) (ms : ℕ) → x.machine.is_up ≡ true → decide_tick x ms ≡ tick x ms
 tick_up x ms on = ap (ticks x ms) on
 
 pub decided_law : DecidedLaw
 decided_law = record {
   refused = refused_is;
-  unrecorded = quiet_is;
-  goes_on = effect_goes_on;
-  stops = stopped_records_nothing;
   is_up = up_not_down;
   no_time = tick_down;
   time = tick_up;

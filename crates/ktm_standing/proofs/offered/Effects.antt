@@ -1,17 +1,14 @@
 -- What calls on files come to, and the law of what outcomes make of what is so now.
-use Rattle.std.proofs.Common.{◌≡◌, ◌-◌, [], ◌++◌, map, Option, Some, None, sym, ap, add-zero}
-use Rattle.std.proofs.Math.Bool.{and-true}
+use Rattle.std.proofs.Common.{◌≡◌, [], ◌++◌, map, Option, Some, None, sym, ap, add-zero}
 use Rattle.ktm_base.specs.declared.id.Id.{Id}
 use Rattle.ktm_base.specs.declared.id.Label.{Label}
 use Rattle.ktm_base.specs.declared.id.Pid.{Pid}
 use Rattle.ktm_types.specs.declared.change.Change.{Change}
 use Rattle.ktm_types.specs.declared.object.Object.TheVariants.{File as FileObject}
-use Rattle.ktm_types.specs.Sizes.{log_size}
-use Rattle.ktm_world.specs.Decide.{events_of, of_files, opening}
+use Rattle.ktm_world.specs.Decide.{of_files, opening}
 use Rattle.ktm_world.specs.FileOutcome.{FileOutcome, files_after, openings_of}
 use Rattle.ktm_world.specs.Files.{OpenFile, committed_files, first_open}
 use Rattle.ktm_world.specs.Labels.{with_handle}
-use Rattle.ktm_world.specs.Logs.{as_groups}
 use Rattle.ktm_world.specs.Outcome.{apply}
 use Rattle.ktm_world.specs.Present.{Present}
 use Rattle.txf_laws.proofs.offered.Elements.{filter-true}
@@ -23,14 +20,12 @@ files_by : (x : Present) (who : Option Id) (change : Option Change) (o : FileOut
 files_by x None (Some c) o i =
     let made : FileOutcome = record o { change = Some c } in
     record (with_files x None made) {
-      machine = record x.machine { is_up = and-true x.machine.is_up i; left = x.machine.left - log_size (as_groups (events_of None (Some c))) };
       managers = served-none x.managers i;
       files = record (files_after x.files None made) { first_opens = filter-true (x.files.first_opens ++ []) i };
     }
 files_by x None None o i =
     let made : FileOutcome = record o { change = None } in
     record (with_files x None made) {
-      machine = record x.machine { is_up = and-true x.machine.is_up i; left = x.machine.left - log_size [] };
       recorded = record x.recorded { events = sym (add-zero x.recorded.events) i };
       managers = served-none x.managers i;
       files = record (files_after x.files None made) { first_opens = filter-true (x.files.first_opens ++ []) i };
@@ -38,7 +33,6 @@ files_by x None None o i =
 files_by x (Some id) change o i =
     let made : FileOutcome = record o { change = change } in
     record (with_files x (Some id) made) {
-      machine = record x.machine { is_up = and-true x.machine.is_up i; left = x.machine.left - log_size [] };
       recorded = record x.recorded { events = sym (add-zero x.recorded.events) i };
       managers = served-none x.managers i;
       files = record (files_after x.files (Some id) made) { first_opens = filter-true (x.files.first_opens ++ map (first_open (committed_files x.files [])) (openings_of (Some id) o.first)) i };

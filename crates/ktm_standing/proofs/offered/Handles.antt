@@ -37,7 +37,7 @@ abbrev pub unbinding : Present → Pid → Label → Outcome
 unbinding x process label = record (only_reply x Done) { handles = without_handle x.handles process label }
 
 pub apply-unbinding : (x : Present) (process : Pid) (label : Label) → apply x (unbinding x process label) ≡ record x { handles = without_handle x.handles process label }
-apply-unbinding x process label = apply-kept x (unbinding x process label) (record { records = refl; commits = refl; sends = refl; opens = refl; makes = refl; takes = refl; goes_on = refl }) refl
+apply-unbinding x process label = apply-kept x (unbinding x process label) (record { records = refl; commits = refl; sends = refl; opens = refl; makes = refl; takes = refl }) refl
 
 -- ---- it opens, makes and takes nothing
 

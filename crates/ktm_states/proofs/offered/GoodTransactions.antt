@@ -51,7 +51,7 @@ pub record Core (s : Durable) (t : Recorded) : Type 0 where
 -- what is so of a transaction
 pub record Fitting (s : Durable) (t : Recorded) : Type 0 where
   pub core : Core s t
-  pub ready : is_ready_well s t ≡ true
+  pub ready : is_ready_well t ≡ true
 
 -- what is so of two transactions
 pub record Beside (s : Durable) (t u : Recorded) : Type 0 where
@@ -117,7 +117,7 @@ good-from s table rest = record {
   managers_there = list_all-from (λ e. is_manager s e.manager) (flat_map enlisted s.transactions) (λ e there. (enlistments e there).manager);
   information_fits = list_all-from (λ e. nat_le (length e.information) MOST_INFORMATION_BYTES) (flat_map enlisted s.transactions) (λ e there. (enlistments e there).information);
   parts = list_all-from has_one_part_each s.transactions (λ t there. (table.fit t there).core.parts);
-  ready = list_all-from (is_ready_well s) s.transactions (λ t there. (table.fit t there).ready);
+  ready = list_all-from is_ready_well s.transactions (λ t there. (table.fit t there).ready);
   held = list_all-from is_held_well s.transactions (λ t there. (table.fit t there).core.held);
   decided = list_all-from is_decided_well s.transactions (λ t there. (table.fit t there).core.decided);
   done = list_all-from (λ t. list_all (is_done_well t) t.parts) s.transactions (λ t there. (table.fit t there).core.done);
@@ -177,7 +177,7 @@ table-of s good = record {
       puts = list_all-at (λ t. list_all puts_some (changes_of t)) s.transactions good.puts t there;
       settings = list_all-at are_kept_settings s.transactions good.settings t there;
     };
-    ready = list_all-at (is_ready_well s) s.transactions good.ready t there;
+    ready = list_all-at is_ready_well s.transactions good.ready t there;
   };
   beside = λ t u there there' other. record {
     enlistments = λ a b has has'. elim (each_pair-of_two differ enlistments_of s.transactions good.enlistments_differ t u there there' a b has has') [

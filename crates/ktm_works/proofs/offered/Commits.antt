@@ -11,11 +11,10 @@ use Rattle.ktm_base.specs.declared.id.Label.{Label}
 use Rattle.ktm_base.specs.declared.id.Pid.{Pid}
 use Rattle.ktm_base.specs.declared.notify.Notify.{Notify}
 use Rattle.ktm_base.specs.declared.refusal.Refusal.{Refusal}
-use Rattle.ktm_base.specs.declared.refusal.Refusal.TheVariants.{LogFull, MachineDown}
+use Rattle.ktm_base.specs.declared.refusal.Refusal.TheVariants.{MachineDown}
 use Rattle.ktm_course.specs.Moved.{is_commit}
 use Rattle.ktm_courses.proofs.offered.Calls.{Passes, passed}
 use Rattle.ktm_keyed.specs.Keyed.{comes_before, put, value_at}
-use Rattle.ktm_standing.proofs.offered.Decided.{full_log}
 use Rattle.ktm_standing.proofs.offered.Rows.{row_leads}
 use Rattle.ktm_steps.proofs.offered.Ways.{if_cases}
 use Rattle.ktm_types.specs.declared.command.Command.TheVariants.{CommitTransaction, KvSet}
@@ -36,7 +35,7 @@ use Rattle.ktm_world.specs.Enlistments.{is_ended}
 use Rattle.ktm_world.specs.Files.{own_changes}
 use Rattle.ktm_world.specs.Keys.{Own, OwnSettings, own_settings, with_own}
 use Rattle.ktm_world.specs.Labels.{transaction_named}
-use Rattle.ktm_world.specs.Outcome.{Outcome, apply, is_full, only_reply, refuse_or, within_log}
+use Rattle.ktm_world.specs.Outcome.{Outcome, apply, only_reply, refuse_or}
 use Rattle.ktm_world.specs.Phases.{Course, has_settings, work_of}
 use Rattle.ktm_world.specs.Present.{Present}
 use Rattle.ktm_world.specs.Rows.{all_readies, participants, pre_prepares, prepares_all, prepares_alone, proceeds, requests}
@@ -171,7 +170,7 @@ commits-refused x t o refusal none is = record { works = inl (none, λ says. let
 pub commits-all : (x : Present) (process : Pid) (label : Label) (t : Transaction) → transaction_named x process label ≡ Some t → has_settings (own_settings x.keys.own t.id) ≡ true
     → CommitsAll x t (decide x process (CommitTransaction label))
 unfolding commit_transaction
-commits-all x process label t named keys = within (refuse_or x (refusal_of x process (CommitTransaction label)) (command_effect x process (CommitTransaction label))) (refused (refusal_of x process (CommitTransaction label)))
+commits-all x process label t named keys = refused (refusal_of x process (CommitTransaction label))
   where
     effect : CommitsAll x t (arrived x (led PhaseInput.CommitTransaction (course_of x t None)) (commit_reply (led PhaseInput.CommitTransaction (course_of x t None))))
     effect =
@@ -190,10 +189,3 @@ commits-all x process label t named keys = within (refuse_or x (refusal_of x pro
     refused : (refusal : Option Refusal) → CommitsAll x t (refuse_or x refusal (command_effect x process (CommitTransaction label)))
     refused None = subst (λ (n : Option Transaction). CommitsAll x t (commit_of x n)) (sym named) effect
     refused (Some refusal) = commits-refused x t (only_reply x (Reply.Refused refusal)) refusal refl refl
-
-    within : (o : Outcome) → CommitsAll x t o → CommitsAll x t (within_log x o)
-    within o all = go (is_full x.machine.left o.events)
-      where
-        go : (b : Bool) → CommitsAll x t (cond b (full_log x) o)
-        go true = commits-refused x t (full_log x) LogFull refl refl
-        go false = all

@@ -1,5 +1,5 @@
 -- What a loss of power leaves around a call.
-use Rattle.std.proofs.Common.{◌≡◌, ◌⊎◌, ℕ, ◌++◌, not, cond, Bool, true, false, List, [], ◌∷◌, length, zero, suc, map, fold, Option, Some, None, Result, Ok, Err, OnErr, refl, sym, ◌∙◌, ap, subst, inl, inr, arith}
+use Rattle.std.proofs.Common.{◌≡◌, ◌⊎◌, ℕ, ◌++◌, not, Bool, true, false, List, [], ◌∷◌, length, zero, suc, map, fold, Option, Some, None, Result, Ok, Err, OnErr, refl, sym, ◌∙◌, ap, subst, inl, inr, arith}
 use Rattle.std.proofs.lemmas.Bool.{both_ways}
 use Rattle.std.proofs.lemmas.List.{append-nil, drop-map}
 use Rattle.std.proofs.lemmas.List.Sums.{fold-append}
@@ -7,16 +7,16 @@ use Rattle.std.specs.Prelude.{Contains, IsSomeAnd}
 use Rattle.ktm_base.specs.declared.fault.NoMemory.{NoMemory}
 use Rattle.ktm_base.specs.declared.id.Pid.{Pid}
 use Rattle.ktm_base.specs.declared.refusal.Refusal.{Refusal}
-use Rattle.ktm_base.specs.declared.refusal.Refusal.TheVariants.{LogFull, MachineDown}
+use Rattle.ktm_base.specs.declared.refusal.Refusal.TheVariants.{MachineDown}
 use Rattle.ktm_base.specs.Disk.{DiskState}
-use Rattle.ktm_journal.specs.Image.{JournalState, JournalAt, empty_snapshot}
+use Rattle.ktm_journal.specs.Image.{JournalState}
 use Rattle.ktm_kernel.specs.Answers.{CallLeaves, IsAsItWas}
-use Rattle.ktm_kernel.specs.Stands.{Began, KernelAt, KernelState, LeavesPossible, StandsBy}
-use Rattle.ktm_laws.specs.Running.{IsRunning, LawfulWorldsLaw}
+use Rattle.ktm_kernel.specs.Stands.{KernelAt, KernelState, LeavesStates, StandsBy}
+use Rattle.ktm_laws.specs.Running.{HasEventsLeft, IsRunning, LawfulWorldsLaw}
 use Rattle.ktm_log.specs.OnDisk.{OnDisk}
 use Rattle.ktm_records.specs.Kept.{IsKept}
+use Rattle.ktm_restart.specs.Logs.{JournalFor}
 use Rattle.ktm_standing.specs.Standing.{IsStanding}
-use Rattle.ktm_standing.proofs.offered.Decided.{decided_law, full_log}
 use Rattle.ktm_types.specs.declared.change.Change.{Change}
 use Rattle.ktm_types.specs.declared.command.Command.{Command}
 use Rattle.ktm_types.specs.declared.event.Event.{Event}
@@ -28,10 +28,10 @@ use Rattle.ktm_world.specs.Durable.{stand}
 use Rattle.ktm_world.specs.Keys.{stored_all}
 use Rattle.ktm_world.specs.Lawful.{Agrees}
 use Rattle.ktm_world.specs.Logs.{Group, Power, up, down, is_up, as_groups, kept_after, possible_by, prefixes, prefixes_from}
-use Rattle.ktm_world.specs.Outcome.{Outcome, apply, first_refusal, is_full, refuse_or, within_log}
+use Rattle.ktm_world.specs.Outcome.{Outcome, apply, first_refusal, refuse_or}
 use Rattle.ktm_world.specs.Present.{Present}
-use Rattle.ktm_world.specs.Transcript.{Step, answered, interrupted, found, full, CallDoes}
-use Rattle.ktm_world.specs.World.{World, committed, extend, possible_logs, power_after, present}
+use Rattle.ktm_world.specs.Transcript.{Step, answered, interrupted, found, worn, CallDoes}
+use Rattle.ktm_world.specs.World.{World, committed, extend, possible_logs, present}
 use Rattle.ktm_world.proofs.offered.Worlds.{step_law}
 use Rattle.ktm_works.specs.Works.{Contents, HasCome, IsNoRefusal, Keeps, Leaves, WorksLaw, contents_after, contents_now, contents_of, with_works}
 
@@ -122,22 +122,12 @@ is-up (down may) on = absurd (both_ways false refl on)
 
 -- ---- what is decided without a refusal
 
-not-full : (x : Present) (o : Outcome) → IsNoRefusal (within_log x o).reply → within_log x o ≡ o
-not-full x o clear = go (is_full x.machine.left o.events) clear
-  where
-    go : (b : Bool) → IsNoRefusal (cond b (full_log x) o).reply → cond b (full_log x) o ≡ o
-    go true clear = absurd (clear LogFull refl)
-    go false clear = refl
-
 not-refused : (x : Present) (refusal : Option Refusal) (effect : Outcome) → IsNoRefusal (refuse_or x refusal effect).reply → (refusal ≡ None) × (refuse_or x refusal effect ≡ effect)
 not-refused x None effect clear = (refl, refl)
 not-refused x (Some refusal) effect clear = absurd (clear refusal refl)
 
 pub decided-so : (x : Present) (process : Pid) (command : Command) → IsNoRefusal (decide x process command).reply → (refusal_of x process command ≡ None) × (decide x process command ≡ command_effect x process command)
-decided-so x process command clear =
-    let room = not-full x (refuse_or x (refusal_of x process command) (command_effect x process command)) clear in
-    let is = not-refused x (refusal_of x process command) (command_effect x process command) (subst (λ (o : Outcome). IsNoRefusal o.reply) room clear) in
-    (is.0, room ∙ is.1)
+decided-so x process command clear = not-refused x (refusal_of x process command) (command_effect x process command) clear
 
 up-of : (b : Bool) (tests : List (Bool × Refusal)) → first_refusal ((not b, MachineDown) ∷ tests) ≡ None → b ≡ true
 up-of true tests none = refl
@@ -145,12 +135,12 @@ up-of false tests none = absurd (cc)
 
 -- ---- a call, in a world
 
-module _ (lawful : LawfulWorldsLaw) (w : World) (process : Pid) (command : Command) (running : IsRunning w) where
+module _ (lawful : LawfulWorldsLaw) (w : World) (process : Pid) (command : Command) (counts : HasEventsLeft (present w)) (running : IsRunning w) where
   abbrev o : Outcome
   o = decide (present w) process command
 
   ran : IsRunning (extend w o)
-  ran = lawful.commands w process command running
+  ran = lawful.commands w process command counts running
 
   after-is : contents_now (present (extend w o)) ≡ contents_after (present w) o
   after-is = ap contents_in (fold-append with_work w.start w.works o.works) ∙ works-made (committed w) o.works
@@ -160,34 +150,31 @@ module _ (lawful : LawfulWorldsLaw) (w : World) (process : Pid) (command : Comma
 
   -- where it was answered, or the power went in it
   left : (cs : List Contents) → Leaves cs w → (is_up w.power ≡ true → Contains cs (contents_after (present w) o)) → (step : Step) (reply : Reply) (new : World) → CallDoes w o step reply new → Leaves cs new
-  left cs before then answered reply new (says, is) = subst (λ v. Leaves cs v) (sym is) (go o.stops w.power refl)
+  left cs before then answered reply new (says, is) = subst (λ v. Leaves cs v) (sym is) (go w.power refl)
     where
-      go : (stops : Bool) (power : Power) → w.power ≡ power
-          → (log : List Group) → Contains (possible_by (power_after stops w) (kept_after w.kept w.log o.events) (w.log ++ as_groups o.events)) log → Contains cs (contents_of (stand w.base log))
-      go true power is log there = before log there
-      go false up is log there =
+      go : (power : Power) → w.power ≡ power → (log : List Group) → Contains (possible_by w.power (kept_after w.kept w.log o.events) (w.log ++ as_groups o.events)) log → Contains cs (contents_of (stand w.base log))
+      go up is log there =
           let whole = left-whole (w.log ++ as_groups o.events) (kept_after w.kept w.log o.events) log ran.kept (subst (λ p. Contains (possible_by p (kept_after w.kept w.log o.events) (w.log ++ as_groups o.events)) log) is there) in
           subst (Contains cs) (sym (ap (λ (l : List Group). contents_of (stand w.base l)) whole ∙ comes-to)) (then (ap is_up is))
-      go false (down may) is log there = before log (subst (λ p. Contains (possible_by p w.kept w.log) log) (sym is) (subst (λ p. Contains (possible_by p (kept_after w.kept w.log o.events) (w.log ++ as_groups o.events)) log) is there))
+      go (down may) is log there = before log (subst (λ p. Contains (possible_by p w.kept w.log) log) (sym is) (subst (λ p. Contains (possible_by p (kept_after w.kept w.log o.events) (w.log ++ as_groups o.events)) log) is there))
   left cs before then interrupted reply new (on, says, is) = subst (λ v. Leaves cs v) (sym is) (λ log there.
       elim (left-cases w.log o.events log (subst (λ n. Contains (prefixes_from n (w.log ++ as_groups o.events)) log) running.kept there)) [
         | inl same ↦ subst (λ (l : List Group). Contains cs (contents_of (stand w.base l))) (sym same) (before w.log (whole-possible w on running.kept))
         | inr more ↦ subst (Contains cs) (sym (ap (λ (l : List Group). contents_of (stand w.base l)) more ∙ comes-to)) (then on)
       ])
   left cs before then (found log) reply new none = absurd none
-  left cs before then (full log) reply new none = absurd none
+  left cs before then (worn log) reply new none = absurd none
 
   -- where it was answered, and not refused, or the world is up then
   came : (step : Step) (reply : Reply) (new : World) → CallDoes w o step reply new → IsNoRefusal reply ⊎ (is_up new.power ≡ true) → (reply ≡ o.reply) × (new ≡ extend w o) × ((extend w o).power ≡ up)
   came answered reply new (says, is) (inl clear) =
       let so = decided-so (present w) process command (subst IsNoRefusal says clear) in
-      let on = is-up w.power (up-of (is_up w.power) (command_tests (present w) process command) so.0) in
-      (says, is, ap (λ b. power_after b w) (ap (λ (o : Outcome). o.stops) so.1 ∙ decided_law.goes_on (present w) process command) ∙ on)
+      (says, is, is-up w.power (up-of (is_up w.power) (command_tests (present w) process command) so.0))
   came answered reply new (says, is) (inr on) = (says, is, is-up (extend w o).power (ap (λ (v : World). is_up v.power) (sym is) ∙ on))
   came interrupted reply new (on, says, is) (inl clear) = absurd (clear MachineDown says)
   came interrupted reply new (on, says, is) (inr still) = absurd (both_ways false refl (ap (λ (v : World). is_up v.power) (sym is) ∙ still))
   came (found log) reply new none clear = absurd none
-  came (full log) reply new none clear = absurd none
+  came (worn log) reply new none clear = absurd none
 
 -- ---- machines
 
@@ -196,18 +183,13 @@ moved : (b : Bool) (old new : OnDisk KernelState) (w : World) → new.told ≡ o
 moved true old new w told same stands = record {
   now = same.now ∙ stands.now;
   standing = stands.standing;
-  before = stands.before;
-  began = subst (λ (j : JournalState). Began j stands.before w) (sym same.journal) stands.began;
-  disk = subst (λ (t : Option DiskState). IsSomeAnd t (JournalAt new.it.journal empty_snapshot (stands.before ++ w.log))) (sym told)
-      (subst (λ (j : JournalState). IsSomeAnd old.told (JournalAt j empty_snapshot (stands.before ++ w.log))) (sym same.journal) stands.disk);
+  disk = subst (λ (t : Option DiskState). IsSomeAnd t (JournalFor new.it.journal (stand w.base w.log))) (sym told)
+      (subst (λ (j : JournalState). IsSomeAnd old.told (JournalFor j (stand w.base w.log))) (sym same.journal) stands.disk);
 }
 moved false old new w told same fallen = record {
   now = same.now ∙ fallen.now;
   standing = fallen.standing;
-  before = fallen.before;
-  began = subst (λ (j : JournalState). Began j fallen.before w) (sym same.journal) fallen.began;
-  disk = subst (λ (t : Option DiskState). IsSomeAnd t (LeavesPossible new.it.journal fallen.before w)) (sym told)
-      (subst (λ (j : JournalState). IsSomeAnd old.told (LeavesPossible j fallen.before w)) (sym same.journal) fallen.disk);
+  disk = subst (λ (t : Option DiskState). IsSomeAnd t (LeavesStates w)) (sym told) fallen.disk;
 }
 
 world-up : (m : OnDisk KernelState) (w : World) → KernelAt m.it m.told w → m.it.now.machine.is_up ≡ true → w.power ≡ up
@@ -238,34 +220,35 @@ kept-now cs m keeps = let (is, standing) = now-is keeps.world.power m.it m.told 
 -- ---- calls
 
 module _ (lawful : LawfulWorldsLaw) where
-  calls : (process : Pid) (command : Command) (old new : OnDisk KernelState) (answer : Result Reply NoMemory) → CallLeaves process command old new answer → OnErr answer (IsAsItWas old.it new.it)
+  calls : (process : Pid) (command : Command) (old new : OnDisk KernelState) (answer : Result Reply NoMemory) → HasEventsLeft old.it.now → CallLeaves process command old new answer → OnErr answer (IsAsItWas old.it new.it)
       → (cs : List Contents) → Keeps cs old → (old.it.now.machine.is_up ≡ true → Contains cs (contents_after old.it.now (decide old.it.now process command))) → Keeps cs new
-  calls process command old new (Ok reply) leaves same cs keeps then =
+  calls process command old new (Ok reply) counts leaves same cs keeps then =
       let w = keeps.world in
       let (is, standing) = now-is w.power old.it old.told w keeps.stands in
       let (step, after, does, stands) = leaves.does w keeps.stands in
       record {
         world = after;
         stands = stands;
-        leaves = left lawful w process command standing.running cs keeps.leaves
+        leaves = left lawful w process command (subst HasEventsLeft is counts) standing.running cs keeps.leaves
             (λ on. subst (λ (x : Present). Contains cs (contents_after x (decide x process command))) is (then (ap (λ (x : Present). x.machine.is_up) is ∙ on))) step reply after does;
       }
-  calls process command old new (Err fault) untouched same cs keeps then = record {
+  calls process command old new (Err fault) counts untouched same cs keeps then = record {
     world = keeps.world;
     stands = moved (is_up keeps.world.power) old new keeps.world untouched.told same keeps.stands;
     leaves = keeps.leaves;
   }
 
-  comes : (process : Pid) (command : Command) (old new : OnDisk KernelState) (reply : Reply) → CallLeaves process command old new (Ok reply) → IsNoRefusal reply ⊎ (new.it.now.machine.is_up ≡ true)
+  comes : (process : Pid) (command : Command) (old new : OnDisk KernelState) (reply : Reply) → HasEventsLeft old.it.now → CallLeaves process command old new (Ok reply) → IsNoRefusal reply ⊎ (new.it.now.machine.is_up ≡ true)
       → (cs : List Contents) → Keeps cs old → HasCome old.it.now (decide old.it.now process command) reply new
-  comes process command old new reply leaves clear cs keeps =
+  comes process command old new reply counts leaves clear cs keeps =
       let w = keeps.world in
       let (is, standing) = now-is w.power old.it old.told w keeps.stands in
+      let events_left = subst HasEventsLeft is counts in
       let (step, after, does, stands) = leaves.does w keeps.stands in
       let now_after = (now-is after.power new.it new.told after stands).0 in
       let clear_after : IsNoRefusal reply ⊎ (is_up after.power ≡ true) = elim clear [ inl told ↦ inl told | inr on ↦ inr (ap (λ (x : Present). x.machine.is_up) (sym now_after) ∙ on) ] in
-      let came = came lawful w process command standing.running step reply after does clear_after in
-      let ran = lawful.commands w process command standing.running in
+      let came = came lawful w process command events_left standing.running step reply after does clear_after in
+      let ran = lawful.commands w process command events_left standing.running in
       let then = extend w (decide (present w) process command) in
       let at = subst (λ v. KernelAt new.it new.told v) came.1 stands in
       let at_then = (now-is then.power new.it new.told then at).0 in
@@ -275,15 +258,15 @@ module _ (lawful : LawfulWorldsLaw) where
           world = then;
           stands = at;
           leaves = subst (λ (c : Contents). Leaves (c ∷ []) then)
-              (after-is lawful w process command standing.running ∙ ap (λ (x : Present). contents_after x (decide x process command)) (sym is)) (whole-left then ran came.2);
+              (after-is lawful w process command events_left standing.running ∙ ap (λ (x : Present). contents_after x (decide x process command)) (sym is)) (whole-left then ran came.2);
         };
         now = subst (λ (x : Present). new.it.now ≡ apply x (decide x process command)) (sym is) (at_then ∙ step_law.0 w (decide (present w) process command) standing.running.openings);
         up = ap (λ (x : Present). x.machine.is_up) at_then ∙ ap is_up came.2;
       }
 
   pub works_law : WorksLaw
-  works_law process command old new (Ok reply) leaves same = record {
-    either = calls process command old new (Ok reply) leaves same;
-    comes = comes process command old new reply leaves;
+  works_law process command old new (Ok reply) counts leaves same = record {
+    either = calls process command old new (Ok reply) counts leaves same;
+    comes = comes process command old new reply counts leaves;
   }
-  works_law process command old new (Err fault) leaves same = record { either = calls process command old new (Err fault) leaves same; comes = tt }
+  works_law process command old new (Err fault) counts leaves same = record { either = calls process command old new (Err fault) counts leaves same; comes = tt }

@@ -15,7 +15,6 @@ use Rattle.ktm_base.specs.declared.refusal.Refusal.TheVariants.{MachineDown}
 use Rattle.ktm_courses.proofs.offered.Calls.{Passes, passed}
 use Rattle.ktm_courses.proofs.offered.HandlesAndTime.{Closes, close_handle-so}
 use Rattle.ktm_records.proofs.offered.AgreementOfRollbacks.{rollback-undone}
-use Rattle.ktm_standing.proofs.offered.Decided.{full_log}
 use Rattle.ktm_steps.proofs.offered.Ways.{if_cases}
 use Rattle.ktm_types.specs.declared.change.Change.{Change}
 use Rattle.ktm_types.specs.declared.change.Change.TheVariants.{Make}
@@ -37,7 +36,7 @@ use Rattle.ktm_world.specs.FileOutcome.{FileOutcome, answering, works_of}
 use Rattle.ktm_world.specs.Files.{OpenFile, tree_seen}
 use Rattle.ktm_world.specs.Handles.{object_at}
 use Rattle.ktm_world.specs.Labels.{file_named, file_number, id_of_named, open_file_at, with_handle, transaction_named}
-use Rattle.ktm_world.specs.Outcome.{Outcome, apply, is_full, refuse_or, within_log}
+use Rattle.ktm_world.specs.Outcome.{Outcome, apply, refuse_or}
 use Rattle.ktm_world.specs.Present.{Present}
 use Rattle.ktm_world.specs.Steps.{led}
 use Rattle.ktm_world.specs.Transactions.{is_undecided}
@@ -46,20 +45,13 @@ use Rattle.txf_laws.specs.SoundFiles.{IsSoundFiles}
 use Rattle.ktm_works.specs.Works.{IsNoRefusal}
 use Rattle.ktm_works.proofs.offered.Left.{decided-so}
 
--- a command that is refused commits nothing, and so does one that stops the machine
+-- a command that is refused commits nothing
 pub quiet-decided : (x : Present) (process : Pid) (command : Command) → (refusal_of x process command ≡ None → (command_effect x process command).works ≡ []) → (decide x process command).works ≡ []
-quiet-decided x process command quiet = within (refuse_or x (refusal_of x process command) (command_effect x process command)) (refused (refusal_of x process command) refl)
+quiet-decided x process command quiet = refused (refusal_of x process command) refl
   where
     refused : (refusal : Option Refusal) → refusal_of x process command ≡ refusal → (refuse_or x refusal (command_effect x process command)).works ≡ []
     refused None is = quiet is
     refused (Some refusal) is = refl
-
-    within : (o : Outcome) → o.works ≡ [] → (within_log x o).works ≡ []
-    within o none = go (is_full x.machine.left o.events)
-      where
-        go : (b : Bool) → (cond b (full_log x) o).works ≡ []
-        go true = refl
-        go false = none
 
 pub quiet-transaction : (x : Present) (process : Pid) (label : Label) (timeout : ℕ) → (decide x process (CreateTransaction label timeout)).works ≡ []
 unfolding create_transaction

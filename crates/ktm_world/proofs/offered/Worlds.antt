@@ -1,6 +1,5 @@
 -- What an outcome does to the history, and to what is so now.
-use Rattle.std.proofs.Common.{◌≡◌, ◌-◌, ◌≤◌, ◌&&◌, not, Bool, true, false, List, [], ◌∷◌, ◌++◌, length, map, filter, All, None, Option, refl, sym, ◌∙◌, ap, subst, arith, inl, inr, length-append}
-use Rattle.std.proofs.Math.Bool.{and-true, and-false}
+use Rattle.std.proofs.Common.{◌≡◌, ◌≤◌, not, Bool, true, List, [], ◌∷◌, ◌++◌, length, map, filter, All, None, Option, refl, sym, ◌∙◌, ap, subst, arith, inl, inr, length-append}
 use Rattle.std.proofs.Math.Seq.{take-append_seam}
 use Rattle.std.proofs.lemmas.Bool.{cases_Bool}
 use Rattle.std.proofs.lemmas.List.{append-nil, map-append, take-append-le}
@@ -8,20 +7,17 @@ use Rattle.std.proofs.lemmas.List.Elements.{All-append, All-filter, All-head, Al
 use Rattle.std.proofs.lemmas.List.Sums.{fold-append}
 use Rattle.ktm_base.specs.declared.refusal.Refusal.{Refusal}
 use Rattle.ktm_base.specs.declared.refusal.Refusal.TheVariants.{MachineDown}
-use Rattle.ktm_types.specs.declared.event.Event.{Event}
 use Rattle.ktm_types.specs.declared.reply.Reply.{Reply}
 use Rattle.ktm_types.specs.declared.reply.Reply.TheVariants.{Refused}
-use Rattle.ktm_world.specs.Outcome.{first_refusal, Outcome, apply, first_opens_after, is_forgotten, only_reply, refuse_or, served, within_log}
-use Rattle.ktm_types.specs.Sizes.{log_size}
-use Rattle.ktm_world.specs.Logs.{as_groups, is_up}
-use Rattle.ktm_world.proofs.offered.SizeLemmas.{log_size-append}
+use Rattle.ktm_world.specs.Outcome.{first_refusal, Outcome, apply, first_opens_after, is_forgotten, only_reply, refuse_or, served}
+use Rattle.ktm_world.specs.Logs.{is_up}
 use Rattle.ktm_world.specs.Committed.{committed_with, with_work}
 use Rattle.ktm_world.specs.Decide.{decide, command_effect}
 use Rattle.ktm_world.specs.Durable.{after_events}
 use Rattle.ktm_world.specs.Enlistments.{Manager}
 use Rattle.ktm_world.specs.Files.{FirstOpen, first_open}
 use Rattle.ktm_world.specs.TransactionCalls.{tick}
-use Rattle.ktm_world.specs.World.{World, ManagerPast, OpenedAfter, committed, decide_tick, extend, first_open_now, made_past, manager_now, opened_after, power_after, present, served_past}
+use Rattle.ktm_world.specs.World.{World, ManagerPast, OpenedAfter, committed, decide_tick, extend, first_open_now, made_past, manager_now, opened_after, present, served_past}
 use Rattle.ktm_world.specs.Laws.{FirstOpensLaw, FirstOpensLieWithin, RefusalLaw, StepLaw}
 
 -- ---- lists
@@ -54,13 +50,6 @@ filter_all p pass [] = refl
 filter_all p pass (x ∷ xs) = rw (pass x) (ap (λ ys. x ∷ ys) (filter_all p pass xs))
 
 -- ---- what is so after an outcome
-
-up_after : (w : World) (stops : Bool) → is_up (power_after stops w) ≡ (is_up w.power && not stops)
-up_after w false = sym (and-true (is_up w.power))
-up_after w true = sym (and-false (is_up w.power))
-
-left_after : (w : World) (events : List Event) → w.room - log_size (w.log ++ as_groups events) ≡ w.room - log_size w.log - log_size (as_groups events)
-left_after w events = let size = log_size-append w.log (as_groups events) in omega arith
 
 committed_after : (w : World) (o : Outcome) → committed (extend w o) ≡ committed_with (committed w) o.works
 committed_after w o = fold-append with_work w.start w.works o.works
@@ -101,7 +90,7 @@ first_opens_now_after w o within =
 
 pub present-extend : (w : World) (o : Outcome) → FirstOpensLieWithin w → present (extend w o) ≡ apply (present w) o
 present-extend w o within i = record {
-  machine = record { is_up = up_after w o.stops i; left = left_after w o.events i };
+  machine = record { is_up = is_up w.power };
   recorded = after_events w.recorded o.events;
   transactions = o.transactions;
   managers = managers_after w o i;
@@ -120,7 +109,7 @@ step_law = (
 -- ---- the first opens lie within the works
 
 pub first_opens_law : FirstOpensLaw
-first_opens_law = (λ base room log. record { works = All-nil (λ (f : OpenedAfter). f.works ≤ 0) }, λ w o within. record { works = kept w o within })
+first_opens_law = (λ base log. record { works = All-nil (λ (f : OpenedAfter). f.works ≤ 0) }, λ w o within. record { works = kept w o within })
   where
     kept : (w : World) (o : Outcome) → FirstOpensLieWithin w → All (λ (f : OpenedAfter). f.works ≤ length (w.works ++ o.works)) (extend w o).first_opens
     kept w o within =
@@ -147,9 +136,9 @@ extend-only_reply w reply i = record w {
 pub refusal_law : RefusalLaw
 refusal_law = (
   λ w process command refusal refused.
-      subst (λ (r : Option Refusal). extend w (within_log (present w) (refuse_or (present w) r (command_effect (present w) process command))) ≡ w) (sym refused)
+      subst (λ (r : Option Refusal). extend w (refuse_or (present w) r (command_effect (present w) process command)) ≡ w) (sym refused)
       (extend-only_reply w (Refused refusal)),
   λ w ms down.
-      subst (λ (up : Bool). extend w (within_log (present w) (refuse_or (present w) (first_refusal ((not up, MachineDown) ∷ [])) (tick (present w) ms))) ≡ w) (sym down)
+      subst (λ (up : Bool). extend w (refuse_or (present w) (first_refusal ((not up, MachineDown) ∷ [])) (tick (present w) ms)) ≡ w) (sym down)
       (extend-only_reply w (Refused MachineDown)),
 )

@@ -18,7 +18,7 @@ restore-requires-clause-good c =
     c.law_of_good_states.ensures c.law_of_own_groups.ensures c.requires.good c.requires.most c.requires.boots c.requires.events
 
 pub returns-in-Ok-restore-clause-shows : goal.returns-in-Ok-restore-clause-shows
-returns-in-Ok-restore-clause-shows c = λ left.
+returns-in-Ok-restore-clause-shows c =
     let s = c.args.state in
     let is = c.into_parts-files.ensures in
     let back : HasComeBack (s.boots + 1) s.managers s.transactions c.start-in-Ok-restore.result.tm =
@@ -29,11 +29,11 @@ returns-in-Ok-restore-clause-shows c = λ left.
     let next_node = c.start-in-Ok-restore.ensures.next_node ∙ ap (λ (f : FilesNow). f.table.next_node) c.in-Ok-restore.ensures.files in
     let keys = c.start-in-Ok-restore.ensures.keys ∙ c.in-Ok-restore.ensures.keys in
     shows_fresh s c.begin.new.self _ _ _ _ c.begin.ensures is.tree is.next_node is.keys is.transactions c.law_of_in_doubt.ensures c.requires.good
-    c.start-in-Ok-restore.result left c.start-in-Ok-restore.ensures.up back traces files next_node keys c.start-in-Ok-restore.ensures.handles
+    c.start-in-Ok-restore.result c.start-in-Ok-restore.ensures.up back traces files next_node keys c.start-in-Ok-restore.ensures.handles
 
 pub returns-in-Ok-restore-clause-slots : goal.returns-in-Ok-restore-clause-slots
-returns-in-Ok-restore-clause-slots c = λ left.
+returns-in-Ok-restore-clause-slots c =
     let s = c.args.state in
     let back : HasComeBack (s.boots + 1) s.managers s.transactions c.start-in-Ok-restore.result.tm =
     rw (c.start-in-Ok-restore.ensures.tm) (rw (c.boots.ensures, c.managers.ensures, c.transactions.ensures) at c.in-Ok.ensures) in
-    fresh_slots c.law_of_slots.ensures s left c.start-in-Ok-restore.result.tm back
+    fresh_slots c.law_of_slots.ensures s c.start-in-Ok-restore.result.tm back

@@ -1,8 +1,15 @@
-use Rattle.ktm_kernel.proofs.Restarts.{least_err, least_ok}
+use Rattle.std.proofs.Common.{arith}
+use Rattle.ktm_laws.proofs.offered.LogCounts.{counts-left}
 use Rattle.ktm_kernel.proofs.restart.prepare.Goals as goal
 
-pub returns-in-Some-clause-capacity : goal.returns-in-Some-clause-capacity
-returns-in-Some-clause-capacity c = least_ok c.begin_with.result (λ starting. starting.events.capacity) _ _ c.in-Some.ensures.capacity c.begin_with.ensures.capacity
+pub list_start-events-requires-clause-boots : goal.list_start-events-requires-clause-boots
+list_start-events-requires-clause-boots c = let left = (counts-left c.args.loaded.state c.requires.unworn).0 in omega (arith, left)
 
-pub returns-in-Some-clause-err : goal.returns-in-Some-clause-err
-returns-in-Some-clause-err c = least_err c.begin_with.result _ _ _ c.in-Some.ensures.capacity c.begin_with.ensures.err
+pub begin-requires-clause-boots : goal.begin-requires-clause-boots
+begin-requires-clause-boots c = (counts-left c.args.loaded.state c.requires.unworn).0
+
+pub begin-requires-clause-events : goal.begin-requires-clause-events
+begin-requires-clause-events c =
+    let left = (counts-left c.args.loaded.state c.requires.unworn).1 in
+    let few = (c.law_of_spelling.ensures.own_groups c.args.loaded.state c.requires.may.good).1 in
+    omega (arith, left, few)

@@ -1,11 +1,11 @@
 use Rattle.ktm_kernel.proofs.Restarts.{roomy_then}
 use Rattle.ktm_kernel.proofs.restart.record_start.Goals as goal
 
-pub machine-requires : goal.machine-requires
-machine-requires g c = roomy_then _ _ _ c.requires.listed.0 c.requires.listed.1 c.requires.roomy c.in-Ok.ensures
+pub machine-requires-clause-roomy : goal.machine-requires-clause-roomy
+machine-requires-clause-roomy g c = roomy_then _ _ _ c.in-Ok.ensures.leaves.units c.requires.roomy
 
 pub returns-in-Ok-clause-ok : goal.returns-in-Ok-clause-ok
-returns-in-Ok-clause-ok g c = record { memory = c.record.new.self; is = c.machine.ensures; leaves = c.in-Ok.ensures }
+returns-in-Ok-clause-ok g c = record { memory = c.record_group.new.memory; is = c.machine.ensures; leaves = c.in-Ok.ensures.leaves }
 
 pub returns-in-Err-clause-err : goal.returns-in-Err-clause-err
-returns-in-Err-clause-err g c = record { memory = c.record.new.self; why = c.in-Err.fault; is = c.unrecorded.ensures; leaves = c.in-Err.ensures }
+returns-in-Err-clause-err g c = record { memory = c.record_group.new.memory; leaves = c.in-Err.ensures.leaves }

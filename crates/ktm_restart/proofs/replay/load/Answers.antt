@@ -8,4 +8,4 @@ returns-in-Err-clause-leaves g c =
 
 pub returns-clause-leaves : goal.returns-clause-leaves
 returns-clause-leaves g c =
-    loads_behind _ _ _ 3 _ _ (header_read c.args.buffer.now _ _ _ _ 3 c.in-Ok.ensures.reads c.in-Ok.ensures.up) (omega (arith, c.in-Ok.ensures.size.1)) _ c.load_half.ensures.leaves
+    loads_behind _ _ _ 3 _ _ (header_read c.args.buffer.now _ _ _ _ 3 c.in-Ok.ensures.reads c.in-Ok.ensures.up) (omega (arith, c.in-Ok.ensures.size.1)) _ c.load_half.ensures

@@ -1,14 +1,15 @@
-use Rattle.std.proofs.Common.{sym, ◌∙◌}
-use Rattle.std.proofs.lemmas.Bool.{true≢false}
 use Rattle.ktm_restart.proofs.BehindHeader.{not_started, started, unread}
 use Rattle.ktm_restart.proofs.replay.read_start.Goals as goal
 
 pub returns-in-Err : goal.returns-in-Err
 returns-in-Err g c = unread c.args.header _ _ c.requires.headed c.in-Err.fault c.in-Err.ensures
 
-pub returns-then-not-is_empty : goal.returns-then-not-is_empty
-returns-then-not-is_empty g c =
-    not_started c.args.header _ _ c.requires.headed _ c.in_default.ensures (λ is. true≢false (sym (c.is_empty.ensures.1 (c.as_slice.ensures.value ∙ is)) ∙ c.if-not-is_empty.true)) c.snapshot_at.ensures
+pub returns-in-Ok-Some : goal.returns-in-Ok-Some
+returns-in-Ok-Some g c =
+    let read = rw c.in-Ok-Some.field-0-is at c.in-Ok-Some.ensures in
+    started c.args.header _ _ c.requires.headed c.in_default.ensures c.in-Ok-Some.saved (rw c.as_slice.ensures.value at read) c.from.result c.from.ensures
 
-pub returns : goal.returns
-returns g c = started c.args.header _ _ c.requires.headed c.in_default.ensures (sym c.as_slice.ensures.value ∙ c.is_empty.ensures.0 c.if-not-is_empty.false)
+pub returns-in-Ok-None : goal.returns-in-Ok-None
+returns-in-Ok-None g c =
+    let read = rw c.in-Ok-None.field-0-is at c.in-Ok-None.ensures in
+    not_started c.args.header _ _ c.requires.headed _ c.in_default.ensures (rw c.as_slice.ensures.value at read) c.snapshot_at.ensures

@@ -3,7 +3,7 @@ use Rattle.ktm_restart.proofs.Folds.{Folded}
 use Rattle.ktm_restart.proofs.replay.replay.Given as goal
 
 abbrev pub invariant-loop-payload : goal.invariant-loop-payload
-invariant-loop-payload l = Folded l.fn.header.units l.fn.header.image l.bytes l.at l.state
+invariant-loop-payload l = Folded l.initial.state l.bytes l.at l.state
 
 abbrev pub decreases-loop-payload : goal.decreases-loop-payload
 decreases-loop-payload l = length l.bytes - l.at

@@ -12,9 +12,9 @@ returns-in-Ok c =
     let x = present_of c.args.memory.now in
     subst (λ id. IsRouted x c.args.process (superior_call c.args.call c.args.label) (Course c.in-Some.transaction (Some id) c.in-Ok.input)) (sym (ap (λ (e : Enlistment). e.id) c.e.view_is))
     (commands x c.args.process c.requires.up c.requires.standing c.args.label c.in-Some.e.now c.in-Some.transaction (c.in-Some.ensures)
-    c.law_of_calls.ensures c.law_of_coming.ensures c.law_of_files.ensures c.law_of_spelled.ensures c.args.call c.in-Ok.input c.requires.command (sym c.step.ensures ∙ c.in-Ok.is))
+    c.law_of_calls.ensures c.law_of_coming.ensures c.law_of_files.ensures c.requires.counts c.law_of_spelled.ensures c.args.call c.in-Ok.input c.requires.command (sym c.step.ensures ∙ c.in-Ok.is))
 
 pub returns-in-Err : goal.returns-in-Err
 returns-in-Err c =
     command_refused (present_of c.args.memory.now) c.args.process c.requires.up c.requires.standing c.args.label c.in-Some.e.now c.in-Some.transaction (c.in-Some.ensures)
-    c.law_of_calls.ensures c.law_of_coming.ensures c.law_of_files.ensures c.law_of_spelled.ensures c.args.call c.in-Err.refusal (sym c.step.ensures ∙ c.in-Err.is)
+    c.law_of_calls.ensures c.law_of_coming.ensures c.law_of_files.ensures c.requires.counts c.law_of_spelled.ensures c.args.call c.in-Err.refusal (sym c.step.ensures ∙ c.in-Err.is)

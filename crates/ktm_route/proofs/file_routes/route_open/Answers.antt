@@ -16,7 +16,7 @@ pub returns-in_ok-file-in-ReadFile : goal.returns-in_ok-file-in-ReadFile
 returns-in_ok-file-in-ReadFile c =
     let x = present_of c.args.memory.now in
     let (named, passed) = c.in_ok-file-in-ReadFile.ensures.ok in
-    rw (c.in-ReadFile.is, c.of_files.ensures) (read_routed x c.args.process c.requires.up c.law_of_files.ensures c.requires.standing c.in-ReadFile.file c.in_ok-file-in-ReadFile.file named passed c.in-ReadFile.offset c.in-ReadFile.length (rw c.in-ReadFile.is at c.requires.command))
+    rw (c.in-ReadFile.is, c.of_files.ensures) (read_routed x c.args.process c.requires.up c.law_of_files.ensures c.requires.standing c.requires.counts c.in-ReadFile.file c.in_ok-file-in-ReadFile.file named passed c.in-ReadFile.offset c.in-ReadFile.length (rw c.in-ReadFile.is at c.requires.command))
 
 pub returns-in_err-file-in-WriteFile : goal.returns-in_err-file-in-WriteFile
 returns-in_err-file-in-WriteFile c =
@@ -28,7 +28,7 @@ pub returns-in_ok-file-in-WriteFile : goal.returns-in_ok-file-in-WriteFile
 returns-in_ok-file-in-WriteFile c =
     let x = present_of c.args.memory.now in
     let (named, passed) = c.in_ok-file-in-WriteFile.ensures.ok in
-    rw (c.in-WriteFile.is, c.of_files-in-WriteFile.ensures) (write_routed x c.args.process c.requires.up c.law_of_files.ensures c.requires.standing c.in-WriteFile.file c.in_ok-file-in-WriteFile.file named passed c.in-WriteFile.offset c.in-WriteFile.bytes (rw c.in-WriteFile.is at c.requires.command))
+    rw (c.in-WriteFile.is, c.of_files-in-WriteFile.ensures) (write_routed x c.args.process c.requires.up c.law_of_files.ensures c.requires.standing c.requires.counts c.in-WriteFile.file c.in_ok-file-in-WriteFile.file named passed c.in-WriteFile.offset c.in-WriteFile.bytes (rw c.in-WriteFile.is at c.requires.command))
 
 pub returns-in_err-file-in-SetEndOfFile : goal.returns-in_err-file-in-SetEndOfFile
 returns-in_err-file-in-SetEndOfFile c =
@@ -40,7 +40,7 @@ pub returns-in_ok-file-in-SetEndOfFile : goal.returns-in_ok-file-in-SetEndOfFile
 returns-in_ok-file-in-SetEndOfFile c =
     let x = present_of c.args.memory.now in
     let (named, passed) = c.in_ok-file-in-SetEndOfFile.ensures.ok in
-    rw (c.in-SetEndOfFile.is, c.of_files-in-SetEndOfFile.ensures) (set_end_routed x c.args.process c.requires.up c.law_of_files.ensures c.requires.standing c.in-SetEndOfFile.file c.in_ok-file-in-SetEndOfFile.file named passed c.in-SetEndOfFile.size (rw c.in-SetEndOfFile.is at c.requires.command))
+    rw (c.in-SetEndOfFile.is, c.of_files-in-SetEndOfFile.ensures) (set_end_routed x c.args.process c.requires.up c.law_of_files.ensures c.requires.standing c.requires.counts c.in-SetEndOfFile.file c.in_ok-file-in-SetEndOfFile.file named passed c.in-SetEndOfFile.size (rw c.in-SetEndOfFile.is at c.requires.command))
 
 pub returns-in_err-file-in-GetFileSizeEx : goal.returns-in_err-file-in-GetFileSizeEx
 returns-in_err-file-in-GetFileSizeEx c =
@@ -52,7 +52,7 @@ pub returns-in_ok-file-in-GetFileSizeEx : goal.returns-in_ok-file-in-GetFileSize
 returns-in_ok-file-in-GetFileSizeEx c =
     let x = present_of c.args.memory.now in
     let (named, passed) = c.in_ok-file-in-GetFileSizeEx.ensures.ok in
-    rw (c.in-GetFileSizeEx.is, c.of_files-in-GetFileSizeEx.ensures) (size_routed x c.args.process c.requires.up c.law_of_files.ensures c.requires.standing c.in-GetFileSizeEx.file c.in_ok-file-in-GetFileSizeEx.file named passed (rw c.in-GetFileSizeEx.is at c.requires.command))
+    rw (c.in-GetFileSizeEx.is, c.of_files-in-GetFileSizeEx.ensures) (size_routed x c.args.process c.requires.up c.law_of_files.ensures c.requires.standing c.requires.counts c.in-GetFileSizeEx.file c.in_ok-file-in-GetFileSizeEx.file named passed (rw c.in-GetFileSizeEx.is at c.requires.command))
 
 pub returns-in_err-file-in-FlushFileBuffers : goal.returns-in_err-file-in-FlushFileBuffers
 returns-in_err-file-in-FlushFileBuffers c =
@@ -64,4 +64,4 @@ pub returns-in_ok-file-in-FlushFileBuffers : goal.returns-in_ok-file-in-FlushFil
 returns-in_ok-file-in-FlushFileBuffers c =
     let x = present_of c.args.memory.now in
     let (named, passed) = c.in_ok-file-in-FlushFileBuffers.ensures.ok in
-    rw (c.in-FlushFileBuffers.is, c.of_files-in-FlushFileBuffers.ensures) (flush_routed x c.args.process c.requires.up c.law_of_files.ensures c.requires.standing c.in-FlushFileBuffers.file c.in_ok-file-in-FlushFileBuffers.file named passed (rw c.in-FlushFileBuffers.is at c.requires.command))
+    rw (c.in-FlushFileBuffers.is, c.of_files-in-FlushFileBuffers.ensures) (flush_routed x c.args.process c.requires.up c.law_of_files.ensures c.requires.standing c.requires.counts c.in-FlushFileBuffers.file c.in_ok-file-in-FlushFileBuffers.file named passed (rw c.in-FlushFileBuffers.is at c.requires.command))

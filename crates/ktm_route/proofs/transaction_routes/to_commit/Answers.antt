@@ -10,7 +10,7 @@ returns-in-Ok c =
     let t = c.in-Ok.t in
     let (named, passed) = c.in-Ok.ensures.ok in (
       commit_comes x c.args.process c.requires.up c.args.label t named passed,
-      commit_ready x c.args.process c.requires.up c.args.label t named c.law_of_spelled.ensures c.law_of_files.ensures c.requires.standing c.requires.command passed,
+      commit_ready x c.args.process c.requires.up c.args.label t named c.law_of_spelled.ensures c.law_of_files.ensures c.requires.standing c.requires.counts c.requires.command passed,
       commit_takes x c.args.process c.requires.up c.args.label t named passed,
     )
 

@@ -18,6 +18,6 @@ returns-in-None c =
     let named = sym (c.named.ensures) ∙ c.in-Some.is in
     let passed = sym c.rollback_refusal.ensures ∙ c.in-None.is in (
       rollback_comes x c.args.process c.requires.up c.args.label t named passed,
-      rollback_ready x c.args.process c.requires.up c.args.label t named c.law_of_spelled.ensures c.law_of_files.ensures c.requires.standing c.requires.command passed,
+      rollback_ready x c.args.process c.requires.up c.args.label t named c.law_of_spelled.ensures c.law_of_files.ensures c.requires.standing c.requires.counts c.requires.command passed,
       refl,
     )

@@ -1,12 +1,16 @@
-use Rattle.ktm_run.proofs.Answering.{decided, is_call, not_executed}
+use Rattle.ktm_run.proofs.Answering.{decided, few_calls, is_call, not_executed}
+use Rattle.ktm_run.proofs.Lasting.{lasts_few}
 use Rattle.ktm_run.proofs.answer.call.Goals as goal
 
 pub returns-in-Ok-clause-does : goal.returns-in-Ok-clause-does
 returns-in-Ok-clause-does g c =
     decided _ _ c.in-Ok.reply (is_call c.args.process c.args.command c.in-Ok.reply) c.args.kernel.now c.call.new.self (g.D.Disk.told c.args.disk.now) (g.D.Disk.told c.call.new.disk) (g.D.Disk.status c.args.disk.now) (g.D.Disk.status c.call.new.disk)
-    c.in-Ok.ensures.leaves.cause c.in-Ok.ensures.leaves.calls c.in-Ok.ensures.leaves.does
+    c.in-Ok.ensures.leaves.cause _ (few_calls c.args.kernel.now.journal _) c.in-Ok.ensures.leaves.calls c.in-Ok.ensures.leaves.does
 
 pub returns-in-Err-clause-no_memory : goal.returns-in-Err-clause-no_memory
 returns-in-Err-clause-no_memory g c = λ line.
     not_executed c.args.kernel.now c.call.new.self (g.D.Disk.told c.args.disk.now) (g.D.Disk.told c.call.new.disk) (g.D.Disk.status c.args.disk.now) (g.D.Disk.status c.call.new.disk)
     line c.in-Err.ensures.leaves.told c.in-Err.ensures.leaves.status
+
+pub returns-in-Ok-clause-lasts : goal.returns-in-Ok-clause-lasts
+returns-in-Ok-clause-lasts g c = lasts_few c.args.kernel.now c.call.new.self c.in-Ok.ensures.leaves.counts

@@ -1,11 +1,13 @@
-use Rattle.std.proofs.Common.{◌≡◌, ℕ, ◌+◌, ◌∙◌, ap, arith}
+use Rattle.std.proofs.Common.{◌≡◌, ℕ, ◌+◌, ◌-◌, ◌∙◌, ap, arith}
 use Rattle.ktm_gen.specs.Script.{line_at}
+use Rattle.ktm_run.proofs.Lasting.{lasts_fewer, lasts_line, lasts_one}
 use Rattle.ktm_run.proofs.Generating.{Tallied-none, Tallied-more, Tallied-as, halted_here, halted_at}
 use Rattle.ktm_run.proofs.generated.run_lines.Goals as goal
 
 pub lines-init : goal.lines-init
 lines-init g c = record {
   went = λ w at. Tallied-none w _ c.args.number _ c.new-tally.ensures.ok c.new-tally.ensures.refused c.new-tally.ensures.restarts at;
+  lasts = lasts_fewer c.args.kernel.now c.args.lines _ (omega arith) c.requires.counts;
   ready = c.requires.ready;
   number = c.new-generator.ensures.number;
   given = c.new-generator.ensures.lines;
@@ -31,6 +33,7 @@ lines-preserved g c =
       went = λ w at.
           Tallied-more w _ _ c.args.number c.lines.done _ c.lines.tally c.count.new.self _ meant c.in-Ok.reply is (held.went w at) means answers
           c.count.ensures.ok c.count.ensures.refused c.count.ensures.restarts;
+      lasts = lasts_line c.lines.kernel c.execute.new.kernel (c.args.lines - c.lines.done) _ (omega (arith, c.lines-test.true)) c.in-Ok.ensures.lasts held.lasts;
       ready = c.in-Ok.ensures.ready;
       number = c.next_line.ensures.number ∙ held.number;
       given = c.next_line.ensures.lines ∙ ap (λ (n : ℕ). n + 1) held.given;
@@ -45,3 +48,6 @@ returns g c =
       ready = held.ready;
       all = held.counted ∙ all;
     }
+
+pub execute-requires-clause-counts : goal.execute-requires-clause-counts
+execute-requires-clause-counts g c = lasts_one c.lines.kernel (c.args.lines - c.lines.done) (omega (arith, c.lines-test.true)) c.lines.invariant.lasts

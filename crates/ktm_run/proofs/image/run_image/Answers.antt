@@ -1,6 +1,7 @@
-use Rattle.std.proofs.Common.{ℕ, List, Option, inl, inr, refl}
+use Rattle.std.proofs.Common.{ℕ, List, Option, inl, inr, refl, arith}
 use Rattle.std.proofs.KnownBytes.{Keeps-refl}
-use Rattle.ktm_open.proofs.Openings.{begins_good, faults_bad, faults_down, faults_full, faults_memory, safe_begins}
+use Rattle.ktm_open.proofs.Openings.{begins_good, faults_bad, faults_down, faults_memory, faults_worn, safe_begins}
+use Rattle.ktm_run.proofs.Lasting.{lasts_fresh}
 use Rattle.ktm_run.proofs.Theorems.{not_started_early, not_started_ends, not_started_is, not_usage, run_begun, run_ended, script_ends, too_long}
 use Rattle.ktm_log.specs.OnDisk.{on}
 use Rattle.ktm_base.specs.Disk.{DiskState, DiskStatus}
@@ -12,11 +13,11 @@ use Rattle.ktm_run.proofs.image.run_image.Goals as goal
 -- the run ends out of memory before anything is opened
 unopened : (left taken : Option (List ℕ)) (told : Option DiskState) (status : DiskStatus) → RunLeaves NoMemory (outside left taken told status) (outside left taken told status)
 unopened left taken told status = record {
-  run = λ base room tells. inl (record {
+  run = λ base tells. inl (record {
     not_read = Keeps-refl left;
     not_written = Keeps-refl taken;
     plan_is = refl;
-    image = safe_begins base room told tells;
+    image = safe_begins base told tells;
   });
   ends = inl (record { not_run = record { not_read = refl; plan_is = refl }; not_written = Keeps-refl taken; disk = inl refl });
   not_usage = λ same. absurd (cc);
@@ -35,15 +36,15 @@ returns-in-Err-clause-leaves g c =
     let not_run : NotRun _ _ = record { not_read = refl; plan_is = c.open_kernel.ensures.plan } in
     let ended = not_started_is _ _ _ _ c.not_started.ensures.says in
     record {
-      run = λ base room tells.
-          not_started_early c.not_started.result base room _ _ c.in-Err.why c.not_started.ensures.says
-          (λ offset is. begins_good base room (g.D.Disk.told c.args.disk.now) offset tells (faults_bad _ _ _ _ c.in-Err.why offset is leaves).bad)
-          (λ is. (faults_full _ _ _ _ c.in-Err.why is leaves).full base room tells)
-          (λ is. (faults_down _ _ _ _ c.in-Err.why is leaves).leaves base room tells)
-          (λ is keeps. record { not_read = Keeps-refl (g.S.Source.left c.args.source.now); not_written = keeps; plan_is = c.open_kernel.ensures.plan; image = (faults_memory _ _ _ _ c.in-Err.why is leaves).leaves base room tells });
+      run = λ base tells.
+          not_started_early c.not_started.result base _ _ c.in-Err.why c.not_started.ensures.says
+          (λ offset is. begins_good base c.law_of_bad_images.ensures (g.D.Disk.told c.args.disk.now) offset tells (faults_bad _ _ _ _ c.in-Err.why offset is leaves).bad)
+          (λ is. (faults_worn _ _ _ _ c.in-Err.why is leaves).worn base tells)
+          (λ is. (faults_down _ _ _ _ c.in-Err.why is leaves).leaves base tells)
+          (λ is keeps. record { not_read = Keeps-refl (g.S.Source.left c.args.source.now); not_written = keeps; plan_is = c.open_kernel.ensures.plan; image = (faults_memory _ _ _ _ c.in-Err.why is leaves).leaves base tells });
       ends = not_started_ends c.not_started.result _ _ _ c.in-Err.why c.not_started.ensures.says
           (λ offset is. let bad = faults_bad _ _ _ _ c.in-Err.why offset is leaves in record { not_run = not_run; same = bad.same; bad = bad.bad })
-          (λ is keeps. let full = faults_full _ _ _ _ c.in-Err.why is leaves in (record { not_run = not_run; not_written = keeps; same = full.same; there = full.there }, full.begins))
+          (λ is. let worn = faults_worn _ _ _ _ c.in-Err.why is leaves in record { not_run = not_run; same = worn.same; worn = worn.there })
           (λ is keeps. record { not_run = not_run; not_written = keeps; went_down = (faults_down _ _ _ _ c.in-Err.why is leaves).went_down })
           (λ is keeps. record { not_run = not_run; not_written = keeps; disk = inr (faults_memory _ _ _ _ c.in-Err.why is leaves).prepared });
       not_usage = ended.0;
@@ -58,12 +59,15 @@ returns-clause-leaves g c =
     let opened = c.in-Ok-open_kernel.ensures.leaves in
     let made = c.run_script-status.ensures.leaves in
     record {
-      run = λ base room tells.
-          let (stands, fits) = opened.stands base room tells in
-          run_ended base room _ _ (on c.in-Ok-open_kernel.restarted.kernel (g.D.Disk.told c.open_kernel.new.disk) (g.D.Disk.status c.open_kernel.new.disk)) c.run_script-status.new.kernel
+      run = λ base tells.
+          let (stands, unworn) = opened.stands base tells in
+          run_ended base _ _ (on c.in-Ok-open_kernel.restarted.kernel (g.D.Disk.told c.open_kernel.new.disk) (g.D.Disk.status c.open_kernel.new.disk)) c.run_script-status.new.kernel
           (g.met.D.Disk.lengths c.run_script-status.new.disk)
-          stands fits (run_begun base _ _ (opened.counts base room tells)) (c.law_of_runs.ensures _ _ base room stands) c.run_script-status.result made;
+          stands unworn (run_begun base _ _ (opened.counts base tells)) (c.law_of_runs.ensures _ _ base stands opened.fresh) c.run_script-status.result made;
       ends = script_ends _ _ c.run_script-status.result _ _ _ opened.begins made;
       not_usage = not_usage _ _ c.run_script-status.result made;
       too_long = too_long _ _ c.run_script-status.result made;
     }
+
+pub run_script-status-requires-clause-counts : goal.run_script-status-requires-clause-counts
+run_script-status-requires-clause-counts g c = lasts_fresh c.in-Ok-open_kernel.restarted.kernel _ (omega arith) c.in-Ok-open_kernel.ensures.leaves.fresh

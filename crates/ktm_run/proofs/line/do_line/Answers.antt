@@ -1,14 +1,15 @@
-use Rattle.std.proofs.Common.{◌≡◌, inl, inr, sym, ◌∙◌}
+use Rattle.std.proofs.Common.{◌≡◌, inl, inr, refl, sym, ◌∙◌}
 use Rattle.ktm_dump.proofs.offered.Written.{AppendsPart-none}
 use Rattle.ktm_run.proofs.Breaks.{unanswered_kept, half_written}
 use Rattle.ktm_run.proofs.Known.{Appends-none}
+use Rattle.ktm_run.proofs.Lasting.{lasts_same}
 use Rattle.ktm_run.proofs.Lines.{has_reply-of, Means-kept}
 use Rattle.ktm_run.proofs.Runs.{Progress-silent, Progress-line}
 use Rattle.ktm_run.specs.Script.{reply_line}
 use Rattle.ktm_run.proofs.line.do_line.Goals as goal
 
 pub returns-then-not-is_answered-clause-leaves : goal.returns-then-not-is_answered-clause-leaves
-returns-then-not-is_answered-clause-leaves g c = record { done = λ line is. Progress-silent _ line (has_reply-of line c.args.kept.now is ∙ sym c.if-not-is_answered.ensures); ready = c.requires }
+returns-then-not-is_answered-clause-leaves g c = record { done = λ line is. Progress-silent _ line (has_reply-of line c.args.kept.now is ∙ sym c.if-not-is_answered.ensures); ready = c.requires.ready; lasts = lasts_same c.args.kernel.now c.args.kernel.now refl }
 
 pub returns-in_default-clause-leaves : goal.returns-in_default-clause-leaves
 returns-in_default-clause-leaves g c = record {
@@ -44,4 +45,5 @@ returns-clause-leaves g c = record {
       answers
       (rw whole at c.in_default-write_all.ensures.ok);
   ready = c.in-Ok.ensures.ready;
+  lasts = c.in-Ok.ensures.lasts;
 }

@@ -1,5 +1,6 @@
-use Rattle.std.proofs.Common.{◌≡◌, ◌≤◌, ℕ, List, ◌++◌, length, vec_capacity}
+use Rattle.std.proofs.Common.{◌≡◌, ◌+◌, ◌≤◌, ℕ, List, ◌++◌, length, vec_capacity}
 use Rattle.ktm_kernel.specs.Stands.{IsReady}
+use Rattle.ktm_run.specs.Lasting.{LastsForLines}
 use Rattle.ktm_run.specs.Progress.{Progress, point}
 use Rattle.ktm_run.specs.Script.{kept_of, lines_from, part_from}
 use Rattle.ktm_run.proofs.line.feed.Given as goal
@@ -14,6 +15,7 @@ invariant-loop-end g l = record {
       lines;
   room : 140001 ≤ vec_capacity l.kept;
   ready : IsReady l.kernel (g.D.Disk.told l.disk) (g.D.Disk.status l.disk);
+  lasts : (left : ℕ) → LastsForLines (length l.bytes + left) l.fn.kernel → LastsForLines (length l.rest + left) l.kernel;
   later : g.K.Sink.faults l.fn.sink ≤ g.K.Sink.faults l.sink;
 }
 

@@ -10,7 +10,7 @@ pub returns-in-Err-clause-first : goal.returns-in-Err-clause-first
 returns-in-Err-clause-first g c = λ refuses. (refl, record { alone = record { source = refl; disk = refl; status = refl }; not_written = c.in-Err.ensures.writes })
 
 pub returns-in-Err-clause-run : goal.returns-in-Err-clause-run
-returns-in-Err-clause-run g c = λ is base room tells. inl (record { alone = record { source = refl; disk = refl; status = refl }; not_written = c.in-Err.ensures.writes })
+returns-in-Err-clause-run g c = λ is base tells. inl (record { alone = record { source = refl; disk = refl; status = refl }; not_written = c.in-Err.ensures.writes })
 
 pub returns-in-Err-clause-no_form : goal.returns-in-Err-clause-no_form
 returns-in-Err-clause-no_form g c = λ is. (record { source = refl; disk = refl; status = refl }, none_taken _ _ _ c.in-Err.ensures.writes)
@@ -25,9 +25,9 @@ pub returns-in-Err-clause-dump : goal.returns-in-Err-clause-dump
 returns-in-Err-clause-dump g c = λ is. inl (refl, record { alone = record { source = refl; disk = refl; status = refl }; not_written = c.in-Err.ensures.writes })
 
 pub returns-clause-run : goal.returns-clause-run
-returns-clause-run g c = λ is base room tells.
-    probed_early _ _ _ _ _ (none_written _ _ _ c.in_default.ensures.writes) base room c.do_form.result _
-    ((run_leaves _ _ _ c.in-Some.form _ c.in-Some.ensures.form is c.do_form.ensures.leaves).run base room tells)
+returns-clause-run g c = λ is base tells.
+    probed_early _ _ _ _ _ (none_written _ _ _ c.in_default.ensures.writes) base c.do_form.result _
+    ((run_leaves _ _ _ c.in-Some.form _ c.in-Some.ensures.form is c.do_form.ensures.leaves).run base tells)
 
 pub returns-clause-ends : goal.returns-clause-ends
 returns-clause-ends g c = λ is.
@@ -53,11 +53,11 @@ pub returns-clause-too_long : goal.returns-clause-too_long
 returns-clause-too_long g c = λ long. form_too_long _ _ _ c.in-Some.form c.do_form.ensures.leaves long
 
 pub returns-clause-complete : goal.returns-clause-complete
-returns-clause-complete g c = λ is base room tells reads writes short.
+returns-clause-complete g c = λ is base tells reads writes short.
     let made = c.do_form.ensures in
     let leaves = run_leaves _ _ _ c.in-Some.form _ c.in-Some.ensures.form is made.leaves in
-    run_complete base room _ _ _ _ _ _ _ _ c.do_form.result
-    (leaves.run base room tells) (probed_ends _ _ _ _ _ (none_written _ _ _ c.in_default.ensures.writes) c.do_form.result _ _ leaves.ends) made.source
+    run_complete base _ _ _ _ _ _ _ _ c.do_form.result
+    (leaves.run base tells) (probed_ends _ _ _ _ _ (none_written _ _ _ c.in_default.ensures.writes) c.do_form.result _ _ leaves.ends) made.source
     (λ fault. Rose-later _ _ _ c.write.ensures.faults.later (made.sink fault)) leaves.too_long reads writes short
 
 pub returns-clause-formats : goal.returns-clause-formats
@@ -67,7 +67,7 @@ returns-clause-formats g c = λ units is works.
 
 pub returns-clause-dumps : goal.returns-clause-dumps
 returns-clause-dumps g c = λ is holds works.
-    dump_complete c.do_form.result _ _ _ _ (dump_before _ _ _ refl (none_written _ _ _ c.in_default.ensures.writes) refl refl (λ s down. down) c.do_form.result
+    dump_complete c.law_of_bad_images.ensures c.do_form.result _ _ _ _ (dump_before _ _ _ refl (none_written _ _ _ c.in_default.ensures.writes) refl refl (λ s down. down) c.do_form.result
     (dump_leaves _ _ _ c.in-Some.form _ c.in-Some.ensures.form is c.do_form.ensures.leaves))
     (λ fault. Rose-later _ _ _ c.write.ensures.faults.later (c.do_form.ensures.sink fault)) works holds
 
@@ -80,8 +80,8 @@ returns-clause-generated g c = λ number lines is.
     (gen_leaves _ _ _ c.in-Some.form _ number lines c.in-Some.ensures.form is c.do_form.ensures.leaves))
 
 pub returns-clause-generates : goal.returns-clause-generates
-returns-clause-generates g c = λ number lines is base room tells works.
-    generated_complete number lines _ _ base room c.do_form.result
+returns-clause-generates g c = λ number lines is base tells works.
+    generated_complete number lines _ _ base c.do_form.result
     (generated_before _ _ _ _ _ (none_written _ _ _ c.in_default.ensures.writes) number lines _ c.do_form.result
     (gen_leaves _ _ _ c.in-Some.form _ number lines c.in-Some.ensures.form is c.do_form.ensures.leaves)) tells
     (λ fault. works (Rose-later _ _ _ c.write.ensures.faults.later (c.do_form.ensures.sink fault)))

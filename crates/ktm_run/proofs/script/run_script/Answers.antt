@@ -1,6 +1,7 @@
 use Rattle.std.proofs.Common.{◌≡◌, ◌+◌, inl, inr, ℕ, List, [], ◌++◌, length, take, refl, sym, ◌∙◌, ap, arith, length-append, length-take}
 use Rattle.ktm_base.specs.declared.limits.TheConstants.{MOST_SCRIPT_BYTES}
 use Rattle.ktm_run.proofs.Known.{Consumes-none, Consumes-trans, Consumes-end, Consumes-kept, Consumes-long}
+use Rattle.ktm_run.proofs.Lasting.{lasts_fewer, lasts_one}
 use Rattle.ktm_run.proofs.Lines.{lines_from-append, part_from-append, take_front}
 use Rattle.ktm_run.proofs.Runs.{Progress-none, Progress-then, Progress-as, Stops-after, Stops-as}
 use Rattle.ktm_run.specs.Script.{cut_lines, lines_from, part_from, last_line, kept_of}
@@ -11,6 +12,7 @@ pieces-init g c = record {
   went = ([], Consumes-none _, refl, c.requires.kept.0, Progress-none _);
   room = c.requires.kept.1;
   ready = c.requires.ready;
+  lasts = c.requires.counts;
   bound = omega arith;
   source_later = omega arith;
   sink_later = omega arith;
@@ -31,6 +33,7 @@ pieces-preserved g c =
       );
       room = c.in-Ok-feed.ensures.room;
       ready = c.in-Ok-feed.ensures.leaves.ready;
+      lasts = c.in-Ok-feed.ensures.leaves.lasts _ (lasts_fewer c.pieces.kernel (c.pieces.left + 1) _ (omega (arith, length-take {A = ℕ}, c.in-Ok.ensures.within, c.in-Ok.ensures.count, c.max.ensures, c.if-left-eq0.false)) c.pieces.invariant.lasts);
       bound = omega (arith, c.pieces.invariant.bound);
       source_later = omega (arith, c.pieces.invariant.source_later, c.read_some.ensures.faults.later);
       sink_later = omega (arith, c.pieces.invariant.sink_later, c.feed.ensures.later);
@@ -122,3 +125,10 @@ returns-then-left-eq0-clause-leaves g c =
       went = Progress-as _ _ _ _ (ap (λ (l : List ℕ). lines_from [] l) (sym (take_front MOST_SCRIPT_BYTES script piece full))) went;
       more = Consumes-long _ _ (script ++ piece) MOST_SCRIPT_BYTES read_all (omega (arith, long_all));
     }
+
+pub feed-requires-clause-counts : goal.feed-requires-clause-counts
+feed-requires-clause-counts g c =
+    lasts_fewer c.pieces.kernel (c.pieces.left + 1) _ (omega (arith, length-take {A = ℕ}, c.in-Ok.ensures.within, c.in-Ok.ensures.count, c.max.ensures, c.if-left-eq0.false)) c.pieces.invariant.lasts
+
+pub finish-requires-clause-counts : goal.finish-requires-clause-counts
+finish-requires-clause-counts g c = lasts_one c.pieces.kernel (c.pieces.left + 1) (omega arith) c.pieces.invariant.lasts

@@ -2,6 +2,7 @@ use Rattle.std.proofs.Common.{◌≡◌, ◌+◌, ◌≤◌, ℕ, List, [], leng
 use Rattle.std.specs.Io.KnownBytes.{Consumes}
 use Rattle.ktm_base.specs.declared.limits.TheConstants.{MOST_SCRIPT_BYTES}
 use Rattle.ktm_kernel.specs.Stands.{IsReady}
+use Rattle.ktm_run.specs.Lasting.{LastsForLines}
 use Rattle.ktm_run.specs.Progress.{Progress, point}
 use Rattle.ktm_run.specs.Script.{kept_of, lines_from, part_from}
 use Rattle.ktm_run.proofs.script.run_script.Given as goal
@@ -15,6 +16,7 @@ invariant-pieces g l = record {
       (lines_from [] script);
   room : 140001 ≤ vec_capacity l.kept;
   ready : IsReady l.kernel (g.D.Disk.told l.disk) (g.D.Disk.status l.disk);
+  lasts : LastsForLines (l.left + 1) l.kernel;
   bound : l.left ≤ MOST_SCRIPT_BYTES;
   source_later : g.S.Source.faults l.fn.source ≤ g.S.Source.faults l.source;
   sink_later : g.K.Sink.faults l.fn.sink ≤ g.K.Sink.faults l.sink;

@@ -7,5 +7,5 @@ pub returns-then-not-is_up : goal.returns-then-not-is_up
 returns-then-not-is_up g c = tick_down c.args.ms (on c.args.self.now _ _) (sym c.is_up.ensures ∙ c.if-not-is_up.true) c.requires.ready
 
 pub returns : goal.returns
-returns g c = tick_answered c.law_of_standing.ensures c.law_of_reserved_files.ensures c.law_of_kept.ensures c.args.ms (on c.args.self.now _ _) (on c.answer.new.self _ _)
-    (sym c.is_up.ensures ∙ c.if-not-is_up.false) c.requires.ready c.in-Ok.reply c.in-Ok.ensures.leaves
+returns g c = tick_answered c.law_of_standing.ensures c.law_of_reserved_files.ensures c.law_of_kept.ensures c.law_of_spelling.ensures c.args.ms (on c.args.self.now _ _) (on c.answer.new.self _ _)
+    (sym c.is_up.ensures ∙ c.if-not-is_up.false) c.requires.ready c.requires.counts c.in-Ok.reply c.in-Ok.ensures.leaves

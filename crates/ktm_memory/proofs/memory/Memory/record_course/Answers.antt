@@ -1,20 +1,22 @@
-use Rattle.std.proofs.Common.{◌≡◌, ◌-◌, not, All, List, refl, sym, ap, subst, ◌∙◌}
+use Rattle.std.proofs.Common.{◌≡◌, ◌≤◌, All, List, [], sum_by, refl, sym, ap, subst, ◌∙◌}
 use Rattle.ktm_course.proofs.offered.Bases.{same_events}
+use Rattle.ktm_course.specs.Recorded.{IsBasis}
 use Rattle.ktm_course.specs.declared.parts.Parts.{Parts}
 use Rattle.ktm_event.specs.Kept.{Holds}
 use Rattle.ktm_event.specs.Spelling.{IsSpellableEvent}
 use Rattle.ktm_event.specs.Work.{FinalFile, changes_of as recorded_changes}
 use Rattle.ktm_tm.specs.Courses.{caller_of}
+use Rattle.ktm_types.specs.Sizes.{event_size}
 use Rattle.ktm_types.specs.declared.event.Event.{Event}
 use Rattle.ktm_world.specs.Files.{own_changes}
 use Rattle.ktm_world.specs.Keys.{own_settings}
-use Rattle.ktm_world.specs.Outcome.{is_full}
 use Rattle.ktm_world.specs.Phases.{Course}
 use Rattle.ktm_world.specs.Present.{Present}
+use Rattle.ktm_world.specs.Steps.{Basis, events_ahead}
 use Rattle.ktm_world.specs.TransactionCalls.{course_of}
 use Rattle.txf_volume.specs.Held.{files_of}
 use Rattle.txf_volume.specs.Shown.{shown}
-use Rattle.ktm_memory.specs.Memory.{MemoryState, present_of}
+use Rattle.ktm_memory.specs.Memory.{MemoryState, course_then, present_of}
 use Rattle.ktm_memory.proofs.CourseRecords.{AreKnown, AreParts, known}
 use Rattle.ktm_memory.proofs.memory.Memory.record_course.Goals as goal
 use Rattle.ktm_memory.proofs.memory.Memory.record_course.Goals.{After-superior}
@@ -41,26 +43,19 @@ module _ (c : After-superior) where
   are_known = known shown c.law_of_events_ahead.ensures course parts c.args.steps.now refl are
       (sym (ap (λ names. recorded_changes names (shown c.written-files.result)) c.names.ensures ∙ sym c.written-files.ensures ∙ ap (λ (m : MemoryState). own_changes (files_of m.files).table.own c.args.t.now.id) c.self.view_is))
 
-  -- the room that the log has
-  left : (es : List Event) → is_full (c.self.inside.journal.log.area.len - c.self.inside.journal.log.end) es ≡ is_full x.machine.left es
-  left es = ap (λ (m : MemoryState). is_full (present_of m).machine.left es) c.self.view_is
+  -- from each basis of the parts the steps record what the course does
+  pub of_course : (b : Basis) → IsBasis shown b c.args.t.now.id c.args.t.now.is_recorded parts → events_ahead c.args.steps.now b ≡ (course_then x c.args.t.now c.args.caller c.args.steps.now).events
+  of_course b is = let k = are_known in same_events c.args.t.now.id parts c.args.steps.now c.args.t.now.is_recorded b k.from is k.is ∙ k.events
 
-pub record_steps-requires-clause-spelled : goal.record_steps-requires-clause-spelled
-record_steps-requires-clause-spelled c =
-    let d = (goal.at.record_steps-requires-clause-spelled c).After-superior in
-    let k = are_known d in
-    λ b is room.
-    let same : _ ≡ _ = same_events d.args.t.now.id (parts d) d.args.steps.now d.args.t.now.is_recorded b k.from is k.is ∙ k.events in
-    subst (All IsSpellableEvent) (sym same) (d.requires.spelled (ap (is_full (x d).machine.left) (sym same) ∙ sym (left d _) ∙ room))
+pub record-requires-clause-spelled : goal.record-requires-clause-spelled
+record-requires-clause-spelled c = λ b is.
+    subst (All IsSpellableEvent) (sym (of_course (goal.at.record-requires-clause-spelled c).After-superior b is)) c.requires.spelled
 
-pub returns-clause-recorded : goal.returns-clause-recorded
-returns-clause-recorded c =
-    let d = (goal.at.returns-clause-recorded c).After-superior in
-    let k = are_known d in
-    λ recorded. subst (Holds c.record_steps.new.events) k.events (c.record_steps.ensures.recorded k.from k.is recorded)
+pub record-requires-clause-fits : goal.record-requires-clause-fits
+record-requires-clause-fits c = λ b is.
+    subst (λ (es : List Event). sum_by event_size es ≤ c.args.events.now.spare) (sym (of_course (goal.at.record-requires-clause-fits c).After-superior b is)) c.requires.fits
 
-pub returns-clause-full : goal.returns-clause-full
-returns-clause-full c =
-    let d = (goal.at.returns-clause-full c).After-superior in
-    let k = are_known d in
-    c.record_steps.ensures.full k.from k.is ∙ ap not (left d _ ∙ ap (is_full (x d).machine.left) k.events)
+pub returns-clause-holds : goal.returns-clause-holds
+returns-clause-holds c =
+    let k = are_known (goal.at.returns-clause-holds c).After-superior in
+    subst (Holds c.record.new.events) k.events (c.record.ensures.adds k.from [] k.is c.requires.empty)

@@ -1,0 +1,4 @@
+pub mod Writes
+pub mod Spellable
+pub mod Owned
+pub mod Saved
