@@ -2,7 +2,6 @@
 
 import dataclasses
 import platform
-import shutil
 import statistics
 import subprocess
 
@@ -197,22 +196,20 @@ def of_start(side, lines):
 
 # The byte of an image that is raised by each compaction.
 SELECTOR = 2048
-# A commit of which a log of 16 units holds about 200, and about how many bytes it takes there.
-COMMIT = sets(["changing"], 900)
-COMMIT_BYTES = 940
+# A file that is open, and a write that gives it 30,000 bytes, in a frame that is a little longer.
+OPENED = 'p1 CreateFile h1 "\\changing" rw - CREATE_NEW'
+WRITE = f"p1 WriteFile h1 0 {workloads.digits(workloads.text(30_000))}"
+FRAME_BYTES = 30_030
 
 
 def of_compactions(sides, _):
     """What it costs that the log begins anew, on small and large images, with few and many things in them."""
-    held = {
-        "10 keys": key_lines(10),
-        "1,000 keys": key_lines(1_000),
-        "10 files": file_lines(10),
-        "1,000 files": file_lines(1_000),
-    }
-    rows = [[units, name, *compaction(sides.wattorju, units, lines)] for units in (16, 1_024) for name, lines in held.items()]
-    columns = ["units", "in the image", "commits between two", "a commit", "a compaction", "of it for each commit"]
-    return Table("compactions", "instructions of a commit of 900 bytes and of a compaction", columns, rows)
+    rows = []
+    for units, counts in ((16, [10]), (1_024, [10, 1_000])):
+        for name, lines in (("keys", key_lines), ("files", file_lines)):
+            rows += [[units, f"{count:,} {name}", *compaction(sides.wattorju, units, lines(count))] for count in counts]
+    columns = ["units", "in the image", "writes between two", "a write", "a compaction", "of it for each write"]
+    return Table("compactions", "instructions of a write of 30,000 bytes and of a compaction", columns, rows)
 
 
 def key_lines(count):
@@ -227,29 +224,18 @@ def file_lines(count):
 
 
 def compaction(side, units, before):
-    """Returns how many commits there are between two compactions of an image on which these lines were run, and the
-    instructions of a commit, of a compaction, and of a compaction for each commit."""
-    fill = (8_192 * units + 65_536) // COMMIT_BYTES
+    """Returns how many writes there are between two compactions of an image on which these lines were run, and the
+    instructions of a write, of a compaction, and of a compaction for each write."""
+    writes = (8_192 * units + 65_536) // FRAME_BYTES * 5 // 2
     with side.state() as image:
         subprocess.run([side.program, "format", image, str(units)], check=True)
-        side.measured(measuring.run, before, image)
-        (none, _), (few, first), (many, last) = [
-            repeated(side, image, workloads.script(COMMIT) * count) for count in (0, fill // 8, fill // 8 + 3 * fill)
-        ]
-    commit = (few - none) // (fill // 8)
-    times = (last - first) % 256
-    whole = many - few - commit * 3 * fill
-    return 3 * fill // times, commit, whole // times, whole // (3 * fill)
-
-
-def repeated(side, image, lines):
-    """Returns the instructions of these lines on a copy of the image, and its selector after them."""
-    with side.state() as copy:
-        shutil.copyfile(image, copy)
-        cost = side.measured(measuring.instructions, lines, copy)
-        with open(copy, "rb") as left:
+        costs = side.measured(measuring.instructions_by_reply, [*before, OPENED, *[WRITE] * writes], image)[-writes:]
+        with open(image, "rb") as left:
             left.seek(SELECTOR)
-            return cost, left.read(1)[0]
+            times = left.read(1)[0]
+    usual = statistics.median(costs)
+    whole = sum(it - usual for it in sorted(costs)[-times:])
+    return writes // times, int(usual), int(whole / times), int(whole / writes)
 
 
 def of_memory(sides, options):

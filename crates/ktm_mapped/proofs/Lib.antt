@@ -1,0 +1,3 @@
+mod GoodStates
+mod MappedLaws
+pub mod offered
