@@ -2,6 +2,7 @@
 use crate::events::{event_of, group_of};
 use crate::extents::contents_of;
 use crate::files::{calls_of, calls_of_disk};
+use crate::losses::kept_by;
 use crate::pages::{cached_of, row_of, taken_of, told};
 use crate::picks::left_by;
 use crate::plain::kept_in;
@@ -23,6 +24,7 @@ fn answer<R: Files<File = File>>(
         "events" => event_of(alloc, asked),
         "groups" => group_of(alloc, asked),
         "picks" => left_by(alloc, asked),
+        "losses" => kept_by(alloc, asked),
         "calls" => calls_of(alloc, asked),
         "disks" => calls_of_disk(alloc, asked),
         "plain" => kept_in(alloc, rt, asked),

@@ -4,6 +4,7 @@
 //! - `lines`, `replies`: a text, and whether it is a line of a script, or a reply; what is read is also written again.
 //! - `events`, `groups`: bytes, as digits, and the event or the group that they are.
 //! - `picks`: the number of a pick, and what a loss of power leaves of a disk by it.
+//! - `losses`: the number of a pick, and what a disk keeps by it of the same bytes where a sync had failed, and lost them.
 //! - `calls`: the number of the first call of a file that fails, and the calls that a block makes over it.
 //! - `disks`: the same number, and the calls that a disk over the block makes.
 //! - `plain`: a path, and of the disk in the file there, once it has made two bytes stay: what length a second disk over the file
@@ -26,6 +27,7 @@ mod answers;
 mod events;
 mod extents;
 mod files;
+mod losses;
 mod pages;
 mod picks;
 mod plain;

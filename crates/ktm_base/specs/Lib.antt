@@ -3,6 +3,7 @@ pub mod Names
 pub mod Count
 pub mod Told
 pub mod Bytes
+pub mod Doubt
 pub mod Reading
 pub mod Stream
 pub mod Disk

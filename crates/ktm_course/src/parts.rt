@@ -1,5 +1,5 @@
 // What a transaction records by its steps.
-ghost use Rattle.std.specs.Prelude.{◌≡◌, ◌+◌, ◌-◌, ◌^◌, ◌≤◌, ◌∷◌, ◌++◌, [], All, List, Option, None, min, sum_by, is_some};
+ghost use Rattle.std.specs.Prelude.{◌≡◌, ◌+◌, ◌-◌, ◌≤◌, ◌∷◌, ◌++◌, [], All, List, Option, None, sum_by, is_some};
 ghost use Rattle.ktm_course.specs.Recorded.{IsBasis, IsCaller, IsSuperior, entries, entry_event, recorded_after};
 ghost use Rattle.ktm_event.specs.Kept.{Holds};
 ghost use Rattle.ktm_event.specs.Spelling.{IsSpellableEvent};

@@ -37,9 +37,13 @@ left_by_3 way from end g x more =
     let two : (way == 2) ≡ false = grind (arith, nat_tests) in
     rw (none, one, two) refl
 
-pub leaves_all : (from end w : ℕ) (f g : Lcg) (a : Option (List ℕ)) → (w, g) ≡ pcg32 f → w % 4 ≡ 0 → Goes (λ old new. (new, g) ≡ left_of_range from end f old) a a
-leaves_all from end w f g None drew way = tt
-leaves_all from end w f g (Some x) drew way = sym (left_by_0 (w % 4) from end g x way) ∙ chosen from end w f g x drew
+left_whole : (from end w : ℕ) (f g : Lcg) (a b : Option (List ℕ)) → (w, g) ≡ pcg32 f → w % 4 ≡ 0 → b ≡ a → Goes (λ old new. (new, g) ≡ left_of_range from end f old) a b
+left_whole from end w f g None b drew way same = rw same tt
+left_whole from end w f g (Some x) b drew way same = rw same (sym (left_by_0 (w % 4) from end g x way) ∙ chosen from end w f g x drew)
+
+pub leaves_all : {E : Type 0} (from end w : ℕ) (f g : Lcg) (r : Result (Unit {0}) E) (a b : Option (List ℕ)) → (w, g) ≡ pcg32 f → w % 4 ≡ 0 → OnOk r (b ≡ a) → OnOk r (Goes (λ old new. (new, g) ≡ left_of_range from end f old) a b)
+leaves_all from end w f g r a b drew way =
+    OnOk-map r (b ≡ a) (Goes (λ old new. (new, g) ≡ left_of_range from end f old) a b) (left_whole from end w f g a b drew way)
 
 pub leaves_zeros : {E : Type 0} (from end w : ℕ) (f g : Lcg) (r : Result (Unit {0}) E) (a b : Option (List ℕ)) → (w, g) ≡ pcg32 f → w % 4 ≡ 1 → OnOk r (Goes (λ old new. new ≡ with_zeros from end old) a b) → OnOk r (Goes (λ old new. (new, g) ≡ left_of_range from end f old) a b)
 leaves_zeros from end w f g r a b drew way =

@@ -1,3 +1,4 @@
 pub mod Elsewhere
 pub mod Cut
 pub mod Left
+pub mod Sure

@@ -8,6 +8,7 @@ ghost use Rattle.ktm_base.specs.Disk.{DiskState, DiskStatus, Wrote, WriteRefused
 ghost use Rattle.ktm_base.specs.Power.{after_arm, after_off, Powers, Restored, NotRestored};
 ghost use Rattle.ktm_disk.specs.Status.{with_pending, status_at_start};
 ghost use Rattle.ktm_cut.specs.Left.{left_of};
+ghost use Rattle.ktm_cut.specs.Sure.{IsDirtySure};
 ghost use Rattle.ktm_disk.specs.Told.{IsLengthKnown};
 
 use crate::settle::settle;
@@ -154,6 +155,7 @@ impl<B: Block> PowerDisk for CutDisk<B> {
         ensures ok { OnOk result (Goes Restored (told_by self.old) (told_by self.new)) }
         ensures err { OnErr result (Goes NotRestored (told_by self.old) (told_by self.new)) }
         ensures left { OnOk result (Goes (λ old new. new.seen ≡ left_of pick old.dirty old.shortest old.seen) (told_by self.old) (told_by self.new)) }
+        ensures kept { OnOk result (Goes (λ old new. IsDirtySure old.dirty old.shortest (B.is_doubted (block_of self.new)) new.seen) (told_by self.old) (told_by self.new)) }
         ensures cause { OnErr result (Rose (B.faults (block_of self.old)) (B.faults (block_of self.new))) }
         ensures faults { B.faults (block_of self.old) ≤ B.faults (block_of self.new) }
         ensures flushed { OnOk result (B.waits (block_of self.new) ≡ false) }

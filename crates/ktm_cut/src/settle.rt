@@ -4,6 +4,7 @@ ghost use Rattle.ktm_base.specs.Bytes.{SameOutside};
 ghost use Rattle.ktm_base.specs.Stream.{Faults};
 ghost use Rattle.ktm_base.specs.Told.{Goes};
 ghost use Rattle.ktm_cut.specs.Elsewhere.{SameElsewhere};
+ghost use Rattle.ktm_cut.specs.Sure.{SureFrom, SureIn, IsDirtySure};
 ghost use Rattle.ktm_disk.specs.Told.{length_at_sync};
 ghost use Rattle.ktm_cut.specs.Left.{with_zeros, with_drawn, left_of_range, left_of_ranges, left_of_added, left_of};
 
@@ -14,7 +15,9 @@ use rand_pcg::Lcg64Xsh32;
 
 const PIECE: usize = 512;
 
-/// Lets `pick` choose what is left of each range, and then of the bytes that were added behind `grown_from`.
+/// Lets `pick` choose what is left of each range, and then of the bytes that were added behind `grown_from`. All of them are
+/// written, also those that stay as they are: an earlier flush may have failed, and the next one then answers Ok without
+/// what the system lost.
 pub fn settle<B: Block>(
     block: &mut B,
     pick: u64,
@@ -23,6 +26,7 @@ pub fn settle<B: Block>(
 ) -> Result<(), Failed>
     ensures contents { Goes (λ old new. SameElsewhere ranges.now (length_at_sync grown_from (length old)) old new) (B.contents block.old) (B.contents block.new) }
     ensures left { OnOk result (Goes (λ old new. new ≡ left_of pick ranges.now (length_at_sync grown_from (length old)) old) (B.contents block.old) (B.contents block.new)) }
+    ensures kept { OnOk result (Goes (λ old new. IsDirtySure ranges.now (length_at_sync grown_from (length old)) (B.is_doubted block.new) new) (B.contents block.old) (B.contents block.new)) }
     ensures faults { Faults (B.faults block.old) (B.faults block.new) result }
     ensures flushed { OnOk result (B.waits block.new ≡ false) }
 {
@@ -44,6 +48,7 @@ fn settle_ranges<B: Block>(
     requires { IfSome (B.contents block.old) (λ bytes. len ≡ length bytes) }
     ensures contents { Goes (SameOutside ranges.now) (B.contents block.old) (B.contents block.new) }
     ensures left { OnOk result (Goes (λ old new. (new, words.new) ≡ left_of_ranges ranges.now words.old old) (B.contents block.old) (B.contents block.new)) }
+    ensures sure { OnOk result (SureIn ranges.now len (B.is_doubted block.old) (B.is_doubted block.new)) }
     ensures faults { Faults (B.faults block.old) (B.faults block.new) result }
 {
     for (at, size) in ranges {
@@ -64,6 +69,7 @@ fn settle_added<B: Block>(
     requires { IfSome (B.contents block.old) (λ bytes. len ≡ length bytes) }
     ensures contents { Goes (λ old new. SameElsewhere [] (length_at_sync grown_from (length old)) old new) (B.contents block.old) (B.contents block.new) }
     ensures left { OnOk result (Goes (λ old new. new ≡ left_of_added (length_at_sync grown_from (length old)) words.old old) (B.contents block.old) (B.contents block.new)) }
+    ensures sure { OnOk result (SureFrom (length_at_sync grown_from len) len (B.is_doubted block.old) (B.is_doubted block.new)) }
     ensures faults { Faults (B.faults block.old) (B.faults block.new) result }
 {
     match grown_from {
@@ -72,7 +78,7 @@ fn settle_added<B: Block>(
     }
 }
 
-// Draws a word, which chooses what is left of the range.
+// Draws a word, which chooses what is left of the range. What stays as it was written is written again.
 fn settle_range<B: Block>(
     block: &mut B,
     words: &mut Lcg64Xsh32,
@@ -83,14 +89,39 @@ fn settle_range<B: Block>(
     requires within { IfSome (B.contents block.old) (λ bytes. end ≤ length bytes) }
     ensures contents { Goes (SameOutside ((from, end - from) ∷ [])) (B.contents block.old) (B.contents block.new) }
     ensures left { OnOk result (Goes (λ old new. (new, words.new) ≡ left_of_range from end words.old old) (B.contents block.old) (B.contents block.new)) }
+    ensures sure { OnOk result (SureFrom from end (B.is_doubted block.old) (B.is_doubted block.new)) }
     ensures faults { Faults (B.faults block.old) (B.faults block.new) result }
 {
     match words.next_word() % 4 {
-        0 => Ok(()),
+        0 => write_again(block, from, end),
         1 => write_zeros(block, from, end),
         2 => write_drawn(block, words, from, end),
-        _ => write_drawn(block, words, from + (end - from) / 2, end),
+        _ => {
+            let middle = from + (end - from) / 2;
+            write_again(block, from, middle)?;
+            write_drawn(block, words, middle, end)
+        }
     }
+}
+
+fn write_again<B: Block>(block: &mut B, from: u64, end: u64) -> Result<(), Failed>
+    requires order { from ≤ end }
+    requires within { IfSome (B.contents block.old) (λ bytes. end ≤ length bytes) }
+    ensures contents { Goes (SameOutside ((from, end - from) ∷ [])) (B.contents block.old) (B.contents block.new) }
+    ensures same { OnOk result (B.contents block.new ≡ B.contents block.old) }
+    ensures sure { OnOk result (SureFrom from end (B.is_doubted block.old) (B.is_doubted block.new)) }
+    ensures faults { Faults (B.faults block.old) (B.faults block.new) result }
+{
+    let mut bytes = [0; PIECE];
+    let mut at = from;
+    while at < end {
+        let size = piece_of(end - at);
+        let piece = &mut bytes[..size];
+        block.read_at(at, piece)?;
+        block.write_at(at, piece)?;
+        at += size as u64;
+    }
+    Ok(())
 }
 
 fn write_zeros<B: Block>(block: &mut B, from: u64, end: u64) -> Result<(), Failed>
@@ -98,6 +129,7 @@ fn write_zeros<B: Block>(block: &mut B, from: u64, end: u64) -> Result<(), Faile
     requires within { IfSome (B.contents block.old) (λ bytes. end ≤ length bytes) }
     ensures contents { Goes (SameOutside ((from, end - from) ∷ [])) (B.contents block.old) (B.contents block.new) }
     ensures left { OnOk result (Goes (λ old new. new ≡ with_zeros from end old) (B.contents block.old) (B.contents block.new)) }
+    ensures sure { OnOk result (SureFrom from end (B.is_doubted block.old) (B.is_doubted block.new)) }
     ensures faults { Faults (B.faults block.old) (B.faults block.new) result }
 {
     let zeros = [0; PIECE];
@@ -120,6 +152,7 @@ fn write_drawn<B: Block>(
     requires within { IfSome (B.contents block.old) (λ bytes. end ≤ length bytes) }
     ensures contents { Goes (SameOutside ((from, end - from) ∷ [])) (B.contents block.old) (B.contents block.new) }
     ensures left { OnOk result (Goes (λ old new. (new, words.new) ≡ with_drawn from end words.old old) (B.contents block.old) (B.contents block.new)) }
+    ensures sure { OnOk result (SureFrom from end (B.is_doubted block.old) (B.is_doubted block.new)) }
     ensures faults { Faults (B.faults block.old) (B.faults block.new) result }
 {
     let mut drawn = [0; PIECE];

@@ -12,7 +12,6 @@ mod kept;
 mod laws;
 mod part;
 mod setting;
-mod size;
 mod work;
 
 pub use event::{read_event, write_event};
@@ -25,5 +24,4 @@ pub use part::{
     part_at, put_enlistment, put_names_and_files_part, put_part, put_record, put_settings_part,
     record_at,
 };
-pub use size::event_size;
 pub use work::{FileBytes, Stage, Work, WrittenFiles};

@@ -12,7 +12,6 @@ use crate::change::{changes_at, put_changes};
 use crate::field::{id_at, information_at, put_id, tag_at};
 use crate::files::put_names_and_files;
 use crate::setting::{put_settings, settings_at};
-use crate::size::done_size;
 use crate::{EventFault, WrittenFiles};
 use ktm_base::{Bytes, Id, NoMemory};
 use ktm_codec::{put_text, put_u8};
@@ -191,6 +190,15 @@ pub fn put_part(out: &mut Vec<u8>, part: &Part) -> Result<(), NoMemory>
         } => put_enlistment(out, *enlistment, *manager, information.as_slice()),
         Part::Changes(changes) => put_changes_part(out, changes.as_slice()),
         Part::Settings(settings) => put_settings_part(out, settings.as_slice()),
+    }
+}
+
+fn done_size(done: DonePart) -> usize
+    ensures { result ≡ done_size done }
+{
+    match done {
+        DonePart::Enlistment(_) => 9,
+        DonePart::Files | DonePart::Keys => 1,
     }
 }
 

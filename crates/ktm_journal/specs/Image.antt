@@ -7,7 +7,7 @@ use Rattle.ktm_log.specs.declared.area.Area.{Area}
 use Rattle.ktm_log.specs.Log.{LogState, IsLog, Rests, area_bytes}
 use Rattle.ktm_types.specs.Groups.{Group}
 use Rattle.ktm_types.specs.EventGrammar.{IsGroupOf}
-use Rattle.ktm_types.specs.Sizes.{area_len, log_size}
+use Rattle.ktm_types.specs.Sizes.{area_len}
 use Rattle.ktm_journal.specs.declared.half.Half.{Half}
 use Rattle.ktm_journal.specs.declared.half.Half.TheVariants.{A, B}
 
@@ -74,10 +74,6 @@ pub record IsImage (units image : ℕ) (snapshot : List ℕ) (log : List Group) 
   pub payloads : List (List ℕ)
   pub groups : HoldGroups log payloads
   pub frames : IsLog payloads (area_bytes (log_area units (half_of selector)) bytes)
-
--- how many bytes of the log's area the groups leave
-abbrev pub left_after : ℕ → List Group → ℕ
-left_after units log = area_len units - log_size log
 
 -- what is known of a journal: its image, which half counts, the log there, and how many events were ever recorded
 pub record JournalState : Type 0 where

@@ -1,12 +1,11 @@
 // The journal of an image, and how it grows.
-ghost use Rattle.std.specs.Prelude.{◌^◌, ◌≡◌, ◌↔◌, ◌+◌, ◌-◌, ◌*◌, ◌<◌, ◌≤◌, [], length, min, sum_by, OnOk, OnErr, IsTrue, true, false, is_err, IfSome};
+ghost use Rattle.std.specs.Prelude.{◌^◌, ◌≡◌, ◌+◌, ◌-◌, ◌*◌, ◌<◌, ◌≤◌, [], length, OnOk, OnErr, false, is_err, IfSome};
 ghost use Rattle.ktm_base.specs.declared.limits.TheConstants.{LEAST_UNITS, MOST_UNITS, MOST_PENDING};
 ghost use Rattle.ktm_base.specs.Told.{Goes};
 ghost use Rattle.ktm_base.specs.Disk.{DeviceCalls, IsSafe};
 ghost use Rattle.ktm_log.specs.OnDisk.{on};
-ghost use Rattle.ktm_types.specs.Groups.{Group};
-ghost use Rattle.ktm_types.specs.Sizes.{area_len, event_size, frame_size};
-ghost use Rattle.ktm_journal.specs.Append.{RecordLeaves, has_no_room};
+ghost use Rattle.ktm_types.specs.Sizes.{area_len, frame_size};
+ghost use Rattle.ktm_journal.specs.Append.{RecordLeaves};
 ghost use Rattle.ktm_journal.specs.Compact.{CompactLeaves};
 ghost use Rattle.ktm_journal.specs.Format.{Anything};
 ghost use Rattle.ktm_journal.specs.Image.{IsHeaded, IsImage, empty_snapshot};
@@ -157,7 +156,7 @@ impl Journal {
         self.log.spare() + 1
     }
 
-    /// How many bytes the events of a group take at most, for which the log of a new image of its size has room.
+    /// How long a list of events may become, in bytes: the log's area without what a frame has beside its events.
     pub fn events_room(&self) -> usize
         ensures { result + frame_size [] ≡ area_len self.now.units }
     {

@@ -15,5 +15,5 @@ pub use fault::LoadFault;
 pub use header::Header;
 pub use journal::Journal;
 pub use ktm_log::AppendFault;
-pub use laws::{law_of_what_is_free, law_of_what_is_left};
+pub use laws::law_of_what_is_left;
 pub use snapshot::{empty_snapshot, read_snapshot};

@@ -1,5 +1,4 @@
 pub mod Log
-pub mod Fault
 pub mod Settle
 pub mod Load
 pub mod OnDisk

@@ -11,7 +11,7 @@ use ktm_base::{Block, Bytes, Failed, NoMemory};
 use std::alloc::Global;
 
 /// Keeps its bytes, and grows within its room. A call that fails changes none of them, and a buffer that it was to fill is as it
-/// was.
+/// was. A flush that fails loses nothing.
 #[derive(Drop)]
 pub struct MemBlock {
     bytes: Vec<u8>,
@@ -68,6 +68,8 @@ impl Block for MemBlock {
     ghost faults = { λ b. b.faults };
 
     ghost waits = { λ b. b.waits };
+
+    ghost is_doubted = { λ b place. false };
 
     fn len(&mut self) -> Result<u64, Failed>
         ensures value { IfOk result (λ n. n ≡ length (contents_of self.old)) }

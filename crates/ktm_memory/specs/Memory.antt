@@ -123,7 +123,7 @@ now_of h = record {
 abbrev pub present_of : MemoryState → Present
 present_of m = now_of (held m)
 
--- memory shows what is so, but for how many events the log has; what was recorded of files, keys, resource managers and the work of
+-- memory shows what is so, but for how many events were recorded; what was recorded of files, keys, resource managers and the work of
 -- transactions is not looked at, since it is as it stands now
 pub record Shows (m : MemoryState) (x : Present) : Type 0 where
   pub is_up : m.is_up ≡ x.machine.is_up

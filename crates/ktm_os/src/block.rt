@@ -77,12 +77,15 @@ impl<F: ImageFile> FileBlock<F> {
     }
 }
 
+/// No byte counts as doubted, since no contract can say what the system loses where a sync fails.
 impl<F: ImageFile> Block for FileBlock<F> {
     ghost contents = { λ b. F.contents b.image.file };
 
     ghost faults = { λ b. b.faults };
 
     ghost waits = { λ b. b.image.waits };
+
+    ghost is_doubted = { λ b place. false };
 
     fn len(&mut self) -> Result<u64, Failed>
         ensures value { IfOk result (λ n. IfSome (F.contents self.old.image.file) (λ bytes. n ≡ length bytes)) }

@@ -1,14 +1,13 @@
 -- The counts of buckets, and what they tell of a transaction.
-use Rattle.std.proofs.Common.{◌≡◌, ℕ, ◌+◌, ◌<◌, ◌≤◌, ◌==◌, ◌⊎◌, Bool, true, false, cond, not, List, [], ◌∷◌, ◌++◌, map, length, get_or, replicate, slice_get, position, count_by, Option, Some, None, refl, ap, arith, inl, inr}
+use Rattle.std.proofs.Common.{◌≡◌, ℕ, ◌+◌, ◌<◌, ◌≤◌, ◌==◌, ◌⊎◌, Bool, true, false, cond, not, List, [], ◌∷◌, ◌++◌, map, length, get_or, slice_get, position, count_by, Option, Some, None, refl, ap, arith, inl, inr}
 use Rattle.std.specs.List.{list_any, remove}
 use Rattle.std.specs.Option.{option_map, option_map_or}
-use Rattle.std.proofs.lemmas.Bool.{cases_Bool, cases_lt, and_parts, eqb-true}
+use Rattle.std.proofs.lemmas.Bool.{cases_Bool, and_parts, eqb-true}
 use Rattle.std.proofs.lemmas.Bool.Decides.{Decides-eqb}
-use Rattle.std.proofs.lemmas.List.{get_or-replicate, get_or_past, length-replicate}
 use Rattle.std.proofs.lemmas.List.Sums.{sum_by-cons, sum_by_push, sum_by-remove}
 use Rattle.ktm_base.specs.declared.id.Id.{Id}
 use Rattle.ktm_places.specs.declared.places.Places.{Places}
-use Rattle.ktm_places.specs.Places.{bucket_of, is_in, is_its, AreCounted}
+use Rattle.ktm_places.specs.Places.{bucket_of, is_in, is_its, no_entries, AreCounted}
 use Rattle.ktm_places.proofs.FirstOf.{position_none, position_one, position_other}
 
 -- ---- whose an entry is
@@ -25,13 +24,6 @@ in_bucket : (transaction id : Id) → is_its transaction id ≡ true → is_in (
 in_bucket transaction id is = rw (its-equal transaction id is) ((Decides-eqb (bucket_of transaction) (bucket_of transaction)).1 refl)
 
 -- ---- the counts
-
--- those of no entries
-pub none_counted : (n bucket : ℕ) → get_or (replicate {A = ℕ} n 0) bucket 0 ≡ 0
-none_counted n bucket = elim (cases_lt bucket n) [
-  | inl within ↦ get_or-replicate n bucket 0 0 within
-  | inr past ↦ get_or_past (replicate {A = ℕ} n 0) bucket 0 (omega (arith, past, length-replicate {A = ℕ} n 0))
-]
 
 module _ (transaction : Id) where
   counted-cons : (test : Id → Bool) (id : Id) (ids : List Id) → count_by test (id ∷ ids) ≡ cond (test id) 1 0 + count_by test ids
@@ -73,7 +65,7 @@ once_less ids i d within once other =
 module _ {X : Type 0} (owner : X → Id) (entries : List X) (transaction : Id) (places : Places) (are : AreCounted (map owner entries) places) where
   -- how many entries its bucket has
   abbrev in_its : ℕ
-  in_its = get_or places.counts (bucket_of transaction) 0
+  in_its = (get_or places.buckets.items (bucket_of transaction) no_entries).count
 
   pub none_there : in_its ≡ 0 → position (λ entry. is_its transaction (owner entry)) entries ≡ None
   none_there none =

@@ -1,3 +1,4 @@
 mod Buckets
+mod Counting
 mod FirstOf
 pub mod offered

@@ -1,5 +1,5 @@
 // The durable state in memory, as its users see it.
-ghost use Rattle.std.specs.Prelude.{◌≡◌, ℕ, ◌+◌, ◌-◌, ◌^◌, ◌<◌, ◌≤◌, List, [], ◌∷◌, ◌++◌, Ok, true, All, IfOk, IsOk, length, min, sum_by};
+ghost use Rattle.std.specs.Prelude.{◌≡◌, ℕ, ◌+◌, ◌-◌, ◌^◌, ◌<◌, ◌≤◌, List, [], ◌∷◌, ◌++◌, Ok, true, All, IfOk, IsOk, length, sum_by};
 ghost use Rattle.ktm_event.specs.Kept.{Holds};
 ghost use Rattle.ktm_event.specs.Spelling.{IsSpellableEvent};
 ghost use Rattle.ktm_saved.specs.Saved.{state_of};
@@ -12,7 +12,7 @@ ghost use Rattle.ktm_world.specs.Tree.{bytes_or_none, units_of};
 ghost use Rattle.ktm_world.specs.World.{own_group};
 ghost use Rattle.txf_tree.specs.TreeState.{tree_of, versions_of};
 
-use crate::own::{own_sizes, push_all_own, push_boot};
+use crate::own::{push_all_own, push_boot};
 use crate::replayed::Replayed;
 use ktm_base::{Bytes, Id, NoMemory};
 use ktm_event::Events;
@@ -117,13 +117,6 @@ impl Durable {
     {
         let Durable { replayed } = self;
         replayed.into_parts()
-    }
-
-    /// How many bytes the events take that a restart records by itself, or 2^64 - 1, where they take more.
-    pub fn own_size(&self) -> usize
-        ensures { result ≡ min (sum_by event_size (own_group self.now)) (2 ^ 64 - 1) }
-    {
-        own_sizes(self.transactions()).saturating_add(5)
     }
 
     /// Puts the events into the list that a restart records by itself: a boot, and that the files and the keys of each decided

@@ -1,6 +1,6 @@
 // What a restart records by itself of the transactions that are not over: that the files and the keys of each decided one are
 // done.
-ghost use Rattle.std.specs.Prelude.{◌≡◌, ◌+◌, ◌-◌, ◌^◌, ◌≤◌, ◌∷◌, ◌++◌, [], All, List, min, sum_by, MatchOption};
+ghost use Rattle.std.specs.Prelude.{◌≡◌, ◌+◌, ◌≤◌, ◌∷◌, ◌++◌, [], All, List, sum_by, MatchOption};
 ghost use Rattle.std.specs.List.{flat_map};
 ghost use Rattle.ktm_event.specs.Kept.{Holds};
 ghost use Rattle.ktm_event.specs.Spelling.{IsSpellableEvent};
@@ -10,32 +10,10 @@ ghost use Rattle.ktm_world.specs.Durable.{has_undone};
 ghost use Rattle.ktm_world.specs.World.{done_if, own_events};
 
 use ktm_base::Id;
-use ktm_event::{Events, event_size};
+use ktm_event::Events;
 use ktm_types::{DonePart, Event};
 use ktm_waiting::has_undone;
 use ktm_world::Recorded;
-
-// How many bytes the event takes that a participant is done, where it is to be recorded.
-fn done_size(transaction: &Recorded, done: DonePart) -> usize
-    ensures { result ≡ min (sum_by event_size (done_if (has_undone done transaction.now) transaction.now.id done)) (2 ^ 64 - 1) }
-{
-    if !has_undone(transaction, done) {
-        return 0;
-    }
-    let event = Event::Done {
-        transaction: transaction.id,
-        done,
-    };
-    event_size(&event)
-}
-
-// How many bytes the events of a transaction take.
-fn own_size(transaction: &Recorded) -> usize
-    ensures { result ≡ min (sum_by event_size (own_events transaction.now)) (2 ^ 64 - 1) }
-{
-    let files = done_size(transaction, DonePart::Files);
-    files.saturating_add(done_size(transaction, DonePart::Keys))
-}
 
 /// Puts the event of a boot into the list.
 pub(crate) fn push_boot(boot: u32, events: &mut Events)
@@ -46,17 +24,6 @@ pub(crate) fn push_boot(boot: u32, events: &mut Events)
     ensures capacity { events.old.capacity ≤ events.new.capacity }
 {
     events.push(&Event::Boot { boot });
-}
-
-/// How many bytes the events of the transactions take, or 2^64 - 1, where they take more.
-pub(crate) fn own_sizes(transactions: &[Recorded]) -> usize
-    ensures { result ≡ min (sum_by event_size (flat_map own_events transactions.now)) (2 ^ 64 - 1) }
-{
-    let mut size = 0usize;
-    for transaction in transactions {
-        size = size.saturating_add(own_size(transaction));
-    }
-    size
 }
 
 // Puts the event into the list that a participant is done, where it is to be recorded.

@@ -1,5 +1,5 @@
 // The resource managers, and what waits for them.
-ghost use Rattle.std.specs.Prelude.{◌≡◌, ◌+◌, ◌<◌, ◌≤◌, ◌++◌, ◌∷◌, [], IsOk, OnOk, Some, false, true, is_some, length, map, option_map};
+ghost use Rattle.std.specs.Prelude.{◌≡◌, ◌+◌, ◌<◌, ◌≤◌, ◌++◌, ◌∷◌, [], IsOk, OnOk, Some, false, true, is_some, map, option_map};
 ghost use Rattle.std.specs.List.{list_all};
 ghost use Rattle.ktm_world.specs.Durable.{is_before};
 ghost use Rattle.ktm_world.specs.Enlistments.{is_durable_at, manager_at};
@@ -15,13 +15,6 @@ use ktm_manager::DurableManagers;
 use ktm_notify::Note;
 
 impl Tm {
-    /// How many resource managers there are.
-    pub fn manager_count(&self) -> usize
-        ensures { result ≡ length self.now.managers }
-    {
-        self.managers.len()
-    }
-
     /// Is there a resource manager with this Id.
     pub fn has_manager(&self, id: Id) -> bool
         ensures { result ≡ is_some (manager_at self.now.managers id) }

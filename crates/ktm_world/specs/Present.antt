@@ -27,7 +27,7 @@ pub record Transactions : Type 0 where
 -- all that is so now
 pub record Present : Type 0 where
   pub machine : Machine
-  -- what the image's log comes to: its header, this boot, how many events were ever recorded, and what was recorded of the rest
+  -- what the image stands for: its header, this boot, how many events were ever recorded, and what was recorded of the rest
   pub recorded : Durable
   pub transactions : Transactions
   pub managers : List Manager

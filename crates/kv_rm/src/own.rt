@@ -152,7 +152,7 @@ impl OwnList {
     {
         OwnList {
             entries: Vec::new(alloc),
-            places: Places::new(),
+            places: Places::new(alloc),
         }
     }
 
@@ -259,6 +259,7 @@ impl OwnList {
         ensures ok { OnOk result (self.new ≡ self.old ++ record { transaction = transaction; settings = settings } ∷ []) }
         ensures err { OnErr result (self.new ≡ self.old) }
     {
+        self.places.reserve()?;
         let stamp = self.places.next_stamp();
         self.entries.push(OwnKeys {
             transaction,

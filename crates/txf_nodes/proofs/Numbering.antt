@@ -1,5 +1,5 @@
 -- Lemmas on nodes by their numbers.
-use Rattle.std.proofs.Common.{◌≡◌, ℕ, suc, ◌<◌, true, false, eqb, List, [], ◌∷◌, ◌++◌, length, Option, Some, None, option_and_then, refl, sym, ap, ◌∙◌, inl, inr, arith, length-append, is_some}
+use Rattle.std.proofs.Common.{◌≡◌, ◌⊎◌, ℕ, suc, ◌<◌, ◌≤◌, true, false, eqb, List, [], ◌∷◌, ◌++◌, length, Option, Some, None, option_and_then, refl, sym, ap, ◌∙◌, inl, inr, arith, length-append, is_some}
 use Rattle.std.specs.Option.{option_map}
 use Rattle.std.specs.Ordering.{is_eq, is_lt}
 use Rattle.std.proofs.lemmas.Bool.{cases_Bool, cases_lt, eqb-true, eqb-false, ne_eqb, lt-ltb, le-ltb}
@@ -8,9 +8,9 @@ use Rattle.ktm_links.specs.declared.list.Key.{Key}
 use Rattle.ktm_links.specs.Items.{Item, item, same_key, value_at, with_value, without}
 use Rattle.ktm_links.specs.Mapped.{NamedItem, at, key_at, name_cmp, put, without_name}
 use Rattle.ktm_links.proofs.offered.Entries.{at-put_other, at-without_other, key_at-at}
-use Rattle.ktm_links.proofs.offered.Keys.{value_at-with_same, value_at-with_other}
+use Rattle.ktm_links.proofs.offered.Keys.{cases_key, value_at-others, value_at-with_same, value_at-with_other}
 use Rattle.ktm_links.proofs.offered.Names.{is_eq-other, name_same, not_lower}
-use Rattle.txf_nodes.specs.Indexes.{AreNumbered, IsIndexed, IsNumberedAt, nodes_of, refilled, replaced, under, with_content, with_now, without_now}
+use Rattle.txf_nodes.specs.Indexes.{AreNumbered, has_number, IsIndexed, IsNumberedAt, nodes_of, refilled, replaced, under, with_content, with_now, without_now}
 use Rattle.txf_nodes.specs.Lends.{refilled_item}
 use Rattle.txf_nodes.specs.Places.{number_bytes}
 use Rattle.txf_nodes.specs.NodesState.{NodeOf, now_at}
@@ -347,3 +347,63 @@ module _ {V : Type 0} where
         },
         rw named all.1 ∙ ap (without_now (nodes_of items es)) at.2,
       )
+
+  -- ---- a key that a hint gives
+  -- there are no more numbers than items
+  numbers-few : (items : List (Item (NodeOf V))) (es : List (NamedItem Key)) → AreNumbered items es → length es ≤ length items
+  numbers-few items [] all = omega arith
+  numbers-few items (e ∷ es) all =
+      let at = all.0 in
+      let same =
+      same_from_gone items (without items e.value) es e.value at.node all.1 at.there (rw at.name at at.alone)
+      (λ key differs. value_at-others items e.value key (λ same. differs (sym same))) in
+      let fewer = numbers-few (without items e.value) es (AreNumbered-same items (without items e.value) es all.1 same) in
+      omega (arith, fewer, length-without items e.value at.node at.there)
+
+  -- a key of a node stands under its number, or else all keys of the map name the same without it
+  under-or : (items : List (Item (NodeOf V))) (es : List (NamedItem Key)) (k : Key) (s : NodeOf V) → AreNumbered items es → value_at items k ≡ Some s
+      → (under es (number_bytes s.number) ≡ Some k) ⊎ AreSame items (without items k) es
+  unfolding AreSame
+  under-or items [] k s all found = inr tt
+  under-or items (e ∷ es) k s all found =
+      let first = all.0 in
+      let n = s.number in
+      let away : (e.value ≡ k → ⊥) → AreSame items (without items k) es → AreSame items (without items k) (e ∷ es) =
+      λ differs rest. (value_at-others items k e.value (λ same. differs (sym same)), rest) in
+      elim (cases_Bool (eqb first.node.number n)) [
+        | inl same ↦
+            let here : under (e ∷ es) (number_bytes n) ≡ Some e.value = ap (λ o. option_map (λ (e : Key × Key). e.1) o) (at-found e es first.node.number n first.name same) in
+            elim (cases_key e.value k) [
+              | inl is ↦ inl (here ∙ ap Some is)
+              | inr differs ↦ elim (under-or items es k s all.1 found) [
+                | inl again ↦
+                    let none : at es (number_bytes n) ≡ None = rw (first.name ∙ ap number_bytes (eqb-true first.node.number n same)) at first.alone in
+                    absurd (let some = rw none at again in cc)
+                | inr rest ↦ inr (away differs rest)
+              ]
+            ]
+        | inr differs ↦ elim (under-or items es k s all.1 found) [
+          | inl here ↦ inl (ap (λ o. option_map (λ (e : Key × Key). e.1) o) (at-other e es first.node.number n first.name differs) ∙ here)
+          | inr rest ↦ inr (away (keys_apart items e es k s first found differs) rest)
+        ]
+      ]
+
+  -- the key of a node stands under its number
+  pub under-number : (items : List (Item (NodeOf V))) (es : List (NamedItem Key)) (k : Key) (s : NodeOf V) → IsIndexed items es → value_at items k ≡ Some s
+      → under es (number_bytes s.number) ≡ Some k
+  under-number items es k s index found =
+      elim (under-or items es k s index.all found) [
+        | inl here ↦ here
+        | inr same ↦
+            let fewer = numbers-few (without items k) es (AreNumbered-same items (without items k) es index.all same) in
+            absurd (omega (arith, fewer, length-without items k s found, index.count))
+      ]
+
+  -- the key of a node with this number stands under it
+  pub under-hinted : (items : List (Item (NodeOf V))) (es : List (NamedItem Key)) (k : Key) (n : ℕ) → IsIndexed items es → has_number n (value_at items k) ≡ true
+      → under es (number_bytes n) ≡ Some k
+  under-hinted items es k n index has = by_cases (value_at items k) refl has
+    where
+      by_cases : (o : Option (NodeOf V)) → value_at items k ≡ o → has_number n o ≡ true → under es (number_bytes n) ≡ Some k
+      by_cases None none has = absurd (cc)
+      by_cases (Some s) found has = ap (λ m. under es (number_bytes m)) (sym (eqb-true s.number n has)) ∙ under-number items es k s index found

@@ -1,5 +1,5 @@
 -- How nodes are found by their numbers and by their names. Of this module public clauses cite `refilled` alone.
-use Rattle.std.specs.Prelude.{◌≡◌, ℕ, ◌+◌, ◌<◌, ◌≤◌, not, true, List, [], ◌∷◌, length, map, filter, Option, Some, None, is_some, if◌then◌else◌, nat_lt}
+use Rattle.std.specs.Prelude.{◌≡◌, ℕ, ◌+◌, ◌<◌, ◌≤◌, Bool, not, true, false, List, [], ◌∷◌, length, map, filter, Option, Some, None, is_some, if◌then◌else◌, nat_lt}
 use Rattle.std.specs.Option.{option_map}
 use Rattle.ktm_base.specs.declared.limits.TheConstants.{MOST_NAME_BYTES}
 use Rattle.ktm_links.specs.declared.list.Key.{Key}
@@ -18,6 +18,11 @@ module _ {V : Type 0} where
   name_of n = child_name n.parent n.name
 
   -- ---- nodes by number
+
+  -- is it a node with this number
+  abbrev pub has_number : ℕ → Option (NodeOf V) → Bool
+  has_number number None = false
+  has_number number (Some n) = is_numbered number n
 
   -- the node of a key, if it names one, and then the rest
   abbrev pub node_from : Option (NodeOf V) → List (NodeOf V) → List (NodeOf V)

@@ -6,6 +6,7 @@ mod applies;
 mod by_number;
 mod children;
 mod entry;
+mod hints;
 mod listed;
 mod name;
 mod nodes;

@@ -4,12 +4,13 @@ ghost use Rattle.std.specs.Borrow.{sem};
 ghost use Rattle.std.specs.Option.{option_map, option_copied_mut, option_and_then};
 ghost use Rattle.ktm_base.specs.declared.limits.TheConstants.{MOST_NAME_BYTES};
 ghost use Rattle.ktm_links.specs.Items.{value_at};
-ghost use Rattle.txf_nodes.specs.Indexes.{replaced, under, with_now, without_now};
+ghost use Rattle.txf_nodes.specs.Indexes.{has_number, replaced, under, with_now, without_now, IsIndexed};
 ghost use Rattle.txf_nodes.specs.Lends.{lends_item};
 ghost use Rattle.txf_nodes.specs.NodesState.{NodeOf, content_in, now_at};
 ghost use Rattle.txf_nodes.specs.Places.{number_bytes};
 
 use crate::by_number::ByNumber;
+use crate::hints::Hints;
 use crate::name::{NumberName, number_bytes};
 use crate::stored::StoredNode;
 use ktm_base::{NoMemory, Text};
@@ -23,6 +24,8 @@ pub(crate) struct Nodes<C> {
     nodes: List<StoredNode<C>>,
     // The keys of the nodes, by their numbers.
     numbers: Chains<NumberName, Key>,
+    // Where each node is looked for first.
+    hints: Hints,
 }
 
 impl<C> Model for Nodes<C> {
@@ -43,10 +46,31 @@ impl<C> Model for Nodes<C> {
     ghost invariant = { λ n. IsIndexed n.nodes.items n.numbers.entries };
 }
 
-// The key that stands under the number.
-fn key_of(numbers: &Chains<NumberName, Key>, number: u64) -> Option<Key>
+// Does the key name a node with this number.
+fn has_number<C>(nodes: &List<StoredNode<C>>, key: Key, number: u64) -> bool
+    ensures { result ≡ has_number number (value_at nodes.now.items key) }
+{
+    match nodes.get(key) {
+        Some(stored) => stored.number() == number,
+        None => false,
+    }
+}
+
+// The key that stands under the number. It is searched for only where the hint is not that of a node with this number.
+fn key_of<C>(
+    hints: &Hints,
+    nodes: &List<StoredNode<C>>,
+    numbers: &Chains<NumberName, Key>,
+    number: u64,
+) -> Option<Key>
+    requires { IsIndexed nodes.now.items numbers.now.entries }
     ensures { result ≡ under numbers.now.entries (number_bytes number) }
 {
+    if let Some(key) = hints.get(number) {
+        if has_number(nodes, key, number) {
+            return Some(key);
+        }
+    }
     match numbers.find(&number_bytes(number)) {
         Some(key) => numbers.get(key).copied(),
         None => None,
@@ -87,6 +111,7 @@ impl<C> Nodes<C> {
         Nodes {
             nodes: List::new(alloc),
             numbers: Chains::new(alloc),
+            hints: Hints::new(alloc),
         }
     }
 
@@ -100,7 +125,7 @@ impl<C> Nodes<C> {
     pub(crate) fn get(&self, number: u64) -> Option<&StoredNode<C>>
         ensures { option_copied result ≡ now_at self.now.nodes number }
     {
-        match key_of(&self.numbers, number) {
+        match key_of(&self.hints, &self.nodes, &self.numbers, number) {
             Some(key) => self.nodes.get(key),
             None => None,
         }
@@ -113,12 +138,25 @@ impl<C> Nodes<C> {
         ByNumber::new(&self.nodes, self.numbers.walk_from(&[]))
     }
 
+    // How many nodes can come without memory.
+    fn spare(&self) -> usize
+        ensures { result ≡ self.now.spare }
+    {
+        self.nodes.spare().min(self.numbers.spare())
+    }
+
     pub(crate) fn reserve(&mut self, n: usize) -> Result<(), NoMemory>
         ensures room { OnOk result (n ≤ self.new.spare) }
         ensures enough { n ≤ self.old.spare → IsOk result }
         ensures nodes { self.new.nodes ≡ self.old.nodes }
         ensures spare { self.old.spare ≤ self.new.spare }
     {
+        if n <= self.spare() {
+            return Ok(());
+        }
+        if let Err(NoMemory) = self.hints.reserve() {
+            return Err(NoMemory);
+        }
         if let Err(NoMemory) = self.nodes.reserve(n) {
             return Err(NoMemory);
         }
@@ -135,9 +173,10 @@ impl<C> Nodes<C> {
         ensures nodes { self.new.nodes ≡ with_now self.old.nodes node }
         ensures spare { self.new.spare + 1 ≡ self.old.spare }
     {
-        let name = number_bytes(node.number());
+        let number = node.number();
         let key = self.nodes.push_spare(node);
-        self.numbers.insert(name, key);
+        self.numbers.insert(number_bytes(number), key);
+        self.hints.note(number, key);
     }
 
     /// Takes the node with the number out.
@@ -146,7 +185,7 @@ impl<C> Nodes<C> {
         ensures nodes { self.new.nodes ≡ without_now self.old.nodes number }
         ensures spare { self.old.spare ≤ self.new.spare }
     {
-        match key_of(&self.numbers, number) {
+        match key_of(&self.hints, &self.nodes, &self.numbers, number) {
             Some(key) => {
                 self.numbers.remove(&number_bytes(number));
                 self.nodes.unlink(key)
@@ -161,7 +200,7 @@ impl<C> Nodes<C> {
         ensures* writes_back { sem 𝓛 (lends_in C.row self.entry number changes result) }
         ensures value { option_copied_mut result ≡ content_in (now_at self.old.nodes number) }
     {
-        match key_of(&self.numbers, number) {
+        match key_of(&self.hints, &self.nodes, &self.numbers, number) {
             Some(key) => content_at(&mut self.nodes, key, changes),
             None => None,
         }
@@ -174,7 +213,7 @@ impl<C> Nodes<C> {
         ensures nodes { (n : NodeOf C) → now_at self.old.nodes number ≡ Some n → self.new.nodes ≡ replaced self.old.nodes number (record n { parent = parent; name = name }) }
         ensures spare { self.new.spare ≡ self.old.spare }
     {
-        let Some(key) = key_of(&self.numbers, number) else {
+        let Some(key) = key_of(&self.hints, &self.nodes, &self.numbers, number) else {
             unreachable!();
         };
         match self.nodes.get_mut(key) {
@@ -189,7 +228,7 @@ impl<C> Nodes<C> {
         ensures none { now_at self.old.nodes number ≡ None → self.new.nodes ≡ self.old.nodes }
         ensures spare { self.new.spare ≡ self.old.spare }
     {
-        let Some(key) = key_of(&self.numbers, number) else {
+        let Some(key) = key_of(&self.hints, &self.nodes, &self.numbers, number) else {
             return;
         };
         match self.nodes.get_mut(key) {

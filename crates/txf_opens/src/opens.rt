@@ -2,8 +2,7 @@
 ghost use Rattle.std.specs.Prelude.{◌≡◌, ◌<◌, ◌≤◌, ◌+◌, ◌-◌, ◌^◌, ◌++◌, ◌∷◌, ◌==◌, ◌&&◌, ◌||◌, not, [], filter, find, is_none, is_some, length, min, IfNone, IfSome, IsOk, OnOk, false};
 ghost use Rattle.std.specs.List.{list_any};
 ghost use Rattle.std.specs.Option.{option_map};
-ghost use Rattle.ktm_world.specs.Conflicts.{is_open_in, is_shared, lets_read, lets_write, opened_in, reads, violates_sharing, writes, written_by};
-ghost use Rattle.ktm_world.specs.Holds.{is_in};
+ghost use Rattle.ktm_world.specs.Conflicts.{is_open_in, is_shared, lets_read, lets_write, opened_in, reads, violates_sharing, writes};
 ghost use Rattle.ktm_world.specs.Transactions.{is_of};
 ghost use Rattle.txf_opens.specs.Indexed.{IsNumberOf};
 ghost use Rattle.txf_opens.specs.Acts.{open_of};
@@ -261,13 +260,6 @@ impl Opens {
         ensures { result ≡ list_any (λ o. is_none o.transaction && writes o.access && o.node == node) self.now.opens }
     {
         self.has_writer_in(None, node)
-    }
-
-    /// May an open file of the transaction write the node.
-    pub fn has_writer(&self, transaction: Id, node: u64) -> bool
-        ensures { result ≡ is_in (written_by self.now.opens transaction) node }
-    {
-        self.has_writer_in(Some(transaction), node)
     }
 
     // May an open file of a transaction read the node.

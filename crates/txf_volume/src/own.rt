@@ -73,7 +73,7 @@ impl Overlays {
         Overlays {
             alloc,
             entries: Vec::new(alloc),
-            places: Places::new(),
+            places: Places::new(alloc),
         }
     }
 

@@ -291,6 +291,9 @@ impl Overlays {
         if let Err(_) = self.entries.reserve(1) {
             return Err(NoMemory);
         }
+        if let Err(NoMemory) = self.places.reserve() {
+            return Err(NoMemory);
+        }
         let mut overlay = Overlay::new(self.alloc);
         match make_room_and_change(tree, reserve, &mut overlay, transaction, fixed, change) {
             Ok(counted) => {

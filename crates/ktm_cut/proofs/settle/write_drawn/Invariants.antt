@@ -3,6 +3,7 @@ use Rattle.std.proofs.Common.{◌≡◌, ◌-◌, ◌≤◌, length, ◌∷◌, 
 use Rattle.ktm_base.specs.Told.{Goes}
 use Rattle.ktm_base.specs.Bytes.{SameOutside}
 use Rattle.ktm_cut.specs.Left.{with_drawn}
+use Rattle.ktm_cut.specs.Sure.{SureFrom}
 use Rattle.ktm_cut.proofs.settle.write_drawn.Given as goal
 
 abbrev pub invariant-loop-at : goal.invariant-loop-at
@@ -12,6 +13,7 @@ invariant-loop-at g l = record {
   within : IfSome (g.B.Block.contents l.block) (λ bytes. l.fn.end ≤ length bytes);
   outside : Goes (SameOutside ((l.fn.from, l.fn.end - l.fn.from) ∷ [])) (g.B.Block.contents l.initial.block) (g.B.Block.contents l.block);
   left : Goes (λ old new. with_drawn l.at l.fn.end l.words new ≡ with_drawn l.fn.from l.fn.end l.initial.words old) (g.B.Block.contents l.initial.block) (g.B.Block.contents l.block);
+  sure : SureFrom l.fn.from l.at (g.B.Block.is_doubted l.initial.block) (g.B.Block.is_doubted l.block);
   later : g.B.Block.faults l.initial.block ≤ g.B.Block.faults l.block;
 }
 

@@ -12,4 +12,4 @@ invariant_of-self-2 c =
     let first = rw (← c.self.view_is) at c.requires in
     let few : length (owners own) < 2 ^ 64 - 1 = grind (arith, common_steps) in
     rw (c.in_ok-push.ensures.items, map-append (λ (o : Own). o.transaction) own (last ∷ []))
-    (c.add.ensures (owners own) few (λ none. owners-any own c.args.transaction ∙ first none) c.self.invariant)
+    (c.add.ensures (owners own) few (λ none. owners-any own c.args.transaction ∙ first none) (c.reserve.ensures.counted (owners own) c.self.invariant))

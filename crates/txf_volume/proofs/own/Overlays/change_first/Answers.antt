@@ -4,6 +4,7 @@ use Rattle.ktm_types.specs.declared.change.Change.{Change}
 use Rattle.ktm_world.specs.Changes.{applies, changed_all}
 use Rattle.txf_volume.specs.Held.{OwnHeld, overlay_in}
 use Rattle.txf_tree.specs.TreeState.{tree_of}
+use Rattle.txf_volume.specs.OwnParts.{owners}
 use Rattle.txf_volume.proofs.OwnPlaces.{counted-pushed}
 use Rattle.txf_volume.proofs.TransactedParts.{changed-first, counted-first, few-new, stands-new}
 use Rattle.txf_volume.proofs.own.Overlays.change_first.Goals as goal
@@ -40,6 +41,6 @@ invariant_of-self-in-Ok c =
     let os = c.self.inside.entries.items in
     let own : OwnHeld = record { transaction = c.args.transaction; overlay = c.make_room_and_change.new.overlay } in
     let few : length os < 2 ^ 64 - 1 = grind (arith, common_steps) in
-    counted-pushed os c.push_reserved.new.self.items own c.self.inside.places c.add.new.self
+    counted-pushed os c.push_reserved.new.self.items own c.reserve-2.new.self c.add.new.self
     (c.push_reserved.ensures.items ∙ ap (λ (os : List OwnHeld). os ++ own ∷ []) c.reserve.ensures.items)
-    (subst (λ (os : List OwnHeld). overlay_in os c.args.transaction ≡ None) (sym c.self.view_is) c.requires.first) c.self.invariant few c.add.ensures
+    (subst (λ (os : List OwnHeld). overlay_in os c.args.transaction ≡ None) (sym c.self.view_is) c.requires.first) (c.reserve-2.ensures.counted (owners os) c.self.invariant) few c.add.ensures
