@@ -27,8 +27,8 @@ use Rattle.ktm_mapped.proofs.offered.Lists.{cond-mapped, is_some-mapped, filter-
 use Rattle.ktm_mapped.proofs.offered.Trees.{is_some-content, child_of-mapped, has_entries-mapped, is_at_or_below-mapped}
 use Rattle.ktm_mapped.proofs.offered.Holds.{has_made-mapped}
 use Rattle.ktm_alike.specs.Alike.{mapped_first, mapped_files, mapped_read, mapped_file_outcome}
-use Rattle.ktm_alike.proofs.Files.{own_changes-mapped, first_open_of-mapped, tree_seen-mapped, bytes_seen-mapped}
-use Rattle.ktm_alike.proofs.Outcomes.{conflict_test-mapped, lacks_quota-mapped, lacks_disk-mapped}
+use Rattle.ktm_alike.proofs.offered.Files.{own_changes-mapped, first_open_of-mapped, tree_seen-mapped, bytes_seen-mapped}
+use Rattle.ktm_alike.proofs.offered.Outcomes.{conflict_test-mapped, lacks_quota-mapped, lacks_disk-mapped}
 
 -- where a text leads, to a node with other bytes
 abbrev mapped_where : (ℕ → ℕ) → Whereabouts → Whereabouts

@@ -38,7 +38,7 @@ use Rattle.ktm_mapped.proofs.offered.Trees.{is_file-mapped}
 use Rattle.ktm_alike.specs.Alike.{mapped_files, mapped_file_outcome, mapped_present, mapped_command, mapped_read, mapped_reply, mapped_outcome, mapped_answer}
 use Rattle.ktm_alike.proofs.Calls.{create_file-mapped, create_file_tests-mapped, delete_file-mapped, delete_file_tests-mapped, create_directory-mapped, create_directory_tests-mapped, remove_directory-mapped, remove_directory_tests-mapped, move_file-mapped, move_file_tests-mapped, find_files-mapped, find_files_tests-mapped, read_file-mapped, write_file-mapped, write_file_tests-mapped, set_end-mapped, set_end_tests-mapped, get_size-mapped}
 use Rattle.ktm_alike.proofs.Courses.{commit_of-mapped, rollback_of-mapped, answering-mapped}
-use Rattle.ktm_alike.proofs.Outcomes.{works_of-mapped, table_after-mapped, file_changes_waiting-mapped}
+use Rattle.ktm_alike.proofs.offered.Outcomes.{works_of-mapped, table_after-mapped, file_changes_waiting-mapped}
 use Rattle.ktm_alike.proofs.Presents.{close_handle-mapped, exit-mapped, tick-mapped}
 
 -- tests that tell no difference

@@ -29,7 +29,7 @@ use Rattle.ktm_mapped.specs.Mapped.{mapped_change, mapped_event, mapped_group}
 use Rattle.ktm_mapped.proofs.offered.Lists.{cond-mapped}
 use Rattle.ktm_mapped.proofs.offered.Holds.{has_changes-mapped}
 use Rattle.ktm_alike.specs.Alike.{mapped_work, mapped_present, mapped_outcome}
-use Rattle.ktm_alike.proofs.Files.{own_changes-mapped, without_transaction-mapped}
+use Rattle.ktm_alike.proofs.offered.Files.{own_changes-mapped, without_transaction-mapped}
 
 -- a course, of which what it commits and records has other bytes
 abbrev mapped_course : (ℕ → ℕ) → Course → Course

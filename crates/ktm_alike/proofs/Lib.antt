@@ -2,7 +2,6 @@ mod AlikeLaws
 mod Calls
 mod Commands
 mod Courses
-mod Files
-mod Outcomes
 mod Presents
 mod Restarts
+pub mod offered

@@ -20,8 +20,8 @@ use Rattle.ktm_mapped.specs.Mapped.{IsBlank, mapped_event}
 use Rattle.ktm_mapped.proofs.offered.Lists.{cond-mapped, filter-mapped}
 use Rattle.ktm_mapped.proofs.offered.Events.{after_events-mapped}
 use Rattle.ktm_alike.specs.Alike.{mapped_first, mapped_table, mapped_committed, mapped_work, mapped_present, mapped_outcome}
-use Rattle.ktm_alike.proofs.Files.{committed_with-mapped}
-use Rattle.ktm_alike.proofs.Outcomes.{first_opens-mapped}
+use Rattle.ktm_alike.proofs.offered.Files.{committed_with-mapped}
+use Rattle.ktm_alike.proofs.offered.Outcomes.{first_opens-mapped}
 use Rattle.ktm_alike.proofs.Courses.{aborted_by-mapped}
 
 module _ (f : ℕ → ℕ) (blank : IsBlank f) where

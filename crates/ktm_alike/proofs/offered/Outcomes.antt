@@ -23,7 +23,7 @@ use Rattle.ktm_mapped.proofs.offered.Lists.{list_any-mapped, filter-mapped, coun
 use Rattle.ktm_mapped.proofs.offered.Trees.{units_of-mapped, units-content}
 use Rattle.ktm_mapped.proofs.offered.Holds.{next_after-mapped, changes_bytes-mapped, nodes_made-mapped, written_files-mapped, holds_by-mapped}
 use Rattle.ktm_alike.specs.Alike.{mapped_own, mapped_first, mapped_table, mapped_files, mapped_committed, mapped_work, mapped_file_outcome}
-use Rattle.ktm_alike.proofs.Files.{own_changes-mapped, with_own_changes-mapped, first_open_of-mapped, is_last_version-mapped, bytes_seen-mapped, changes_with-mapped, committed_with-mapped, first_open-mapped}
+use Rattle.ktm_alike.proofs.offered.Files.{own_changes-mapped, with_own_changes-mapped, first_open_of-mapped, is_last_version-mapped, bytes_seen-mapped, changes_with-mapped, committed_with-mapped, first_open-mapped}
 
 -- lists that two ways come to
 pub map-under : {X Y Z : Type 0} (of : X → Z) (before : X → Y) (h : Y → Z) → ((x : X) → of x ≡ h (before x)) → (xs : List X) → map of xs ≡ map h (map before xs)
@@ -43,7 +43,7 @@ module _ (f : ℕ → ℕ) where
   next_node_after-mapped next None = refl
   next_node_after-mapped next (Some change) = next_after-mapped f next change
 
-  with_open-mapped : (table : FileTable) (o : Option OpenFile) → with_open (mapped_table f table) o ≡ mapped_table f (with_open table o)
+  pub with_open-mapped : (table : FileTable) (o : Option OpenFile) → with_open (mapped_table f table) o ≡ mapped_table f (with_open table o)
   with_open-mapped table None = refl
   with_open-mapped table (Some o) = refl
 
@@ -117,7 +117,7 @@ module _ (f : ℕ → ℕ) (blank : IsBlank f) where
 
   -- ---- conflicts
 
-  holds_now-mapped : (files : FilesNow) (id : Id) → holds_now (mapped_files f files) id ≡ holds_now files id
+  pub holds_now-mapped : (files : FilesNow) (id : Id) → holds_now (mapped_files f files) id ≡ holds_now files id
   holds_now-mapped files id =
       (λ i. holds_by (mapped_tree f files.tree) (own_changes-mapped f files.table.own id i) (written_by files.table.opens id))
       ∙ holds_by-mapped f blank files.tree (own_changes files.table.own id) (written_by files.table.opens id)

@@ -104,7 +104,7 @@ module _ (f : ℕ → ℕ) (blank : IsBlank f) where
       its : Change → Bool
       its c = changes_bytes c && node_of c == file
 
-  bytes_with-mapped : (files : FilesNow) (id : Id) (cs : List Change) (file : ℕ) → bytes_with (mapped_files f files) id (map (mapped_change f) cs) file ≡ map f (bytes_with files id cs file)
+  pub bytes_with-mapped : (files : FilesNow) (id : Id) (cs : List Change) (file : ℕ) → bytes_with (mapped_files f files) id (map (mapped_change f) cs) file ≡ map f (bytes_with files id cs file)
   bytes_with-mapped files id cs file =
       (λ i. bytes_after (first_bytes-mapped files id cs file i) file (map (mapped_change f) cs)) ∙ bytes_after-mapped (first_bytes files id cs file) file cs
 

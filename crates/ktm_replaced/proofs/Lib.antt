@@ -1,0 +1,2 @@
+mod ReplacedLaws
+pub mod offered
