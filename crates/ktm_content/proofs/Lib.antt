@@ -1,0 +1,3 @@
+pub mod offered
+pub mod Putting
+pub mod States

@@ -1,0 +1,2 @@
+pub mod PlacedChanges
+pub mod Places
