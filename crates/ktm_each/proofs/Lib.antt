@@ -1,0 +1,2 @@
+mod EachLaws
+pub mod offered

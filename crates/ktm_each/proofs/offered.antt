@@ -1,0 +1,4 @@
+-- Lemmas that other crates cite.
+pub mod Durables
+pub mod Files
+pub mod Trees
