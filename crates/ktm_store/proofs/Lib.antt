@@ -1,0 +1,6 @@
+pub mod Bytes
+pub mod Fills
+pub mod Free
+pub mod Reading
+pub mod Units
+pub mod offered

@@ -1,0 +1,3 @@
+pub mod Marks
+pub mod Store
+pub mod Filling
