@@ -25,8 +25,10 @@ use Rattle.ktm_works.specs.Works.{Contents, HasCome, IsNoRefusal, Keeps, content
 use Rattle.ktm_works.proofs.offered.Commits.{commits-all, set-then, some-settings}
 use Rattle.ktm_works.proofs.offered.Left.{committed-now, kept-now, works-made}
 use Rattle.ktm_works.proofs.offered.Quiet.{IsNotPlain, not-plain, quiet-close, quiet-open, quiet-set, quiet-transaction, quiet-write}
-use Rattle.wattorju.specs.Calls.{IsBinding, IsCalled, IsWornOut, answer_of, own}
+use Rattle.wattorju.specs.Calls.{IsBinding, IsCalled, IsCompleted, IsWornOut, answer_of, failure_of, own, reply_of}
 use Rattle.wattorju.specs.Told.{reply_of_state}
+use Rattle.wattorju.specs.declared.failure.CompletionFault.{CompletionFault}
+use Rattle.wattorju.specs.declared.failure.CompletionFault.TheVariants as completion
 use Rattle.wattorju.specs.declared.failure.Failure.{Failure}
 use Rattle.wattorju.specs.declared.failure.Failure.TheVariants as failure
 use Rattle.wattorju.specs.declared.told.CommitState.{CommitState}
@@ -84,8 +86,17 @@ no-refusal command old new came refusal is = let e : Reply.Done ≡ Reply.Refuse
 now : (command : Command) (old new : OnDisk KernelState) (reply : Reply) → HasCome old.it.now (decide old.it.now own command) reply new → new.it.now ≡ after old.it.now command
 now command old new reply came = came.now ∙ after-is old.it.now command
 
-closed : (label : Label) (m n : OnDisk KernelState) (answer : Answer) → IsCalled (CloseHandle label) m n answer → CommitsNothing m n
-closed label m n answer called = quiet (CloseHandle label) m n answer called (quiet-close m.it.now own label)
+-- what the machine answers to a call that takes no memory, where it was asked
+abbrev answer_with : Option Reply → Answer
+answer_with (Some reply) = Some (Ok reply)
+answer_with None = None
+
+called-with : (command : Command) (old new : OnDisk KernelState) (said : Option Reply) → IsCompleted command old new said → IsCalled command old new (answer_with said)
+called-with command old new (Some reply) asked = asked
+called-with command old new None worn = worn
+
+closed : (label : Label) (m n : OnDisk KernelState) (said : Option Reply) → IsCompleted (CloseHandle label) m n said → CommitsNothing m n
+closed label m n said ended = quiet (CloseHandle label) m n (answer_with said) (called-with (CloseHandle label) m n said ended) (quiet-close m.it.now own label)
 
 -- ---- a file is replaced
 
@@ -106,11 +117,11 @@ module _ (file : Entry) (transaction : Label) (m n p q : OnDisk KernelState) (la
       quiet (WriteFile label 0 file.contents) n p answer called (quiet-write n.it.now own label 0 file.contents here) cs (opened file transaction m n (Some (Ok Reply.Done)) (λ named. label ≡ named) bound cs keeps)
 
   -- and closed
-  pub replaced : (answer answer' : Answer) → IsCalled (WriteFile label 0 file.contents) n p answer → IsCalled (CloseHandle label) p q answer' → CommitsNothing m q
-  replaced answer answer' write close cs keeps = closed label p q answer' close cs (written answer write cs keeps)
+  pub replaced : (answer : Answer) (said : Option Reply) → IsCalled (WriteFile label 0 file.contents) n p answer → IsCompleted (CloseHandle label) p q said → CommitsNothing m q
+  replaced answer said write close cs keeps = closed label p q said close cs (written answer write cs keeps)
 
   -- and where all of that was done, it is so
-  pub done : (result : Result (Unit {0}) Failure) → IsCalled (WriteFile label 0 file.contents) n p (answer_of result (λ done. Reply.Done)) → IsCalled (CloseHandle label) p q (Some (Ok Reply.Done))
+  pub done : (result : Result (Unit {0}) Failure) → IsCalled (WriteFile label 0 file.contents) n p (answer_of result (λ done. Reply.Done)) → IsCompleted (CloseHandle label) p q (Some Reply.Done)
       → IfOk result (λ done. (cs : List Contents) → Keeps cs m → (label : Label) × (q.it.now ≡ after_all m.it.now (replacing transaction file label)))
   done (Ok unit) write close = λ cs keeps.
       let opened-now = subst (λ (l : Label). n.it.now ≡ after m.it.now (opens file transaction l)) (sym bound.named) (now (opens file transaction bound.label) m n Reply.Done (come (opens file transaction bound.label) m n bound.called cs keeps)) in
@@ -120,6 +131,11 @@ module _ (file : Entry) (transaction : Label) (m n p q : OnDisk KernelState) (la
   done (Err failed) write close = tt
 
 -- ---- an installation
+
+-- what came of a commit, with the failure that says the same
+abbrev pub with_failure : Result CommitState CompletionFault → Result CommitState Failure
+with_failure (Ok state) = Ok state
+with_failure (Err fault) = Err (failure_of fault)
 
 -- what is committed after a command
 applied : (x : Present) (command : Command) → contents_now (after x command) ≡ contents_after x (decide x own command)
@@ -161,21 +177,20 @@ module _ (before : Contents) (key version : List ℕ) (m n : OnDisk KernelState)
         | inr down ↦ absurd (other (same_refusal refusal down.0))
       ]
 
-  committed : (result : Result CommitState Failure) → IsCalled (CommitTransaction label) m n (answer_of result reply_of_state) → IsAllOrNothing before all n result
+  committed : (result : Result CommitState CompletionFault) → IsCompleted (CommitTransaction label) m n (reply_of result reply_of_state) → IsAllOrNothing before all n (with_failure result)
   committed (Ok Committed) called = record { either = left (Some (Ok Reply.Committed)) called; ok = λ is. all-kept called; err = tt }
   committed (Ok Pending) called = record { either = left (Some (Ok Reply.Pending)) called; ok = λ is. absurd (cc); err = tt }
-  committed (Err failure.NoMemory) called = record { either = left (Some (Err (record {}))) called; ok = tt; err = λ other. let none = called.enough refl in absurd (cc) }
-  committed (Err failure.Worn) worn = record { either = left None worn; ok = tt; err = λ other. unasked m n worn (before ∷ []) keeps }
-  committed (Err (failure.Refused refusal)) called = record { either = left (Some (Ok (Reply.Refused refusal))) called; ok = tt; err = λ other. refused refusal (λ is. other (ap failure.Refused is)) called }
+  committed (Err completion.Worn) worn = record { either = left None worn; ok = tt; err = λ other. unasked m n worn (before ∷ []) keeps }
+  committed (Err (completion.Refused refusal)) called = record { either = left (Some (Ok (Reply.Refused refusal))) called; ok = tt; err = λ other. refused refusal (λ is. other (ap failure.Refused is)) called }
 
 -- a file was replaced, and it is known what is so then
 abbrev IsReplaced : Label → Entry → OnDisk KernelState → OnDisk KernelState → Type 0
 IsReplaced transaction file old new = (cs : List Contents) → Keeps cs old → (label : Label) × (new.it.now ≡ after_all old.it.now (replacing transaction file label))
 
 -- both files were replaced and the version was set, and the commit was asked for
-pub installed : (before : Contents) (transaction : Label) (release : Release) (m n p q r : OnDisk KernelState) (result : Result CommitState Failure) → CommitsNothing m n → IsReplaced transaction release.program m n
-    → CommitsNothing n p → IsReplaced transaction release.manual n p → IsCalled (KvSet transaction release.version.name.characters release.version.contents) p q (Some (Ok Reply.Done)) → IsCalled (CommitTransaction transaction) q r (answer_of result reply_of_state)
-    → Keeps (before ∷ []) m → (program : Label) × (manual : Label) × IsAllOrNothing before (contents_now (after_all m.it.now (installing transaction release program manual))) r result
+pub installed : (before : Contents) (transaction : Label) (release : Release) (m n p q r : OnDisk KernelState) (result : Result CommitState CompletionFault) → CommitsNothing m n → IsReplaced transaction release.program m n
+    → CommitsNothing n p → IsReplaced transaction release.manual n p → IsCalled (KvSet transaction release.version.name.characters release.version.contents) p q (Some (Ok Reply.Done)) → IsCompleted (CommitTransaction transaction) q r (reply_of result reply_of_state)
+    → Keeps (before ∷ []) m → (program : Label) × (manual : Label) × IsAllOrNothing before (contents_now (after_all m.it.now (installing transaction release program manual))) r (with_failure result)
 installed before transaction release m n p q r result first replaces second replaces' set commit keeps =
     let key = release.version.name.characters in
     let version = release.version.contents in
@@ -190,7 +205,7 @@ installed before transaction release m n p q r result first replaces second repl
     let value = subst (λ (x : Present). value_at (own_settings x.keys.own then.0.id) key ≡ Some (Some version)) (sym came.now) then.2 in
     let is = committed before key version q r transaction then.0 named value (quiet sets p q (Some (Ok Reply.Done)) set (quiet-set p.it.now own transaction key version) (before ∷ []) kept') result commit in
     let all-now = now sets p q Reply.Done came ∙ ap (λ (x : Present). after x sets) (manual-now ∙ ap (λ (x : Present). after_all x (replacing transaction release.manual manual)) program-now) in
-    (program, manual, subst (λ (x : Present). IsAllOrNothing before (contents_now (after x (CommitTransaction transaction))) r result) all-now is)
+    (program, manual, subst (λ (x : Present). IsAllOrNothing before (contents_now (after x (CommitTransaction transaction))) r (with_failure result)) all-now is)
 
 -- a key was set
 pub set-quiet : (label : Label) (key value : List ℕ) (m n : OnDisk KernelState) (answer : Answer) → IsCalled (KvSet label key value) m n answer → CommitsNothing m n
@@ -217,11 +232,11 @@ stays before after m n (Ok state) none is = record { either = none _ is.either; 
 stays before after m n (Err failed) none is = record { either = none _ is.either; ok = tt; err = λ other. none _ (is.err other) }
 
 -- one was made, and closed behind the installation
-pub in-one : (release : Release) (m n p q : OnDisk KernelState) (transaction : Label) (guid : List ℕ) (answer : Answer) (result : Result CommitState Failure)
+pub in-one : (release : Release) (m n p q : OnDisk KernelState) (transaction : Label) (guid : List ℕ) (said : Option Reply) (result : Result CommitState Failure)
     → IsBinding (λ label. CreateTransaction label 0) m n (Some (Ok (Reply.Guid guid))) (λ label. transaction ≡ label)
     → ((before : Contents) → Keeps (before ∷ []) n → (program : Label) × (manual : Label) × IsAllOrNothing before (contents_now (after_all n.it.now (installing transaction release program manual))) p result)
-    → IsCalled (CloseHandle transaction) p q answer → Keeps (contents_now m.it.now ∷ []) m → IsInstallation m.it.now release q result
-in-one release m n p q transaction guid answer result bound inside close keeps =
+    → IsCompleted (CloseHandle transaction) p q said → Keeps (contents_now m.it.now ∷ []) m → IsInstallation m.it.now release q result
+in-one release m n p q transaction guid said result bound inside close keeps =
     let before = contents_now m.it.now in
     let (program, manual, is) = inside before (made m n _ _ bound (before ∷ []) keeps) in
     let came = bound.called.commits.comes (inl (λ refusal is. absurd (cc))) (before ∷ []) keeps in
@@ -230,6 +245,6 @@ in-one release m n p q transaction guid answer result bound inside close keeps =
       transaction = transaction;
       program = program;
       manual = manual;
-      leaves = stays before _ p q result (closed transaction p q answer close)
+      leaves = stays before _ p q result (closed transaction p q said close)
           (subst (λ (x : Present). IsAllOrNothing before (contents_now (after_all x (installing transaction release program manual))) p result) made-now is);
     }

@@ -57,7 +57,10 @@ fn install_in<D: Disk>(
     replace(machine, transaction, release.program)?;
     replace(machine, transaction, release.manual)?;
     machine.set(transaction, release.version.name, release.version.contents)?;
-    machine.commit(transaction)
+    match machine.commit(transaction) {
+        Ok(state) => Ok(state),
+        Err(fault) => Err(Failure::from(fault)),
+    }
 }
 
 /// Installs a release: both files and the version change, or nothing does.

@@ -2,9 +2,11 @@
 ghost use Rattle.std.specs.Prelude.{◌≡◌, true, false, Option, Some, IsOk, OnErr};
 ghost use Rattle.ktm_base.specs.Disk.{DiskState};
 ghost use Rattle.ktm_base.specs.declared.refusal.Refusal.TheVariants.{MachineDown};
-ghost use Rattle.ktm_types.specs.declared.command.Line.TheVariants.{Crash, Tick};
+ghost use Rattle.ktm_types.specs.declared.command.Line.TheVariants.{Crash, Process, Tick};
 ghost use Rattle.ktm_types.specs.declared.reply.Reply.TheVariants.{Refused, Done};
+ghost use Rattle.ktm_route.specs.Completions.{command_of};
 ghost use Rattle.ktm_types.specs.Values.{IsCommand};
+ghost use Rattle.ktm_world.specs.Decide.{decide as model_decide};
 ghost use Rattle.ktm_world.specs.Durable.{stand};
 ghost use Rattle.ktm_world.specs.Labels.{is_bound};
 ghost use Rattle.ktm_world.specs.World.{World, decide_tick};
@@ -23,11 +25,11 @@ use ktm_laws::{law_of_lawful_worlds, law_of_reserved_files};
 use ktm_memory::Memory;
 use ktm_records::law_of_spelling;
 use ktm_room::law_of_frames;
-use ktm_route::{Asked, decide};
+use ktm_route::{Asked, command_of, decide, law_of_completions};
 use ktm_slots::law_of_slots;
 use ktm_standing::{law_of_kept, law_of_standing};
 use ktm_trace::law_of_contents;
-use ktm_types::{Command, Reply};
+use ktm_types::{Command, Completion, Reply};
 use std::alloc::Global;
 use std::marker::Model;
 
@@ -112,6 +114,23 @@ impl Kernel {
             return Ok(Reply::Refused(Refusal::MachineDown));
         }
         self.answer(disk, Asked::Call(process, command))
+    }
+
+    /// Answers a call on the way to the end of a transaction, or one that tells of it, as `call` answers its command: CommitTransaction,
+    /// RollbackTransaction, each answer of an enlistment, the requests of its superior, CloseHandle, Exit, GetTransactionInformation and
+    /// GetNotificationResourceManager. It takes no memory: a commit that was accepted ends by the votes of its enlistments, and nothing on
+    /// its way is ever out of memory. MACHINE_DOWN comes where the machine is down, or where its disk goes down in the call.
+    pub fn complete<D: Disk>(&mut self, disk: &mut D, process: Pid, completion: Completion) -> Reply
+        requires ready { IsReady self.old (D.told disk.old) (D.status disk.old) }
+        requires counts { HasEventsLeft self.old.now }
+        requires command { IsCommand (command_of completion) }
+        ensures { IsLineAnswered (Process process (command_of completion)) (model_decide self.old.now process (command_of completion)) (on self.old (D.told disk.old) (D.status disk.old)) (on self.new (D.told disk.new) (D.status disk.new)) result }
+    {
+        law_of_completions();
+        match self.call(disk, process, command_of(completion)) {
+            Ok(reply) => reply,
+            Err(NoMemory) => unreachable!(),
+        }
     }
 
     /// So many milliseconds pass, and the transactions roll back whose timeouts are reached then, in order of creation; what that

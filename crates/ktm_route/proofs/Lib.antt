@@ -6,3 +6,5 @@ mod Courses
 mod ManagerRoutes
 mod EnlistmentRoutes
 mod FileRoutes
+mod NoneTakes
+pub mod offered

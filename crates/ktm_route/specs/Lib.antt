@@ -1,2 +1,3 @@
 pub mod Takes
 pub mod Route
+pub mod Completions

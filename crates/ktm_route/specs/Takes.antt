@@ -1,10 +1,12 @@
 -- Which calls may take memory: out of memory they alone may give up.
-use Rattle.std.specs.Prelude.{◌&&◌, not, Bool, true, false, List, [], ◌∷◌, ◌++◌, Option, is_none}
+use Rattle.std.specs.Prelude.{◌≡◌, ◌&&◌, not, Bool, true, false, List, [], ◌∷◌, ◌++◌, Option, is_none}
 use Rattle.ktm_base.specs.declared.id.Pid.{Pid}
 use Rattle.ktm_base.specs.declared.refusal.Refusal.{Refusal}
 use Rattle.ktm_base.specs.declared.refusal.Refusal.TheVariants.{MachineDown}
 use Rattle.ktm_types.specs.declared.command.Command.{Command}
 use Rattle.ktm_types.specs.declared.command.Command.TheVariants.{CommitTransaction, RollbackTransaction, GetTransactionInformation, CloseHandle, Exit, GetNotificationResourceManager, PrePrepareEnlistment, PrepareEnlistment, CommitEnlistment, RecoverEnlistment, PrePrepareComplete, PrepareComplete, ReadOnlyEnlistment, SinglePhaseReject, CommitComplete, RollbackComplete, RollbackEnlistment, SetEnlistmentRecoveryInformation, CreateFile, CreateFileTransacted, ReadFile, WriteFile, SetEndOfFile, GetFileSizeEx, FlushFileBuffers, DeleteFile, CreateDirectory, RemoveDirectory, MoveFile, DeleteFileTransacted, CreateDirectoryTransacted, RemoveDirectoryTransacted, MoveFileTransacted, FindFiles, FindFilesTransacted}
+use Rattle.ktm_types.specs.declared.completion.Completion.{Completion}
+use Rattle.ktm_route.specs.Completions.{command_of}
 use Rattle.ktm_world.specs.Decide.{command_tests}
 use Rattle.ktm_world.specs.Labels.{file_tests, transaction_named, transaction_tests}
 use Rattle.ktm_world.specs.Outcome.{first_refusal}
@@ -69,3 +71,7 @@ takes_memory x process command = effect_takes_memory x process command && is_non
 abbrev pub asked_takes_memory : Present → Asked → Bool
 asked_takes_memory x (Call process command) = takes_memory x process command
 asked_takes_memory x (Tick ms) = false
+
+-- no call on the way to the end of a transaction takes memory, whatever is so
+abbrev pub CompletionsLaw : Type 0
+CompletionsLaw = (x : Present) (process : Pid) (completion : Completion) → takes_memory x process (command_of completion) ≡ false

@@ -3,11 +3,15 @@
 #![tactic(auto)]
 
 mod asked;
+mod completions;
 mod enlistment_routes;
 mod file_routes;
 mod labels;
+mod laws;
 mod manager_routes;
 mod route;
 mod transaction_routes;
 
 pub use asked::{Asked, decide};
+pub use completions::command_of;
+pub use laws::law_of_completions;

@@ -17,7 +17,7 @@ use ktm_script::{LineFault, read_line};
 use ktm_types::{Command, Line, Reply};
 use std::alloc::Global;
 
-// A process calls the system.
+// A process calls the system. A call on the way to the end of a transaction is answered also where there is no memory.
 fn call<D: PowerDisk>(
     kernel: &mut Kernel,
     disk: &mut D,
@@ -32,6 +32,9 @@ fn call<D: PowerDisk>(
     ensures lasts { OnOk result (LastsAfter 1 kernel.old kernel.new) }
     ensures no_memory { OnErr result ((line : List ℕ) (w : World) → KernelAt kernel.old (D.told disk.old) w → Unanswered w (on kernel.old (D.told disk.old) (D.status disk.old)) (on kernel.new (D.told disk.new) (D.status disk.new)) line) }
 {
+    if let Some(completion) = command.completion() {
+        return Ok(kernel.complete(disk, process, completion));
+    }
     match kernel.call(disk, process, command) {
         Ok(reply) => Ok(reply),
         Err(NoMemory) => Err(NoMemory),

@@ -18,8 +18,8 @@ use Rattle.ktm_world.specs.World.{decide_tick}
 use Rattle.ktm_works.specs.Works.{Commits}
 use Rattle.wattorju.specs.declared.failure.Failure.{Failure}
 use Rattle.wattorju.specs.declared.failure.Failure.TheVariants as failure
-use Rattle.wattorju.specs.declared.failure.TickFault.{TickFault}
-use Rattle.wattorju.specs.declared.failure.TickFault.TheVariants as tick
+use Rattle.wattorju.specs.declared.failure.CompletionFault.{CompletionFault}
+use Rattle.wattorju.specs.declared.failure.CompletionFault.TheVariants as completion
 
 -- all calls of the library are of this process
 abbrev pub own : Pid
@@ -42,11 +42,16 @@ answer_of (Err failed) tell = fault_of failed
 abbrev pub IfReplied : Option (Result Reply NoMemory) → (Reply → Type 0) → Type 0
 IfReplied answer P = IfSome answer (λ said. IfOk said P)
 
--- what the passing of time says that the machine replied, where it was asked
-abbrev pub reply_of_tick : Result (Unit {0}) TickFault → Option Reply
-reply_of_tick (Ok done) = Some Reply.Done
-reply_of_tick (Err (tick.Refused refusal)) = Some (Reply.Refused refusal)
-reply_of_tick (Err tick.Worn) = None
+-- what a call that takes no memory, or the passing of time, says that the machine replied, where it was asked and the value tells this
+abbrev pub reply_of : {T : Type 0} → Result T CompletionFault → (T → Reply) → Option Reply
+reply_of (Ok value) tell = Some (tell value)
+reply_of (Err (completion.Refused refusal)) tell = Some (Reply.Refused refusal)
+reply_of (Err completion.Worn) tell = None
+
+-- the failure that says the same
+abbrev pub failure_of : CompletionFault → Failure
+failure_of (completion.Refused refusal) = failure.Refused refusal
+failure_of completion.Worn = failure.Worn
 
 -- ---- what a call leaves
 
@@ -67,6 +72,11 @@ pub record IsAsked (command : Command) (old new : OnDisk KernelState) (answer : 
 abbrev pub IsCalled : Command → OnDisk KernelState → OnDisk KernelState → Option (Result Reply NoMemory) → Type 0
 IsCalled command old new (Some answer) = IsAsked command old new answer
 IsCalled command old new None = IsWornOut old new
+
+-- the machine was asked and replied so, or it was not asked; it is never out of memory
+abbrev pub IsCompleted : Command → OnDisk KernelState → OnDisk KernelState → Option Reply → Type 0
+IsCompleted command old new (Some reply) = IsAsked command old new (Ok reply)
+IsCompleted command old new None = IsWornOut old new
 
 -- time passed with this reply, or the machine was not asked
 abbrev pub IsTicked : ℕ → OnDisk KernelState → OnDisk KernelState → Option Reply → Type 0

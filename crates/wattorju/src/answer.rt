@@ -1,13 +1,13 @@
 // What the machine's replies say, by what a call tells. No other reply comes.
-ghost use Rattle.std.specs.Prelude.{◌≡◌};
+ghost use Rattle.std.specs.Prelude.{◌≡◌, IfSome};
 ghost use Rattle.ktm_forms.specs.Tells.{IsTold, a_guid, a_notification, a_size, a_transaction, bytes, keys, names, nothing, progress};
 ghost use Rattle.ktm_types.specs.declared.reply.Reply.TheVariants.{Contents, Done, Guid, Keys, Names, Size};
 ghost use Rattle.ktm_world.specs.KeyCalls.{reply_of_value};
-ghost use Rattle.wattorju.specs.Calls.{IfReplied, answer_of};
+ghost use Rattle.wattorju.specs.Calls.{IfReplied, answer_of, reply_of};
 ghost use Rattle.wattorju.specs.Told.{reply_of_information, reply_of_notification, reply_of_state};
 
-use crate::Failure;
 use crate::told::{CommitState, Notification, TransactionInformation};
+use crate::{CompletionFault, Failure};
 use ktm_base::{Bytes, NoMemory, Refusal, TextList};
 use ktm_types::Reply;
 use uuid::Uuid;
@@ -23,6 +23,16 @@ fn told(answer: Option<Result<Reply, NoMemory>>) -> Result<Reply, Failure>
     }
 }
 
+// The reply of a call that takes no memory, or that the machine was not asked.
+fn replied(answer: Option<Reply>) -> Result<Reply, CompletionFault>
+    ensures { reply_of result (λ reply. reply) ≡ answer }
+{
+    match answer {
+        Some(reply) => Ok(reply),
+        None => Err(CompletionFault::Worn),
+    }
+}
+
 /// That it is done.
 pub fn to_done(answer: Option<Result<Reply, NoMemory>>) -> Result<(), Failure>
     requires { IfReplied answer (λ reply. IsTold reply nothing) }
@@ -31,6 +41,18 @@ pub fn to_done(answer: Option<Result<Reply, NoMemory>>) -> Result<(), Failure>
     match told(answer)? {
         Reply::Done => Ok(()),
         Reply::Refused(refusal) => Err(Failure::Refused(refusal)),
+        _ => unreachable!(),
+    }
+}
+
+/// That a call that takes no memory is done, or that time has passed.
+pub fn to_ended(answer: Option<Reply>) -> Result<(), CompletionFault>
+    requires { IfSome answer (λ reply. IsTold reply nothing) }
+    ensures { reply_of result (λ done. Done) ≡ answer }
+{
+    match replied(answer)? {
+        Reply::Done => Ok(()),
+        Reply::Refused(refusal) => Err(CompletionFault::Refused(refusal)),
         _ => unreachable!(),
     }
 }
@@ -48,26 +70,24 @@ pub fn to_guid(answer: Option<Result<Reply, NoMemory>>) -> Result<Uuid, Failure>
 }
 
 /// That a transaction has committed, or that it waits.
-pub fn to_progress(answer: Option<Result<Reply, NoMemory>>) -> Result<CommitState, Failure>
-    requires { IfReplied answer (λ reply. IsTold reply progress) }
-    ensures { answer_of result reply_of_state ≡ answer }
+pub fn to_progress(answer: Option<Reply>) -> Result<CommitState, CompletionFault>
+    requires { IfSome answer (λ reply. IsTold reply progress) }
+    ensures { reply_of result reply_of_state ≡ answer }
 {
-    match told(answer)? {
+    match replied(answer)? {
         Reply::Committed => Ok(CommitState::Committed),
         Reply::Pending => Ok(CommitState::Pending),
-        Reply::Refused(refusal) => Err(Failure::Refused(refusal)),
+        Reply::Refused(refusal) => Err(CompletionFault::Refused(refusal)),
         _ => unreachable!(),
     }
 }
 
 /// How a transaction stands.
-pub fn to_information(
-    answer: Option<Result<Reply, NoMemory>>,
-) -> Result<TransactionInformation, Failure>
-    requires { IfReplied answer (λ reply. IsTold reply a_transaction) }
-    ensures { answer_of result reply_of_information ≡ answer }
+pub fn to_information(answer: Option<Reply>) -> Result<TransactionInformation, CompletionFault>
+    requires { IfSome answer (λ reply. IsTold reply a_transaction) }
+    ensures { reply_of result reply_of_information ≡ answer }
 {
-    match told(answer)? {
+    match replied(answer)? {
         Reply::Information {
             transaction,
             state,
@@ -77,7 +97,7 @@ pub fn to_information(
             state,
             outcome,
         }),
-        Reply::Refused(refusal) => Err(Failure::Refused(refusal)),
+        Reply::Refused(refusal) => Err(CompletionFault::Refused(refusal)),
         _ => unreachable!(),
     }
 }
@@ -144,16 +164,14 @@ pub fn to_value(answer: Option<Result<Reply, NoMemory>>) -> Result<Option<Bytes>
 }
 
 /// A notification, or that none waits.
-pub fn to_notification(
-    answer: Option<Result<Reply, NoMemory>>,
-) -> Result<Option<Notification>, Failure>
-    requires { IfReplied answer (λ reply. IsTold reply a_notification) }
-    ensures { answer_of result reply_of_notification ≡ answer }
+pub fn to_notification(answer: Option<Reply>) -> Result<Option<Notification>, CompletionFault>
+    requires { IfSome answer (λ reply. IsTold reply a_notification) }
+    ensures { reply_of result reply_of_notification ≡ answer }
 {
-    match told(answer)? {
+    match replied(answer)? {
         Reply::Notification { kind, enlistment } => Ok(Some(Notification { kind, enlistment })),
         Reply::Refused(Refusal::WaitTimeout) => Ok(None),
-        Reply::Refused(refusal) => Err(Failure::Refused(refusal)),
+        Reply::Refused(refusal) => Err(CompletionFault::Refused(refusal)),
         _ => unreachable!(),
     }
 }

@@ -2,13 +2,13 @@
 ghost use Rattle.std.specs.Prelude.{◌≡◌, IfOk};
 ghost use Rattle.ktm_types.specs.declared.command.Command.TheVariants.{CloseHandle, CommitComplete, CommitEnlistment, CreateEnlistment, DuplicateHandle, GetEnlistmentRecoveryInformation, OpenEnlistment, PrePrepareComplete, PrePrepareEnlistment, PrepareComplete, PrepareEnlistment, ReadOnlyEnlistment, RecoverEnlistment, RollbackComplete, RollbackEnlistment, SetEnlistmentRecoveryInformation, SinglePhaseReject};
 ghost use Rattle.ktm_types.specs.declared.reply.Reply.TheVariants.{Contents, Done, Guid};
-ghost use Rattle.wattorju.specs.Calls.{IsBinding, IsCalled, answer_of, own};
+ghost use Rattle.wattorju.specs.Calls.{IsBinding, IsCalled, IsCompleted, answer_of, own, reply_of};
 
 use crate::law::{law_of_bytes, law_of_guid};
 use crate::machine::OWN;
-use crate::{Enlistment, Failure, Machine, ResourceManager, Transaction};
+use crate::{CompletionFault, Enlistment, Failure, Machine, ResourceManager, Transaction};
 use ktm_base::{Bytes, Disk};
-use ktm_types::{Command, EnlistmentKind};
+use ktm_types::{Command, Completion, EnlistmentKind};
 use uuid::Uuid;
 
 impl<D: Disk> Machine<D> {
@@ -69,93 +69,73 @@ impl<D: Disk> Machine<D> {
     }
 
     /// Answers PREPREPARE.
-    pub fn pre_prepare_complete(&mut self, enlistment: &Enlistment) -> Result<(), Failure>
-        ensures { IsCalled (PrePrepareComplete enlistment.now.label) self.old self.new (answer_of result (λ done. Done)) }
+    pub fn pre_prepare_complete(&mut self, enlistment: &Enlistment) -> Result<(), CompletionFault>
+        ensures { IsCompleted (PrePrepareComplete enlistment.now.label) self.old self.new (reply_of result (λ done. Done)) }
     {
-        self.done(Command::PrePrepareComplete {
-            enlistment: enlistment.label,
-        })
+        self.end(Completion::PrePrepareComplete(enlistment.label))
     }
 
     /// Answers PREPARE: the enlistment can commit and can roll back.
-    pub fn prepare_complete(&mut self, enlistment: &Enlistment) -> Result<(), Failure>
-        ensures { IsCalled (PrepareComplete enlistment.now.label) self.old self.new (answer_of result (λ done. Done)) }
+    pub fn prepare_complete(&mut self, enlistment: &Enlistment) -> Result<(), CompletionFault>
+        ensures { IsCompleted (PrepareComplete enlistment.now.label) self.old self.new (reply_of result (λ done. Done)) }
     {
-        self.done(Command::PrepareComplete {
-            enlistment: enlistment.label,
-        })
+        self.end(Completion::PrepareComplete(enlistment.label))
     }
 
     /// Takes no part in the outcome.
-    pub fn read_only(&mut self, enlistment: &Enlistment) -> Result<(), Failure>
-        ensures { IsCalled (ReadOnlyEnlistment enlistment.now.label) self.old self.new (answer_of result (λ done. Done)) }
+    pub fn read_only(&mut self, enlistment: &Enlistment) -> Result<(), CompletionFault>
+        ensures { IsCompleted (ReadOnlyEnlistment enlistment.now.label) self.old self.new (reply_of result (λ done. Done)) }
     {
-        self.done(Command::ReadOnlyEnlistment {
-            enlistment: enlistment.label,
-        })
+        self.end(Completion::ReadOnlyEnlistment(enlistment.label))
     }
 
     /// Answers COMMIT, or SINGLE_PHASE_COMMIT.
-    pub fn commit_complete(&mut self, enlistment: &Enlistment) -> Result<(), Failure>
-        ensures { IsCalled (CommitComplete enlistment.now.label) self.old self.new (answer_of result (λ done. Done)) }
+    pub fn commit_complete(&mut self, enlistment: &Enlistment) -> Result<(), CompletionFault>
+        ensures { IsCompleted (CommitComplete enlistment.now.label) self.old self.new (reply_of result (λ done. Done)) }
     {
-        self.done(Command::CommitComplete {
-            enlistment: enlistment.label,
-        })
+        self.end(Completion::CommitComplete(enlistment.label))
     }
 
     /// Answers ROLLBACK.
-    pub fn rollback_complete(&mut self, enlistment: &Enlistment) -> Result<(), Failure>
-        ensures { IsCalled (RollbackComplete enlistment.now.label) self.old self.new (answer_of result (λ done. Done)) }
+    pub fn rollback_complete(&mut self, enlistment: &Enlistment) -> Result<(), CompletionFault>
+        ensures { IsCompleted (RollbackComplete enlistment.now.label) self.old self.new (reply_of result (λ done. Done)) }
     {
-        self.done(Command::RollbackComplete {
-            enlistment: enlistment.label,
-        })
+        self.end(Completion::RollbackComplete(enlistment.label))
     }
 
     /// Answers SINGLE_PHASE_COMMIT: the transaction is to commit in two phases.
-    pub fn single_phase_reject(&mut self, enlistment: &Enlistment) -> Result<(), Failure>
-        ensures { IsCalled (SinglePhaseReject enlistment.now.label) self.old self.new (answer_of result (λ done. Done)) }
+    pub fn single_phase_reject(&mut self, enlistment: &Enlistment) -> Result<(), CompletionFault>
+        ensures { IsCompleted (SinglePhaseReject enlistment.now.label) self.old self.new (reply_of result (λ done. Done)) }
     {
-        self.done(Command::SinglePhaseReject {
-            enlistment: enlistment.label,
-        })
+        self.end(Completion::SinglePhaseReject(enlistment.label))
     }
 
     /// Rolls the enlistment's transaction back.
-    pub fn roll_back_enlistment(&mut self, enlistment: &Enlistment) -> Result<(), Failure>
-        ensures { IsCalled (RollbackEnlistment enlistment.now.label) self.old self.new (answer_of result (λ done. Done)) }
+    pub fn roll_back_enlistment(&mut self, enlistment: &Enlistment) -> Result<(), CompletionFault>
+        ensures { IsCompleted (RollbackEnlistment enlistment.now.label) self.old self.new (reply_of result (λ done. Done)) }
     {
-        self.done(Command::RollbackEnlistment {
-            enlistment: enlistment.label,
-        })
+        self.end(Completion::RollbackEnlistment(enlistment.label))
     }
 
     /// As its superior, asks that a transaction pre-prepares.
-    pub fn pre_prepare_enlistment(&mut self, enlistment: &Enlistment) -> Result<(), Failure>
-        ensures { IsCalled (PrePrepareEnlistment enlistment.now.label) self.old self.new (answer_of result (λ done. Done)) }
+    pub fn pre_prepare_enlistment(&mut self, enlistment: &Enlistment) -> Result<(), CompletionFault>
+        ensures { IsCompleted (PrePrepareEnlistment enlistment.now.label) self.old self.new (reply_of result (λ done. Done)) }
     {
-        self.done(Command::PrePrepareEnlistment {
-            enlistment: enlistment.label,
-        })
+        self.end(Completion::PrePrepareEnlistment(enlistment.label))
     }
 
     /// As its superior, asks that a transaction prepares.
-    pub fn prepare_enlistment(&mut self, enlistment: &Enlistment) -> Result<(), Failure>
-        ensures { IsCalled (PrepareEnlistment enlistment.now.label) self.old self.new (answer_of result (λ done. Done)) }
+    pub fn prepare_enlistment(&mut self, enlistment: &Enlistment) -> Result<(), CompletionFault>
+        ensures { IsCompleted (PrepareEnlistment enlistment.now.label) self.old self.new (reply_of result (λ done. Done)) }
     {
-        self.done(Command::PrepareEnlistment {
-            enlistment: enlistment.label,
-        })
+        self.end(Completion::PrepareEnlistment(enlistment.label))
     }
 
     /// As its superior, decides that a transaction commits.
-    pub fn commit_enlistment(&mut self, enlistment: &Enlistment) -> Result<(), Failure>
-        ensures { IsCalled (CommitEnlistment enlistment.now.label) self.old self.new (answer_of result (λ done. Done)) }
+    pub fn commit_enlistment(&mut self, enlistment: &Enlistment) -> Result<(), CompletionFault>
+        ensures { IsCompleted (CommitEnlistment enlistment.now.label) self.old self.new (reply_of result (λ done. Done)) }
     {
-        self.done(Command::CommitEnlistment {
-            enlistment: enlistment.label,
-        })
+        self.end(Completion::CommitEnlistment(enlistment.label))
     }
 
     /// Keeps bytes that a restart gives back with the enlistment; at most 128.
@@ -201,10 +181,10 @@ impl<D: Disk> Machine<D> {
     }
 
     /// Closes an enlistment that is open.
-    pub fn close_enlistment(&mut self, enlistment: Enlistment) -> Result<(), Failure>
-        ensures { IsCalled (CloseHandle enlistment.label) self.old self.new (answer_of result (λ done. Done)) }
+    pub fn close_enlistment(&mut self, enlistment: Enlistment) -> Result<(), CompletionFault>
+        ensures { IsCompleted (CloseHandle enlistment.label) self.old self.new (reply_of result (λ done. Done)) }
     {
         let Enlistment { label } = enlistment;
-        self.done(Command::CloseHandle { label })
+        self.end(Completion::CloseHandle(label))
     }
 }

@@ -15,13 +15,27 @@ pub enum Failure {
     Worn,
 }
 
-/// Why no time has passed.
+/// Why a call on the way to the end of a transaction was not done, or no time has passed. These take no memory.
 #[derive(Clone, Copy, PartialEq, Eq)]
-pub enum TickFault {
+pub enum CompletionFault {
     /// The machine refused it.
     Refused(Refusal),
     /// The image has recorded nearly 2^63 events, as in `Failure::Worn`. Nothing has changed.
     Worn,
+}
+
+impl From<CompletionFault> for Failure {
+    ghost use Rattle.std.specs.Prelude.{◌≡◌};
+    ghost use Rattle.wattorju.specs.Calls.{failure_of};
+
+    ghost from_gives = { λ fault failure. failure ≡ failure_of fault };
+
+    fn from(fault: CompletionFault) -> Self {
+        match fault {
+            CompletionFault::Refused(refusal) => Failure::Refused(refusal),
+            CompletionFault::Worn => Failure::Worn,
+        }
+    }
 }
 
 // What is said of an image whose count of events is near its end.
@@ -81,19 +95,19 @@ impl fmt::Debug for Failure {
 
 impl Error for Failure {}
 
-impl fmt::Display for TickFault {
+impl fmt::Display for CompletionFault {
     fn fmt<W: fmt::Write>(&self, f: &mut fmt::Formatter<W>) -> fmt::Result {
         match self {
-            TickFault::Refused(refusal) => f.write_str(words_of(*refusal)),
-            TickFault::Worn => f.write_str(WORN),
+            CompletionFault::Refused(refusal) => f.write_str(words_of(*refusal)),
+            CompletionFault::Worn => f.write_str(WORN),
         }
     }
 }
 
-impl fmt::Debug for TickFault {
+impl fmt::Debug for CompletionFault {
     fn fmt<W: fmt::Write>(&self, f: &mut fmt::Formatter<W>) -> fmt::Result {
-        write!(f, "TickFault({self})")
+        write!(f, "CompletionFault({self})")
     }
 }
 
-impl Error for TickFault {}
+impl Error for CompletionFault {}

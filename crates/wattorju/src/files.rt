@@ -2,13 +2,13 @@
 ghost use Rattle.std.specs.Prelude.{◌≡◌, IfOk};
 ghost use Rattle.ktm_types.specs.declared.command.Command.TheVariants.{CloseHandle, CreateDirectory, CreateDirectoryTransacted, CreateFile, CreateFileTransacted, DeleteFile, DeleteFileTransacted, DuplicateHandle, FindFiles, FindFilesTransacted, FlushFileBuffers, GetFileSizeEx, MoveFile, MoveFileTransacted, ReadFile, RemoveDirectory, RemoveDirectoryTransacted, SetEndOfFile, WriteFile};
 ghost use Rattle.ktm_types.specs.declared.reply.Reply.TheVariants.{Contents, Done, Names, Size};
-ghost use Rattle.wattorju.specs.Calls.{IsBinding, IsCalled, answer_of, own};
+ghost use Rattle.wattorju.specs.Calls.{IsBinding, IsCalled, IsCompleted, answer_of, own, reply_of};
 
 use crate::law::law_of_bytes;
 use crate::machine::OWN;
-use crate::{Failure, Machine, OpenFile, Text, Transaction};
+use crate::{CompletionFault, Failure, Machine, OpenFile, Text, Transaction};
 use ktm_base::{Bytes, Disk, TextList};
-use ktm_types::{Access, Command, Disposition, ShareMode};
+use ktm_types::{Access, Command, Completion, Disposition, ShareMode};
 
 impl<D: Disk> Machine<D> {
     /// Opens a file, or makes it, as its disposition says. What is then written is committed by each call.
@@ -257,10 +257,10 @@ impl<D: Disk> Machine<D> {
     }
 
     /// Closes a file that is open.
-    pub fn close_file(&mut self, file: OpenFile) -> Result<(), Failure>
-        ensures { IsCalled (CloseHandle file.label) self.old self.new (answer_of result (λ done. Done)) }
+    pub fn close_file(&mut self, file: OpenFile) -> Result<(), CompletionFault>
+        ensures { IsCompleted (CloseHandle file.label) self.old self.new (reply_of result (λ done. Done)) }
     {
         let OpenFile { label } = file;
-        self.done(Command::CloseHandle { label })
+        self.end(Completion::CloseHandle(label))
     }
 }

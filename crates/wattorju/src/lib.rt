@@ -16,7 +16,7 @@ mod text;
 mod told;
 mod transactions;
 
-pub use failure::{Failure, TickFault};
+pub use failure::{CompletionFault, Failure};
 pub use handle::{Enlistment, OpenFile, ResourceManager, Transaction};
 pub use ktm_base::{Bytes, Disk, Items, NoMemory, Notify, PowerDisk, Refusal, TextList, Texts};
 pub use ktm_cut::CutDisk;

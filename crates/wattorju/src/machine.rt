@@ -6,23 +6,24 @@ ghost use Rattle.ktm_laws.specs.Running.{HasEventsLeft};
 ghost use Rattle.ktm_log.specs.OnDisk.{OnDisk, on};
 ghost use Rattle.ktm_open.specs.Opened.{IsOpened, NotOpenedLeaves};
 ghost use Rattle.ktm_types.specs.declared.reply.Reply.TheVariants.{Contents, Done, Guid, Keys, Names, Size};
+ghost use Rattle.ktm_route.specs.Completions.{command_of};
 ghost use Rattle.ktm_types.specs.Values.{IsCommand, IsLabel};
 ghost use Rattle.ktm_world.specs.KeyCalls.{reply_of_value};
 ghost use Rattle.ktm_world.specs.Labels.{is_bound};
-ghost use Rattle.wattorju.specs.Calls.{IfReplied, IsCalled, IsFree, IsTicked, answer_of, own, reply_of_tick};
+ghost use Rattle.wattorju.specs.Calls.{IfReplied, IsCalled, IsCompleted, IsFree, IsTicked, answer_of, own, reply_of};
 ghost use Rattle.wattorju.specs.Told.{reply_of_information, reply_of_notification, reply_of_state};
 
 use crate::answer::{
-    to_bytes, to_done, to_guid, to_information, to_keys, to_names, to_notification, to_progress,
-    to_size, to_value,
+    to_bytes, to_done, to_ended, to_guid, to_information, to_keys, to_names, to_notification,
+    to_progress, to_size, to_value,
 };
 use crate::told::{CommitState, Notification, TransactionInformation};
-use crate::{Failure, TickFault};
+use crate::{CompletionFault, Failure};
 use ktm_base::{Bytes, Disk, Label, NoMemory, Pid, TextList};
 use ktm_forms::law_of_replies;
 use ktm_kernel::Kernel;
 use ktm_open::{OpenFault, open_kernel};
-use ktm_types::{Command, Reply};
+use ktm_types::{Command, Completion, Reply};
 use ktm_works::law_of_works;
 use std::alloc::Global;
 use std::marker::Model;
@@ -99,16 +100,20 @@ fn ask<D: Disk>(
     Some(kernel.call(disk, OWN, command))
 }
 
-// What the passing of time comes to.
-fn to_passed(reply: Reply) -> Result<(), TickFault>
-    requires { IsTold reply nothing }
-    ensures { reply_of_tick result ≡ Some reply }
+// Answers a call that takes no memory, while the image has events left. What it may reply is known by its form.
+fn complete<D: Disk>(kernel: &mut Kernel, disk: &mut D, completion: Completion) -> Option<Reply>
+    requires ready { IsReady kernel.old (D.told disk.old) (D.status disk.old) }
+    requires command { IsCommand (command_of completion) }
+    ensures completed { IsCompleted (command_of completion) (on kernel.old (D.told disk.old) (D.status disk.old)) (on kernel.new (D.told disk.new) (D.status disk.new)) result }
+    ensures told { (telling : Telling) → tells (command_of completion) ≡ telling → IfSome result (λ reply. IsTold reply telling) }
+    ensures ready { IsReady kernel.new (D.told disk.new) (D.status disk.new) }
 {
-    match reply {
-        Reply::Done => Ok(()),
-        Reply::Refused(refusal) => Err(TickFault::Refused(refusal)),
-        _ => unreachable!(),
+    law_of_replies();
+    law_of_works();
+    if !has_events_left(kernel) {
+        return None;
     }
+    Some(kernel.complete(disk, OWN, completion))
 }
 
 // A label that is not bound, if there is one: that behind the last one, or else the least one.
@@ -162,14 +167,14 @@ impl<D: Disk> Machine<D> {
 
     /// So many milliseconds pass, and the transactions roll back whose timeouts are reached then, in order of creation. It takes
     /// no memory.
-    pub fn tick(&mut self, ms: u32) -> Result<(), TickFault>
-        ensures { IsTicked ms self.old self.new (reply_of_tick result) }
+    pub fn tick(&mut self, ms: u32) -> Result<(), CompletionFault>
+        ensures { IsTicked ms self.old self.new (reply_of result (λ done. Done)) }
     {
         law_of_replies();
         if !has_events_left(&self.kernel) {
-            return Err(TickFault::Worn);
+            return Err(CompletionFault::Worn);
         }
-        to_passed(self.kernel.tick(&mut self.disk, ms))
+        to_ended(Some(self.kernel.tick(&mut self.disk, ms)))
     }
 
     /// Ends the machine, and gives its disk back. What is not committed is gone.
@@ -219,34 +224,49 @@ impl<D: Disk> Machine<D> {
         to_done(ask(&mut self.kernel, &mut self.disk, command))
     }
 
-    // A command that tells whether a transaction has committed.
-    pub(crate) fn progress(&mut self, command: Command) -> Result<CommitState, Failure>
-        requires command { IsCommand command }
-        requires tells { tells command ≡ progress }
-        ensures { IsCalled command self.old self.new (answer_of result reply_of_state) }
+    // A call that takes no memory, and tells nothing.
+    pub(crate) fn end(&mut self, completion: Completion) -> Result<(), CompletionFault>
+        requires command { IsCommand (command_of completion) }
+        requires tells { tells (command_of completion) ≡ nothing }
+        ensures { IsCompleted (command_of completion) self.old self.new (reply_of result (λ done. Done)) }
     {
-        to_progress(ask(&mut self.kernel, &mut self.disk, command))
+        to_ended(complete(&mut self.kernel, &mut self.disk, completion))
     }
 
-    // A command that tells how a transaction stands.
+    // One that tells whether a transaction has committed.
+    pub(crate) fn progress(
+        &mut self,
+        completion: Completion,
+    ) -> Result<CommitState, CompletionFault>
+        requires command { IsCommand (command_of completion) }
+        requires tells { tells (command_of completion) ≡ progress }
+        ensures { IsCompleted (command_of completion) self.old self.new (reply_of result reply_of_state) }
+    {
+        to_progress(complete(&mut self.kernel, &mut self.disk, completion))
+    }
+
+    // One that tells how a transaction stands.
     pub(crate) fn information(
         &mut self,
-        command: Command,
-    ) -> Result<TransactionInformation, Failure>
-        requires command { IsCommand command }
-        requires tells { tells command ≡ a_transaction }
-        ensures { IsCalled command self.old self.new (answer_of result reply_of_information) }
+        completion: Completion,
+    ) -> Result<TransactionInformation, CompletionFault>
+        requires command { IsCommand (command_of completion) }
+        requires tells { tells (command_of completion) ≡ a_transaction }
+        ensures { IsCompleted (command_of completion) self.old self.new (reply_of result reply_of_information) }
     {
-        to_information(ask(&mut self.kernel, &mut self.disk, command))
+        to_information(complete(&mut self.kernel, &mut self.disk, completion))
     }
 
-    // A command that tells a notification, if one waits.
-    pub(crate) fn notification(&mut self, command: Command) -> Result<Option<Notification>, Failure>
-        requires command { IsCommand command }
-        requires tells { tells command ≡ a_notification }
-        ensures { IsCalled command self.old self.new (answer_of result reply_of_notification) }
+    // One that tells a notification, if one waits.
+    pub(crate) fn notification(
+        &mut self,
+        completion: Completion,
+    ) -> Result<Option<Notification>, CompletionFault>
+        requires command { IsCommand (command_of completion) }
+        requires tells { tells (command_of completion) ≡ a_notification }
+        ensures { IsCompleted (command_of completion) self.old self.new (reply_of result reply_of_notification) }
     {
-        to_notification(ask(&mut self.kernel, &mut self.disk, command))
+        to_notification(complete(&mut self.kernel, &mut self.disk, completion))
     }
 
     // A command that tells bytes.

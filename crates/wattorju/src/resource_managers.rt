@@ -2,14 +2,14 @@
 ghost use Rattle.std.specs.Prelude.{◌≡◌, IfOk};
 ghost use Rattle.ktm_types.specs.declared.command.Command.TheVariants.{CloseHandle, CreateResourceManager, DuplicateHandle, Exit, GetNotificationResourceManager, OpenResourceManager, RecoverResourceManager};
 ghost use Rattle.ktm_types.specs.declared.reply.Reply.TheVariants.{Done, Guid};
-ghost use Rattle.wattorju.specs.Calls.{IsBinding, IsCalled, answer_of, own};
+ghost use Rattle.wattorju.specs.Calls.{IsBinding, IsCalled, IsCompleted, answer_of, own, reply_of};
 ghost use Rattle.wattorju.specs.Told.{reply_of_notification};
 
 use crate::law::law_of_guid;
 use crate::machine::OWN;
-use crate::{Failure, Machine, Notification, ResourceManager};
+use crate::{CompletionFault, Failure, Machine, Notification, ResourceManager};
 use ktm_base::Disk;
-use ktm_types::{Command, Durability};
+use ktm_types::{Command, Completion, Durability};
 use uuid::Uuid;
 
 impl<D: Disk> Machine<D> {
@@ -55,12 +55,10 @@ impl<D: Disk> Machine<D> {
     pub fn next_notification(
         &mut self,
         resource_manager: &ResourceManager,
-    ) -> Result<Option<Notification>, Failure>
-        ensures { IsCalled (GetNotificationResourceManager resource_manager.now.label) self.old self.new (answer_of result reply_of_notification) }
+    ) -> Result<Option<Notification>, CompletionFault>
+        ensures { IsCompleted (GetNotificationResourceManager resource_manager.now.label) self.old self.new (reply_of result reply_of_notification) }
     {
-        self.notification(Command::GetNotificationResourceManager {
-            manager: resource_manager.label,
-        })
+        self.notification(Completion::GetNotificationResourceManager(resource_manager.label))
     }
 
     /// Opens a resource manager once more.
@@ -88,17 +86,17 @@ impl<D: Disk> Machine<D> {
     pub fn close_resource_manager(
         &mut self,
         resource_manager: ResourceManager,
-    ) -> Result<(), Failure>
-        ensures { IsCalled (CloseHandle resource_manager.label) self.old self.new (answer_of result (λ done. Done)) }
+    ) -> Result<(), CompletionFault>
+        ensures { IsCompleted (CloseHandle resource_manager.label) self.old self.new (reply_of result (λ done. Done)) }
     {
         let ResourceManager { label } = resource_manager;
-        self.done(Command::CloseHandle { label })
+        self.end(Completion::CloseHandle(label))
     }
 
     /// Closes all that is open, as CloseHandle does, in the order of the labels. What is still held of it is no longer valid.
-    pub fn close_all(&mut self) -> Result<(), Failure>
-        ensures { IsCalled Exit self.old self.new (answer_of result (λ done. Done)) }
+    pub fn close_all(&mut self) -> Result<(), CompletionFault>
+        ensures { IsCompleted Exit self.old self.new (reply_of result (λ done. Done)) }
     {
-        self.done(Command::Exit)
+        self.end(Completion::Exit)
     }
 }

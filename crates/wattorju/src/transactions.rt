@@ -2,14 +2,14 @@
 ghost use Rattle.std.specs.Prelude.{◌≡◌, IfOk};
 ghost use Rattle.ktm_types.specs.declared.command.Command.TheVariants.{CloseHandle, CommitTransaction, CreateTransaction, DuplicateHandle, GetTransactionInformation, OpenTransaction, RollbackTransaction};
 ghost use Rattle.ktm_types.specs.declared.reply.Reply.TheVariants.{Done, Guid};
-ghost use Rattle.wattorju.specs.Calls.{IsBinding, IsCalled, answer_of, own};
+ghost use Rattle.wattorju.specs.Calls.{IsBinding, IsCompleted, answer_of, own, reply_of};
 ghost use Rattle.wattorju.specs.Told.{reply_of_information, reply_of_state};
 
 use crate::law::law_of_guid;
 use crate::machine::OWN;
-use crate::{CommitState, Failure, Machine, Transaction, TransactionInformation};
+use crate::{CommitState, CompletionFault, Failure, Machine, Transaction, TransactionInformation};
 use ktm_base::Disk;
-use ktm_types::Command;
+use ktm_types::{Command, Completion};
 use uuid::Uuid;
 
 impl<D: Disk> Machine<D> {
@@ -38,33 +38,27 @@ impl<D: Disk> Machine<D> {
     }
 
     /// Asks that a transaction commits.
-    pub fn commit(&mut self, transaction: &Transaction) -> Result<CommitState, Failure>
-        ensures { IsCalled (CommitTransaction transaction.now.label) self.old self.new (answer_of result reply_of_state) }
+    pub fn commit(&mut self, transaction: &Transaction) -> Result<CommitState, CompletionFault>
+        ensures { IsCompleted (CommitTransaction transaction.now.label) self.old self.new (reply_of result reply_of_state) }
     {
-        self.progress(Command::CommitTransaction {
-            transaction: transaction.label,
-        })
+        self.progress(Completion::CommitTransaction(transaction.label))
     }
 
     /// Rolls a transaction back.
-    pub fn roll_back(&mut self, transaction: &Transaction) -> Result<(), Failure>
-        ensures { IsCalled (RollbackTransaction transaction.now.label) self.old self.new (answer_of result (λ done. Done)) }
+    pub fn roll_back(&mut self, transaction: &Transaction) -> Result<(), CompletionFault>
+        ensures { IsCompleted (RollbackTransaction transaction.now.label) self.old self.new (reply_of result (λ done. Done)) }
     {
-        self.done(Command::RollbackTransaction {
-            transaction: transaction.label,
-        })
+        self.end(Completion::RollbackTransaction(transaction.label))
     }
 
     /// Tells a transaction's GUID, state and outcome.
     pub fn transaction_information(
         &mut self,
         transaction: &Transaction,
-    ) -> Result<TransactionInformation, Failure>
-        ensures { IsCalled (GetTransactionInformation transaction.now.label) self.old self.new (answer_of result reply_of_information) }
+    ) -> Result<TransactionInformation, CompletionFault>
+        ensures { IsCompleted (GetTransactionInformation transaction.now.label) self.old self.new (reply_of result reply_of_information) }
     {
-        self.information(Command::GetTransactionInformation {
-            transaction: transaction.label,
-        })
+        self.information(Completion::GetTransactionInformation(transaction.label))
     }
 
     /// Opens a transaction once more.
@@ -90,10 +84,10 @@ impl<D: Disk> Machine<D> {
 
     /// Closes a transaction that is open. The last one of an active transaction rolls it back. A value from before a restart names
     /// whatever has its label now, or nothing.
-    pub fn close_transaction(&mut self, transaction: Transaction) -> Result<(), Failure>
-        ensures { IsCalled (CloseHandle transaction.label) self.old self.new (answer_of result (λ done. Done)) }
+    pub fn close_transaction(&mut self, transaction: Transaction) -> Result<(), CompletionFault>
+        ensures { IsCompleted (CloseHandle transaction.label) self.old self.new (reply_of result (λ done. Done)) }
     {
         let Transaction { label } = transaction;
-        self.done(Command::CloseHandle { label })
+        self.end(Completion::CloseHandle(label))
     }
 }

@@ -1,6 +1,21 @@
+use Rattle.std.proofs.Common.{sym}
+use Rattle.ktm_route.proofs.offered.Back.{command-back}
 use Rattle.ktm_run.proofs.Answering.{decided, few_calls, is_call, not_executed}
 use Rattle.ktm_run.proofs.Lasting.{lasts_few}
+use Rattle.ktm_route.specs.Completions.{command_of}
 use Rattle.ktm_run.proofs.answer.call.Goals as goal
+
+pub complete-requires-clause-command : goal.complete-requires-clause-command
+complete-requires-clause-command g c = rw (command-back c.args.command c.in-Some.completion (sym c.in-Some.ensures)) c.requires.command
+
+pub returns-in-Some-clause-does : goal.returns-in-Some-clause-does
+returns-in-Some-clause-does g c =
+    rw (← command-back c.args.command c.in-Some.completion (sym c.in-Some.ensures))
+    (decided _ _ c.complete.result (is_call c.args.process (command_of c.in-Some.completion) c.complete.result) c.args.kernel.now c.complete.new.self (g.D.Disk.told c.args.disk.now) (g.D.Disk.told c.complete.new.disk) (g.D.Disk.status c.args.disk.now) (g.D.Disk.status c.complete.new.disk)
+    c.complete.ensures.cause _ (few_calls c.args.kernel.now.journal _) c.complete.ensures.calls c.complete.ensures.does)
+
+pub returns-in-Some-clause-lasts : goal.returns-in-Some-clause-lasts
+returns-in-Some-clause-lasts g c = lasts_few c.args.kernel.now c.complete.new.self c.complete.ensures.counts
 
 pub returns-in-Ok-clause-does : goal.returns-in-Ok-clause-does
 returns-in-Ok-clause-does g c =

@@ -1,0 +1,58 @@
+-- The commands that completions are.
+use Rattle.std.proofs.Common.{◌≡◌, Some, refl, sym, ap}
+use Rattle.ktm_types.specs.declared.command.Command.{Command}
+use Rattle.ktm_types.specs.declared.command.Command.TheVariants.{CreateTransaction, OpenTransaction, CommitTransaction, RollbackTransaction, GetTransactionInformation, CreateResourceManager, OpenResourceManager, RecoverResourceManager, GetNotificationResourceManager, CreateEnlistment, OpenEnlistment, RecoverEnlistment, PrePrepareComplete, PrepareComplete, ReadOnlyEnlistment, CommitComplete, RollbackComplete, SinglePhaseReject, RollbackEnlistment, PrePrepareEnlistment, PrepareEnlistment, CommitEnlistment, SetEnlistmentRecoveryInformation, GetEnlistmentRecoveryInformation, CreateFile, CreateFileTransacted, ReadFile, WriteFile, SetEndOfFile, GetFileSizeEx, FlushFileBuffers, DeleteFile, CreateDirectory, RemoveDirectory, MoveFile, DeleteFileTransacted, CreateDirectoryTransacted, RemoveDirectoryTransacted, MoveFileTransacted, FindFiles, FindFilesTransacted, KvSet, KvUnset, KvGet, KvList, CloseHandle, DuplicateHandle, Exit}
+use Rattle.ktm_types.specs.declared.completion.Completion.{Completion}
+use Rattle.ktm_types.specs.Completions.{completion_of}
+use Rattle.ktm_route.specs.Completions.{command_of}
+
+-- a command that is a completion is the command of that completion
+pub command-back : (command : Command) (completion : Completion) → completion_of command ≡ Some completion → command_of completion ≡ command
+command-back (CreateTransaction label timeout) completion is = absurd (cc)
+command-back (OpenTransaction label guid) completion is = absurd (cc)
+command-back (CommitTransaction label) completion is = let e : Completion.CommitTransaction label ≡ completion = cc in ap command_of (sym e)
+command-back (RollbackTransaction label) completion is = let e : Completion.RollbackTransaction label ≡ completion = cc in ap command_of (sym e)
+command-back (GetTransactionInformation label) completion is = let e : Completion.GetTransactionInformation label ≡ completion = cc in ap command_of (sym e)
+command-back (CreateResourceManager label durability) completion is = absurd (cc)
+command-back (OpenResourceManager label guid) completion is = absurd (cc)
+command-back (RecoverResourceManager manager) completion is = absurd (cc)
+command-back (GetNotificationResourceManager label) completion is = let e : Completion.GetNotificationResourceManager label ≡ completion = cc in ap command_of (sym e)
+command-back (CreateEnlistment label manager transaction kind) completion is = absurd (cc)
+command-back (OpenEnlistment label manager guid) completion is = absurd (cc)
+command-back (RecoverEnlistment enlistment) completion is = absurd (cc)
+command-back (PrePrepareComplete label) completion is = let e : Completion.PrePrepareComplete label ≡ completion = cc in ap command_of (sym e)
+command-back (PrepareComplete label) completion is = let e : Completion.PrepareComplete label ≡ completion = cc in ap command_of (sym e)
+command-back (ReadOnlyEnlistment label) completion is = let e : Completion.ReadOnlyEnlistment label ≡ completion = cc in ap command_of (sym e)
+command-back (CommitComplete label) completion is = let e : Completion.CommitComplete label ≡ completion = cc in ap command_of (sym e)
+command-back (RollbackComplete label) completion is = let e : Completion.RollbackComplete label ≡ completion = cc in ap command_of (sym e)
+command-back (SinglePhaseReject label) completion is = let e : Completion.SinglePhaseReject label ≡ completion = cc in ap command_of (sym e)
+command-back (RollbackEnlistment label) completion is = let e : Completion.RollbackEnlistment label ≡ completion = cc in ap command_of (sym e)
+command-back (PrePrepareEnlistment label) completion is = let e : Completion.PrePrepareEnlistment label ≡ completion = cc in ap command_of (sym e)
+command-back (PrepareEnlistment label) completion is = let e : Completion.PrepareEnlistment label ≡ completion = cc in ap command_of (sym e)
+command-back (CommitEnlistment label) completion is = let e : Completion.CommitEnlistment label ≡ completion = cc in ap command_of (sym e)
+command-back (SetEnlistmentRecoveryInformation enlistment information) completion is = absurd (cc)
+command-back (GetEnlistmentRecoveryInformation enlistment) completion is = absurd (cc)
+command-back (CreateFile label path access share disposition) completion is = absurd (cc)
+command-back (CreateFileTransacted label path access share disposition transaction) completion is = absurd (cc)
+command-back (ReadFile file offset many) completion is = absurd (cc)
+command-back (WriteFile file offset bytes) completion is = absurd (cc)
+command-back (SetEndOfFile file size) completion is = absurd (cc)
+command-back (GetFileSizeEx file) completion is = absurd (cc)
+command-back (FlushFileBuffers file) completion is = absurd (cc)
+command-back (DeleteFile path) completion is = absurd (cc)
+command-back (CreateDirectory path) completion is = absurd (cc)
+command-back (RemoveDirectory path) completion is = absurd (cc)
+command-back (MoveFile source target) completion is = absurd (cc)
+command-back (DeleteFileTransacted path transaction) completion is = absurd (cc)
+command-back (CreateDirectoryTransacted path transaction) completion is = absurd (cc)
+command-back (RemoveDirectoryTransacted path transaction) completion is = absurd (cc)
+command-back (MoveFileTransacted source target transaction) completion is = absurd (cc)
+command-back (FindFiles searched) completion is = absurd (cc)
+command-back (FindFilesTransacted searched transaction) completion is = absurd (cc)
+command-back (KvSet transaction key value) completion is = absurd (cc)
+command-back (KvUnset transaction key) completion is = absurd (cc)
+command-back (KvGet view key) completion is = absurd (cc)
+command-back (KvList view) completion is = absurd (cc)
+command-back (CloseHandle label) completion is = let e : Completion.CloseHandle label ≡ completion = cc in ap command_of (sym e)
+command-back (DuplicateHandle label process source) completion is = absurd (cc)
+command-back Exit completion is = let e : Completion.Exit ≡ completion = cc in ap command_of (sym e)
