@@ -196,10 +196,12 @@ def of_start(side, lines):
 
 # The byte of an image that is raised by each compaction.
 SELECTOR = 2048
-# A file that is open, and a write that gives it 30,000 bytes, in a frame that is a little longer.
-OPENED = 'p1 CreateFile h1 "\\changing" rw - CREATE_NEW'
-WRITE = f"p1 WriteFile h1 0 {workloads.digits(workloads.text(30_000))}"
-FRAME_BYTES = 30_030
+# A transaction that gives a key a value of 960 bytes, which of its lines commits, and how long the frame of that is.
+CHANGE = workloads.script(sets(["big"], 960))
+COMMIT = 2
+FRAME_BYTES = 990
+# How many of them are measured, half of them before the log is full.
+MEASURED = 200
 
 
 def of_compactions(sides, _):
@@ -208,8 +210,8 @@ def of_compactions(sides, _):
     for units, counts in ((16, [10]), (1_024, [10, 1_000])):
         for name, lines in (("keys", key_lines), ("files", file_lines)):
             rows += [[units, f"{count:,} {name}", *compaction(sides.wattorju, units, lines(count))] for count in counts]
-    columns = ["units", "in the image", "writes between two", "a write", "a compaction", "of it for each write"]
-    return Table("compactions", "instructions of a write of 30,000 bytes and of a compaction", columns, rows)
+    columns = ["units", "in the image", "commits between two", "a commit", "a compaction", "of it for each commit"]
+    return Table("compactions", "instructions of a commit of 960 bytes and of a compaction", columns, rows)
 
 
 def key_lines(count):
@@ -224,18 +226,19 @@ def file_lines(count):
 
 
 def compaction(side, units, before):
-    """Returns how many writes there are between two compactions of an image on which these lines were run, and the
-    instructions of a write, of a compaction, and of a compaction for each write."""
-    writes = (8_192 * units + 65_536) // FRAME_BYTES * 5 // 2
+    """Returns how many commits there are between two compactions of an image on which these lines were run, and the
+    instructions of a commit, of a compaction, and of a compaction for each commit."""
+    commits = (8_192 * units + 65_536) // FRAME_BYTES
     with side.state() as image:
         subprocess.run([side.program, "format", image, str(units)], check=True)
-        costs = side.measured(measuring.instructions_by_reply, [*before, OPENED, *[WRITE] * writes], image)[-writes:]
+        side.measured(measuring.run, [*before, *CHANGE * (commits - MEASURED // 2)], image)
+        costs = side.measured(measuring.instructions_by_reply, CHANGE * MEASURED, image)[COMMIT :: len(CHANGE)]
         with open(image, "rb") as left:
             left.seek(SELECTOR)
             times = left.read(1)[0]
     usual = statistics.median(costs)
     whole = sum(it - usual for it in sorted(costs)[-times:])
-    return writes // times, int(usual), int(whole / times), int(whole / writes)
+    return commits, int(usual), int(whole / times), int(whole / times / commits)
 
 
 def of_memory(sides, options):

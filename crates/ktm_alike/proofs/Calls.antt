@@ -16,7 +16,7 @@ use Rattle.ktm_types.specs.declared.reply.Reply.TheVariants.{Done, Contents as B
 use Rattle.ktm_keyed.specs.Keyed.{comes_before}
 use Rattle.ktm_world.specs.Changes.{has_made}
 use Rattle.ktm_world.specs.Conflicts.{is_open_in, writes}
-use Rattle.ktm_world.specs.FileCalls.{Whereabouts, no_path, no_way, free, at_root, at_node, reached, entered, walk, whereabouts_of, find_path, is_no_path, is_no_way, is_free_name, is_root, is_taken, is_at_file, is_at_directory, conflict_test, limit_tests, wants_existing, wants_new, is_truncate_existing, empties, create_act, create_violates, new_open, first_opening, create_at, create_file, create_file_tests, read_file, write_file, write_file_tests, write_access_test, set_end, set_end_tests, get_size, delete_act, is_open_at, drop_at, delete_file, delete_file_tests, make_act, make_at, create_directory, create_directory_tests, remove_act, is_not_empty, remove_directory, remove_directory_tests, move_act, is_into_itself, move_at, move_file, move_file_tests, directory_of, with_entry, in_order, entries, listed, searched_directory, found_entries, is_no_entry, find_files_tests, find_files}
+use Rattle.ktm_world.specs.FileCalls.{Whereabouts, no_path, no_way, free, at_root, at_node, reached, entered, walk, whereabouts_of, find_path, is_no_path, is_no_way, is_free_name, is_root, is_taken, is_at_file, is_at_directory, conflict_test, limit_tests, wants_existing, wants_new, is_truncate_existing, empties, create_act, create_violates, new_open, first_opening, create_at, create_file, create_file_tests, read_file, write_file, write_file_tests, write_units_tests, write_access_test, set_end, set_end_tests, get_size, delete_act, is_open_at, drop_at, delete_file, delete_file_tests, make_act, make_at, create_directory, create_directory_tests, remove_act, is_not_empty, remove_directory, remove_directory_tests, move_act, is_into_itself, move_at, move_file, move_file_tests, directory_of, with_entry, in_order, entries, listed, searched_directory, found_entries, is_no_entry, find_files_tests, find_files}
 use Rattle.ktm_world.specs.FileOutcome.{FileOutcome, FileRoom, answering, lacks_quota, lacks_disk}
 use Rattle.ktm_world.specs.Files.{FilesNow, OpenFile, own_changes, first_open_of, tree_seen, bytes_seen}
 use Rattle.ktm_world.specs.Holds.{Act, place, moves_file, moves_directory}
@@ -395,13 +395,16 @@ module _ (f : ℕ → ℕ) (blank : IsBlank f) (files : FilesNow) (o : OpenFile)
   write_file-mapped offset [] = refl
   write_file-mapped offset (b ∷ bs) = refl
 
+  pub write_units_tests-mapped : (room : FileRoom) (start : ℕ) (contents : List ℕ) → write_units_tests (mapped_files f files) room o start (map f contents) ≡ write_units_tests files room o start contents
+  unfolding write_units_tests
+  write_units_tests-mapped room start contents = λ i.
+      write_access_test o
+      ∷ ((ap (lacks_disk (mapped_files f files) room o.transaction) (write_file-mapped start contents) ∙ lacks_disk-mapped f blank files room o.transaction (write_file o start contents)) i, DiskFull)
+      ∷ []
+
   pub write_file_tests-mapped : (room : FileRoom) (offset : ℕ) (bytes : List ℕ) → write_file_tests (mapped_files f files) room o offset (map f bytes) ≡ write_file_tests files room o offset bytes
   unfolding write_file_tests
-  write_file_tests-mapped room offset bytes = λ i.
-      (nat_lt MOST_AT_ONCE (length-map bytes f i), InvalidParameter)
-      ∷ write_access_test o
-      ∷ ((ap (lacks_disk (mapped_files f files) room o.transaction) (write_file-mapped offset bytes) ∙ lacks_disk-mapped f blank files room o.transaction (write_file o offset bytes)) i, DiskFull)
-      ∷ []
+  write_file_tests-mapped room offset bytes = λ i. (nat_lt MOST_AT_ONCE (length-map bytes f i), InvalidParameter) ∷ write_units_tests-mapped room offset bytes i
 
   pub set_end-mapped : (size : ℕ) → set_end o size ≡ mapped_file_outcome f (set_end o size)
   unfolding set_end

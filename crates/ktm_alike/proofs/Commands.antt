@@ -8,7 +8,7 @@ use Rattle.ktm_base.specs.declared.refusal.Refusal.{Refusal}
 use Rattle.ktm_base.specs.declared.refusal.Refusal.TheVariants.{MachineDown, HandleNoLongerValid, TransactionNotActive}
 use Rattle.ktm_types.specs.declared.change.Change.{Change}
 use Rattle.ktm_types.specs.declared.command.Command.{Command}
-use Rattle.ktm_types.specs.declared.command.Command.TheVariants.{CreateTransaction, OpenTransaction, CommitTransaction, RollbackTransaction, GetTransactionInformation, CreateResourceManager, OpenResourceManager, RecoverResourceManager, GetNotificationResourceManager, CreateEnlistment, OpenEnlistment, RecoverEnlistment, PrePrepareComplete, PrepareComplete, ReadOnlyEnlistment, CommitComplete, RollbackComplete, SinglePhaseReject, RollbackEnlistment, PrePrepareEnlistment, PrepareEnlistment, CommitEnlistment, SetEnlistmentRecoveryInformation, GetEnlistmentRecoveryInformation, CreateFile, CreateFileTransacted, ReadFile, WriteFile, SetEndOfFile, GetFileSizeEx, FlushFileBuffers, DeleteFile, CreateDirectory, RemoveDirectory, MoveFile, DeleteFileTransacted, CreateDirectoryTransacted, RemoveDirectoryTransacted, MoveFileTransacted, FindFiles, FindFilesTransacted, KvSet, KvUnset, KvGet, KvList, CloseHandle, DuplicateHandle, Exit}
+use Rattle.ktm_types.specs.declared.command.Command.TheVariants.{CreateTransaction, OpenTransaction, CommitTransaction, RollbackTransaction, GetTransactionInformation, CreateResourceManager, OpenResourceManager, RecoverResourceManager, GetNotificationResourceManager, CreateEnlistment, OpenEnlistment, RecoverEnlistment, PrePrepareComplete, PrepareComplete, ReadOnlyEnlistment, CommitComplete, RollbackComplete, SinglePhaseReject, RollbackEnlistment, PrePrepareEnlistment, PrepareEnlistment, CommitEnlistment, SetEnlistmentRecoveryInformation, GetEnlistmentRecoveryInformation, CreateFile, CreateFileTransacted, ReadFile, WriteFile, SetEndOfFile, WriteUnits, GetFileSizeEx, FlushFileBuffers, DeleteFile, CreateDirectory, RemoveDirectory, MoveFile, DeleteFileTransacted, CreateDirectoryTransacted, RemoveDirectoryTransacted, MoveFileTransacted, FindFiles, FindFilesTransacted, KvSet, KvUnset, KvGet, KvList, CloseHandle, DuplicateHandle, Exit}
 use Rattle.ktm_types.specs.declared.event.Event.TheVariants.{MadeRm}
 use Rattle.ktm_types.specs.declared.input.PhaseInput.{PhaseInput}
 use Rattle.ktm_types.specs.declared.object.Object.{Object}
@@ -18,7 +18,7 @@ use Rattle.ktm_types.specs.declared.options.EnlistmentKind.{EnlistmentKind}
 use Rattle.ktm_types.specs.declared.reply.Reply.TheVariants.{Refused}
 use Rattle.ktm_world.specs.Decide.{caller, events_of, of_files, bound_file, opening, own_tests, on_file_tests, on_file, transacted, command_tests, command_effect, refusal_of, decide}
 use Rattle.ktm_world.specs.Enlistments.{Enlistment, Manager, Note}
-use Rattle.ktm_world.specs.FileCalls.{create_file, read_file, write_file, write_access_test, set_end, get_size, flush_file, delete_file, create_directory, remove_directory, move_file, find_files, set_end_tests, write_file_tests, read_file_tests}
+use Rattle.ktm_world.specs.FileCalls.{create_file, read_file, write_file, write_access_test, set_end, get_size, flush_file, delete_file, create_directory, remove_directory, move_file, find_files, set_end_tests, write_file_tests, write_units_tests, read_file_tests}
 use Rattle.ktm_world.specs.FileOutcome.{FileOutcome, openings_of}
 use Rattle.ktm_world.specs.Files.{FilesNow, OpenFile}
 use Rattle.ktm_world.specs.HandleCalls.{bind_to, duplicate_handle, duplicate_handle_tests}
@@ -36,7 +36,7 @@ use Rattle.ktm_mapped.specs.Mapped.{IsBlank, mapped_tree, mapped_change, mapped_
 use Rattle.ktm_mapped.proofs.offered.Lists.{cond-mapped}
 use Rattle.ktm_mapped.proofs.offered.Trees.{is_file-mapped}
 use Rattle.ktm_alike.specs.Alike.{mapped_files, mapped_file_outcome, mapped_present, mapped_command, mapped_read, mapped_reply, mapped_outcome, mapped_answer}
-use Rattle.ktm_alike.proofs.Calls.{create_file-mapped, create_file_tests-mapped, delete_file-mapped, delete_file_tests-mapped, create_directory-mapped, create_directory_tests-mapped, remove_directory-mapped, remove_directory_tests-mapped, move_file-mapped, move_file_tests-mapped, find_files-mapped, find_files_tests-mapped, read_file-mapped, write_file-mapped, write_file_tests-mapped, set_end-mapped, set_end_tests-mapped, get_size-mapped}
+use Rattle.ktm_alike.proofs.Calls.{create_file-mapped, create_file_tests-mapped, delete_file-mapped, delete_file_tests-mapped, create_directory-mapped, create_directory_tests-mapped, remove_directory-mapped, remove_directory_tests-mapped, move_file-mapped, move_file_tests-mapped, find_files-mapped, find_files_tests-mapped, read_file-mapped, write_file-mapped, write_file_tests-mapped, write_units_tests-mapped, set_end-mapped, set_end_tests-mapped, get_size-mapped}
 use Rattle.ktm_alike.proofs.Courses.{commit_of-mapped, rollback_of-mapped, answering-mapped}
 use Rattle.ktm_alike.proofs.offered.Outcomes.{works_of-mapped, table_after-mapped, file_changes_waiting-mapped}
 use Rattle.ktm_alike.proofs.Presents.{close_handle-mapped, exit-mapped, tick-mapped}
@@ -205,6 +205,8 @@ module _ (f : ℕ → ℕ) (blank : IsBlank f) (x : Present) where
       on_file_tests-mapped f x process file (λ o. write_file_tests (mapped_files f x.files) (file_room x) o offset (map f bytes)) (λ o. write_file_tests x.files (file_room x) o offset bytes) (λ o. write_file_tests-mapped f blank x.files o (file_room x) offset bytes)
   tests-mapped process (SetEndOfFile file size) =
       on_file_tests-mapped f x process file (λ o. set_end_tests (mapped_files f x.files) (file_room x) o size) (λ o. set_end_tests x.files (file_room x) o size) (λ o. set_end_tests-mapped f blank x.files o (file_room x) size)
+  tests-mapped process (WriteUnits file start contents) =
+      on_file_tests-mapped f x process file (λ o. write_units_tests (mapped_files f x.files) (file_room x) o start (map f contents)) (λ o. write_units_tests x.files (file_room x) o start contents) (λ o. write_units_tests-mapped f blank x.files o (file_room x) start contents)
   tests-mapped process (GetFileSizeEx file) = file_tests-mapped f x process file
   tests-mapped process (FlushFileBuffers file) = on_file_tests-mapped f x process file (λ o. write_access_test o ∷ []) (λ o. write_access_test o ∷ []) (λ o. refl)
   tests-mapped process (DeleteFile path) = delete_file_tests-mapped f blank x.files None (file_room x) path
@@ -260,6 +262,7 @@ module _ (f : ℕ → ℕ) (blank : IsBlank f) (x : Present) where
   effect-mapped process (ReadFile file offset many) = on_file-read (file_named x process file) offset many
   effect-mapped process (WriteFile file offset bytes) = on_file-mapped (file_named x process file) (λ o. write_file o offset (map f bytes)) (λ o. write_file o offset bytes) (λ o. write_file-mapped f blank x.files o offset bytes)
   effect-mapped process (SetEndOfFile file size) = on_file-mapped (file_named x process file) (λ o. set_end o size) (λ o. set_end o size) (λ o. set_end-mapped f blank x.files o size)
+  effect-mapped process (WriteUnits file start contents) = on_file-mapped (file_named x process file) (λ o. write_file o start (map f contents)) (λ o. write_file o start contents) (λ o. write_file-mapped f blank x.files o start contents)
   effect-mapped process (GetFileSizeEx file) = on_file-mapped (file_named x process file) (λ o. get_size (mapped_files f x.files) o) (λ o. get_size x.files o) (λ o. get_size-mapped f blank x.files o)
   effect-mapped process (FlushFileBuffers file) = on_file-mapped (file_named x process file) (λ o. flush_file) (λ o. flush_file) (λ o. refl)
   effect-mapped process (DeleteFile path) = of_files-mapped None (delete_file (mapped_files f x.files) None path) (delete_file x.files None path) (delete_file-mapped f blank x.files None path)

@@ -1,7 +1,7 @@
 -- What is so now, commands, and what they come to, with every byte of every content replaced by another one.
 use Rattle.std.specs.Prelude.{ℕ, map, option_map}
 use Rattle.ktm_types.specs.declared.command.Command.{Command}
-use Rattle.ktm_types.specs.declared.command.Command.TheVariants.{ReadFile, WriteFile}
+use Rattle.ktm_types.specs.declared.command.Command.TheVariants.{ReadFile, WriteFile, WriteUnits}
 use Rattle.ktm_types.specs.declared.reply.Reply.{Reply}
 use Rattle.ktm_types.specs.declared.reply.Reply.TheVariants.{Contents}
 use Rattle.ktm_world.specs.Committed.{Committed, Work}
@@ -51,9 +51,10 @@ mapped_file_outcome f o = record o { change = option_map (mapped_change f) o.cha
 abbrev pub mapped_present : (ℕ → ℕ) → Present → Present
 mapped_present f x = record x { recorded = mapped_durable f x.recorded; files = mapped_files f x.files }
 
--- a command, of which WriteFile has bytes of a file
+-- a command, of which WriteFile has bytes of a file, and a put of whole units has all of theirs
 abbrev pub mapped_command : (ℕ → ℕ) → Command → Command
 mapped_command f (WriteFile file offset bytes) = WriteFile file offset (map f bytes)
+mapped_command f (WriteUnits file start contents) = WriteUnits file start (map f contents)
 mapped_command f command = command
 
 -- the bytes that a reply tells; none else stand in a file

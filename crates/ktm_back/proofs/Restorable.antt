@@ -51,7 +51,7 @@ module _ (limits : LimitsLaw) (s : Durable) (good : IsGoodState s) (small : s.un
   fits : Fits x
   fits = fits-within x (limits.restarts s [] good)
 
-  room : x.recorded.units ≤ 1024
+  room : x.recorded.units ≤ MOST_UNITS
   room = let same = units-events (own_group s) s in omega arith
 
   -- ---- files
@@ -89,7 +89,7 @@ module _ (limits : LimitsLaw) (s : Durable) (good : IsGoodState s) (small : s.un
     unfolding file_changes_waiting
     names-first = let less = fewer (λ o. count_by (λ change. not (changes_bytes change)) o.changes) in omega arith
 
-    names-few : file_changes_waiting x.files ≤ 1024
+    names-few : file_changes_waiting x.files ≤ MOST_UNITS
     unfolding changes_waiting
     names-few = let few = fits.changes in let most = room in omega arith
 
@@ -152,7 +152,7 @@ module _ (limits : LimitsLaw) (s : Durable) (good : IsGoodState s) (small : s.un
         let both = sum_by-append count (before ++ o ∷ []) behind in
         omega arith
 
-    unset-few : changes_pending x.keys ≤ 1024
+    unset-few : changes_pending x.keys ≤ MOST_UNITS
     unfolding changes_waiting
     unset-few = let few = fits.changes in let most = room in omega arith
 

@@ -4,7 +4,7 @@
 pub const LEAST_UNITS: u32 = 16;
 
 /// The most units that an image may have.
-pub const MOST_UNITS: u32 = 1024;
+pub const MOST_UNITS: u32 = 16_384;
 
 /// The units of an image that is made where there is none.
 pub const NEW_UNITS: u32 = 1024;

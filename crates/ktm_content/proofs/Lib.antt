@@ -1,3 +1,2 @@
 pub mod offered
-pub mod Putting
 pub mod States

@@ -1,2 +1,4 @@
 pub mod Bytes
 pub mod Placing
+pub mod PutBytes
+pub mod Putting

@@ -1,2 +1,2 @@
-pub mod PlacedChanges
+pub mod Contents
 pub mod Places

@@ -1,16 +1,17 @@
 // Contents on pages.
-ghost use Rattle.std.specs.Prelude.{◌≡◌, ◌+◌, ◌/◌, ◌≤◌, ◌==◌, [], length, vec_capacity, IfOk, IsOk, OnOk};
+ghost use Rattle.std.specs.Prelude.{◌≡◌, ◌↔◌, ◌+◌, ◌/◌, ◌≤◌, [], length, vec_capacity, IsOk, IsTrue, OnOk};
 ghost use Rattle.ktm_base.specs.Bytes.{written};
-ghost use Rattle.ktm_world.specs.Tree.{cut_to, put_over, units_of};
+ghost use Rattle.ktm_content.specs.Contents.{cut_to, put_over, units_of};
 ghost use Rattle.ktm_content.specs.Places.{CanBePut, LieOn, places_on};
 
+use crate::lent::PlacedRef;
 use ktm_base::{NoMemory, PageList, UNIT_BYTES};
 use std::alloc::Global;
 use std::marker::Model;
 
 /// The content of a file: its size in bytes, and the page of each unit of 4,096 bytes. What a page holds behind the size is not of it.
 /// Contracts see the place of each byte in the row of pages, and for how many bytes there is room, up to as many as a size can say.
-#[derive(Drop)]
+#[derive(Debug, Drop)]
 pub struct Content {
     size: u64,
     pages: Vec<u32>,
@@ -80,7 +81,7 @@ impl Content {
 
     /// Are there no bytes.
     pub fn is_empty(&self) -> bool
-        ensures { result ≡ (length self.now.bytes == 0) }
+        ensures { IsTrue result ↔ (self.now.bytes ≡ []) }
     {
         self.len() == 0
     }
@@ -99,37 +100,43 @@ impl Content {
         &self.pages
     }
 
-    /// The same bytes on the same pages: their numbers are copied, and no byte is. It fails where there is no memory for them.
-    pub fn copy(&self, alloc: Global) -> Result<Content, NoMemory>
-        ensures { IfOk result (λ copy. copy.bytes ≡ self.now.bytes) }
+    /// The content, lent.
+    pub fn lend(&self) -> PlacedRef<'_>
+        ensures { result ≡ self.now.bytes }
     {
-        Ok(Content {
+        PlacedRef {
             size: self.size,
-            pages: Vec::from_slice(alloc, &self.pages)?,
-        })
+            pages: &self.pages,
+        }
     }
 
-    /// Takes the memory with which there can be so many bytes. It fails where there is none.
-    pub fn reserve(&mut self, size: u64) -> Result<(), NoMemory>
+    /// Takes the memory with which there can be so many bytes from the start on. It fails where there is none, and takes none where
+    /// there are as many bytes.
+    pub fn reserve(&mut self, start: u64, many: u64) -> Result<(), NoMemory>
         ensures bytes { self.new.bytes ≡ self.old.bytes }
-        ensures room { OnOk result (size ≤ self.new.room) }
+        ensures room { OnOk result (start + many ≤ self.new.room) }
         ensures grows { self.old.room ≤ self.new.room }
-        ensures enough { size ≤ self.old.room → IsOk result }
+        ensures enough { start + many ≤ self.old.room → IsOk result }
+        ensures within { start + many ≤ length self.old.bytes → IsOk result }
     {
+        let pages = &mut self.pages;
+        let Some(size) = start.checked_add(many) else {
+            return Err(NoMemory);
+        };
         let units = size.div_ceil(UNIT_BYTES) as usize;
-        self.pages.reserve(units.saturating_sub(self.pages.len()))?;
+        pages.reserve(units.saturating_sub(pages.len()))?;
         Ok(())
     }
 
     /// Puts the pages of others in place of those of the units that they have, and behind them. It takes no memory.
-    pub fn put(&mut self, start: u64, part: &Content)
-        requires can { CanBePut self.old.bytes start part.now.bytes }
-        requires room { start + length part.now.bytes ≤ self.old.room }
-        ensures bytes { self.new.bytes ≡ put_over self.old.bytes start part.now.bytes }
+    pub fn put(&mut self, start: u64, part: PlacedRef<'_>)
+        requires can { CanBePut self.old.bytes start part }
+        requires room { start + length part ≤ self.old.room }
+        ensures bytes { self.new.bytes ≡ put_over self.old.bytes start part.entry }
         ensures room { self.old.room ≤ self.new.room }
     {
         let first = (start / UNIT_BYTES) as usize;
-        put_pages(&mut self.pages, first, &part.pages);
+        put_pages(&mut self.pages, first, part.pages);
         self.size = self.size.max(start + part.size);
     }
 

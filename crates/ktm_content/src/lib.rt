@@ -1,12 +1,11 @@
-//! Contents of files on pages, which contracts see as the places of their bytes in a row of pages, and changes of the tree with such
-//! contents.
+//! Contents of files on pages, which contracts see as the places of their bytes in a row of pages: one that changes, one that stays
+//! as it is, and one that is lent.
 #![tactic(auto)]
 
-mod change;
 mod content;
+mod lent;
+mod placed;
 
-pub use change::{
-    PlacedChange, PlacedChangeKind, PlacedChanges, changes_bytes, is_drop, is_make, next_after,
-    node_of,
-};
 pub use content::Content;
+pub use lent::PlacedRef;
+pub use placed::Placed;

@@ -1,7 +1,7 @@
 -- Steps one after another.
-use Rattle.std.proofs.Common.{◌≡◌, ℕ, suc, Bool, true, false, ◌==◌, not, List, [], ◌∷◌, ◌++◌, length, refl, sym, ◌∙◌, ap, append_assoc, arith}
+use Rattle.std.proofs.Common.{◌≡◌, ℕ, zero, suc, Bool, true, false, ◌==◌, not, List, [], ◌∷◌, ◌++◌, length, refl, sym, ◌∙◌, ap, append_assoc, arith}
 use Rattle.std.proofs.lemmas.Bool.{eqb-true, false_from_ne_true}
-use Rattle.ktm_event.specs.Work.{FinalFile, bytes_changes, changes_of}
+use Rattle.ktm_event.specs.Work.{FinalFile, changes_of, pages_changes}
 use Rattle.ktm_types.specs.declared.change.Change.{Change}
 use Rattle.ktm_types.specs.declared.event.Event.{Event}
 use Rattle.ktm_types.specs.declared.step.Step.{Step}
@@ -49,8 +49,8 @@ pub by_files : (names : List Change) (files : List FinalFile) (none unwritten : 
 by_files (n ∷ ns) files none unwritten is all written = let there = some_there (length ns) in absurd (cc)
 by_files [] [] none unwritten is all written = ap not written
 by_files [] (f ∷ fs) none unwritten is all written =
-    ap not (written ∙ some_there (length fs)) ∙ sym (some_bytes f.file f.bytes _)
+    ap not (written ∙ some_there (length fs)) ∙ sym (some_changes f.file f.len f.pages _)
   where
-    some_bytes : (file : ℕ) (bytes : List ℕ) (rest : List Change) → has_changes (bytes_changes file bytes ++ rest) ≡ true
-    some_bytes file [] rest = refl
-    some_bytes file (b ∷ bs) rest = refl
+    some_changes : (file len : ℕ) (pages : List ℕ) (rest : List Change) → has_changes (pages_changes file len pages ++ rest) ≡ true
+    some_changes file zero pages rest = refl
+    some_changes file (suc n) pages rest = refl

@@ -5,7 +5,7 @@ use Rattle.ktm_course.specs.declared.parts.Enlisted.{Enlisted}
 use Rattle.ktm_course.specs.declared.parts.Entry.{Entry}
 use Rattle.ktm_course.specs.declared.parts.Entry.TheVariants.{Work, Held, Decide, Undo, Done}
 use Rattle.ktm_course.specs.declared.parts.Parts.{Parts}
-use Rattle.ktm_event.specs.Work.{FinalFile, changes_of, part_of, work_event}
+use Rattle.ktm_event.specs.Work.{FinalFile, IsRecordableWork, changes_of, part_of, work_event}
 use Rattle.ktm_types.specs.declared.event.Event.{Event}
 use Rattle.ktm_types.specs.declared.step.Step.{Step}
 use Rattle.ktm_types.specs.declared.step.Step.TheVariants.{Record}
@@ -52,6 +52,11 @@ entry_event files_of id (Held enlistment manager information) = Event.Held id en
 entry_event files_of id Decide = Event.Decide id
 entry_event files_of id Undo = Event.Undo id
 entry_event files_of id (Done done) = Event.Done id done
+
+-- the changes of names in an entry put no contents but such as stand on pages
+abbrev pub IsRecordableEntry : {F : Type 0} → Entry F → Type 0
+IsRecordableEntry (Work stage work) = IsRecordableWork work
+IsRecordableEntry _ = Unit {0}
 
 -- the events of an entry, if there is one
 abbrev pub entries : {F : Type 0} → (F → List FinalFile) → Id → Option (Entry F) → List Event

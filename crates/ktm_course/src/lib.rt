@@ -2,8 +2,10 @@
 //! them.
 #![tactic(auto)]
 
+mod laws;
 mod moved;
 mod parts;
 
+pub use laws::law_of_pages;
 pub use moved::{commits, is_undecided, records_files};
 pub use parts::{Enlisted, Parts};

@@ -1,8 +1,8 @@
 // What a transaction records by its steps.
-ghost use Rattle.std.specs.Prelude.{◌≡◌, ◌+◌, ◌-◌, ◌≤◌, ◌∷◌, ◌++◌, [], All, List, Option, None, sum_by, is_some};
-ghost use Rattle.ktm_course.specs.Recorded.{IsBasis, IsCaller, IsSuperior, entries, entry_event, recorded_after};
+ghost use Rattle.std.specs.Prelude.{◌≡◌, ◌+◌, ◌-◌, ◌≤◌, ◌∷◌, ◌++◌, [], All, IfSome, List, Option, None, sum_by, is_some};
+ghost use Rattle.ktm_course.specs.Recorded.{IsBasis, IsCaller, IsRecordableEntry, IsSuperior, entries, entry_event, recorded_after};
 ghost use Rattle.ktm_event.specs.Kept.{Holds};
-ghost use Rattle.ktm_event.specs.Spelling.{IsSpellableEvent};
+ghost use Rattle.ktm_event.specs.Spelling.{IsRecordableChange, IsSpellableEvent};
 ghost use Rattle.ktm_event.specs.Work.{changes_of};
 ghost use Rattle.ktm_world.specs.Enlistments.{Enlistment, Manager};
 ghost use Rattle.ktm_world.specs.Steps.{Basis, event_of_caller, events_ahead, events_of, held_event, is_of_durable, is_recorded_by};
@@ -33,7 +33,7 @@ pub struct Enlisted<'a> {
 pub struct Parts<'a, F> {
     /// What the files made, moved and dropped, in order.
     pub names: &'a [Change],
-    /// The files that were written, with all of their bytes.
+    /// The files that were written, with their pages.
     pub files: &'a F,
     /// What was set of the keys.
     pub settings: &'a [Setting],
@@ -61,6 +61,7 @@ impl<F: WrittenFiles> Entry<'_, F> {
     // Puts its event into the list.
     fn push(self, transaction: Id, events: &mut Events)
         requires spelled { IsSpellableEvent (entry_event F.files transaction self) }
+        requires recordable { IsRecordableEntry self }
         requires fits { event_size (entry_event F.files transaction self) ≤ events.old.spare }
         ensures adds { (group : List Recorded) → Holds events.old group → Holds events.new (group ++ entry_event F.files transaction self.entry ∷ []) }
         ensures spare { events.new.spare + event_size (entry_event F.files transaction self.entry) ≡ events.old.spare }
@@ -82,8 +83,9 @@ impl<F: WrittenFiles> Entry<'_, F> {
 
 // The event by which the caller is prepared, where its resource manager is durable.
 fn ready_entry<'a, F: WrittenFiles>(caller: Option<Enlisted<'a>>) -> Option<Entry<'a, F>>
-    ensures { (id : OfTransaction) (ms : List Manager) (e : Option Enlistment) → IsCaller ms e caller.entry
+    ensures events { (id : OfTransaction) (ms : List Manager) (e : Option Enlistment) → IsCaller ms e caller.entry
         → entries F.files id result ≡ event_of_caller e ms (λ e. Recorded.Ready id (enlistment_part e)) }
+    ensures recordable { IfSome result IsRecordableEntry }
 {
     match caller {
         Some(caller) if caller.is_durable => {
@@ -100,8 +102,9 @@ fn ready_entry<'a, F: WrittenFiles>(caller: Option<Enlisted<'a>>) -> Option<Entr
 
 // The event by which the caller is done, where its resource manager is durable.
 fn done_entry<'a, F: WrittenFiles>(caller: Option<Enlisted<'a>>) -> Option<Entry<'a, F>>
-    ensures { (id : OfTransaction) (ms : List Manager) (e : Option Enlistment) → IsCaller ms e caller.entry
+    ensures events { (id : OfTransaction) (ms : List Manager) (e : Option Enlistment) → IsCaller ms e caller.entry
         → entries F.files id result ≡ event_of_caller e ms (λ e. Recorded.Done id (OfDone.Enlistment e.id)) }
+    ensures recordable { IfSome result IsRecordableEntry }
 {
     match caller {
         Some(caller) if caller.is_durable => {
@@ -113,7 +116,8 @@ fn done_entry<'a, F: WrittenFiles>(caller: Option<Enlisted<'a>>) -> Option<Entry
 
 // The event by which the superior has prepared the transaction.
 fn held_entry<'a, F: WrittenFiles>(superior: Option<Enlisted<'a>>) -> Option<Entry<'a, F>>
-    ensures { (id : OfTransaction) (e : Option Enlistment) → IsSuperior e superior.entry → entries F.files id result ≡ held_event id e }
+    ensures events { (id : OfTransaction) (e : Option Enlistment) → IsSuperior e superior.entry → entries F.files id result ≡ held_event id e }
+    ensures recordable { IfSome result IsRecordableEntry }
 {
     match superior {
         Some(superior) => Some(Entry::Held {
@@ -152,7 +156,8 @@ impl<'a, F: WrittenFiles> Parts<'a, F> {
 
     // What is recorded by a fact, if anything is.
     fn entry(&self, fact: Fact, is_recorded: bool) -> Option<Entry<'a, F>>
-        ensures { (id : OfTransaction) (b : Basis) → IsBasis F.files b id is_recorded self.now → entries F.files id result ≡ events_of fact b }
+        ensures events { (id : OfTransaction) (b : Basis) → IsBasis F.files b id is_recorded self.now → entries F.files id result ≡ events_of fact b }
+        ensures recordable { All IsRecordableChange self.now.names.now → IfSome result IsRecordableEntry }
     {
         let changes = Work::Changes {
             names: self.names,
@@ -200,6 +205,7 @@ impl<'a, F: WrittenFiles> Parts<'a, F> {
 
     // Puts the events into the list that a step records of a transaction.
     fn record_step(&self, transaction: Id, is_recorded: bool, step: &Step, events: &mut Events)
+        requires recordable { All IsRecordableChange self.now.names.now }
         requires spelled { (b : Basis) → IsBasis F.files b transaction is_recorded self.now → All IsSpellableEvent (events_ahead (step.now ∷ []) b) }
         requires fits { (b : Basis) → IsBasis F.files b transaction is_recorded self.now → sum_by event_size (events_ahead (step.now ∷ []) b) ≤ events.old.spare }
         ensures adds { (b : Basis) (group : List Recorded) → IsBasis F.files b transaction is_recorded self.now → Holds events.old group
@@ -215,8 +221,10 @@ impl<'a, F: WrittenFiles> Parts<'a, F> {
         }
     }
 
-    /// Puts the events into the list that the steps record of a transaction.
+    /// Puts the events into the list that the steps record of a transaction. The contents of its files are recorded by their
+    /// pages.
     pub fn record(&self, transaction: Id, is_recorded: bool, steps: &[Step], events: &mut Events)
+        requires recordable { All IsRecordableChange self.now.names.now }
         requires spelled { (b : Basis) → IsBasis F.files b transaction is_recorded self.now → All IsSpellableEvent (events_ahead steps.now b) }
         requires fits { (b : Basis) → IsBasis F.files b transaction is_recorded self.now → sum_by event_size (events_ahead steps.now b) ≤ events.old.spare }
         ensures adds { (b : Basis) (group : List Recorded) → IsBasis F.files b transaction is_recorded self.now → Holds events.old group

@@ -1,4 +1,5 @@
 mod Puts
 mod Paths
 mod Stages
+mod Alike
 pub mod offered

@@ -1,3 +1,4 @@
 pub mod Written
 pub mod Text
 pub mod Worked
+pub mod Alike

@@ -44,9 +44,9 @@ full = record {
 
 -- the text of each of the two
 pub record AreWrittenSo : Type 0 where
-  pub of_started : state_text started ≡ lines (codes "layout=1 units=1024 events=1 boots=1" ∷ [])
+  pub of_started : state_text started ≡ lines (codes "layout=3 units=1024 events=1 boots=1" ∷ [])
   pub of_full : state_text full ≡ lines (
-      codes "layout=1 units=16 events=1000000 boots=12"
+      codes "layout=3 units=16 events=1000000 boots=12"
       ∷ codes "rm 00000001-0002-00ab-0000-000000000001"
       ∷ codes "rm 0000000c-0002-00ab-0000-00000000cdef"
       ∷ codes "held 0000000b-0001-00ab-0000-000000000001"

@@ -8,7 +8,7 @@ mod value;
 mod waiting;
 mod write;
 
-pub use laws::law_of_worked_texts;
+pub use laws::{law_of_texts, law_of_worked_texts};
 pub use line::LAYOUT;
 pub use state::write_state;
 pub use write::{write_all, write_line};

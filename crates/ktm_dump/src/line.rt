@@ -1,5 +1,5 @@
 // The lines of the text, each for one thing of a state.
-ghost use Rattle.std.specs.Prelude.{◌≡◌, ◌++◌, decimal, length, option_map};
+ghost use Rattle.std.specs.Prelude.{◌≡◌, ◌++◌, decimal, length};
 ghost use Rattle.ktm_codec.specs.Quoted.{quoted};
 ghost use Rattle.ktm_dump.specs.Text.{counts_line, guid_line, head_line, key_line, kind_word, manager_line, node_line, path_up, size_word, transaction_lines};
 ghost use Rattle.ktm_dump.specs.Written.{Puts, out};
@@ -17,7 +17,7 @@ use txf_tree::{NodeRef, Tree};
 use uuid::Uuid;
 
 /// The layout of the images that the system reads and writes, as their header says it.
-pub const LAYOUT: u64 = 1;
+pub const LAYOUT: u64 = 3;
 
 // Puts a word and a number.
 fn put_count<K: Sink>(
@@ -160,26 +160,22 @@ fn put_path<K: Sink>(
 }
 
 // What a node is.
-fn kind_word(content: Option<&[u8]>) -> &'static [u8]
-    ensures { result.now ≡ kind_word (option_map (λ bytes. bytes.now) content.entry) }
+fn kind_word(node: &NodeRef<'_>) -> &'static [u8]
+    ensures { result.now ≡ kind_word (node_seen node.now).content }
 {
-    match content {
+    match &node.content {
         None => b"dir ",
         Some(_) => b"file ",
     }
 }
 
 // Puts how many bytes a file has.
-fn put_size<K: Sink>(
-    sink: &mut K,
-    waiting: &mut Vec<u8>,
-    content: Option<&[u8]>,
-) -> Result<(), Failed>
-    ensures { Puts (out (K.taken sink.old) (K.faults sink.old) waiting.old.items) (out (K.taken sink.new) (K.faults sink.new) waiting.new.items) (size_word (option_map (λ bytes. bytes.now) content.entry)) result }
+fn put_size<K: Sink>(sink: &mut K, waiting: &mut Vec<u8>, node: &NodeRef<'_>) -> Result<(), Failed>
+    ensures { Puts (out (K.taken sink.old) (K.faults sink.old) waiting.old.items) (out (K.taken sink.new) (K.faults sink.new) waiting.new.items) (size_word (node_seen node.now).content) result }
 {
-    match content {
+    match &node.content {
         None => Ok(()),
-        Some(bytes) => put_count(sink, waiting, b" ", bytes.len() as u64),
+        Some(bytes) => put_count(sink, waiting, b" ", bytes.len()),
     }
 }
 
@@ -213,13 +209,13 @@ pub fn put_node<K: Sink>(
 ) -> Result<(), Failed>
     ensures { Puts (out (K.taken sink.old) (K.faults sink.old) waiting.old.items) (out (K.taken sink.new) (K.faults sink.new) waiting.new.items) (node_line (tree_of tree.now) (node_seen node.entry)) result }
 {
-    if let Err(Failed) = put(sink, waiting, kind_word(node.content)) {
+    if let Err(Failed) = put(sink, waiting, kind_word(&node)) {
         return Err(Failed);
     }
     if let Err(Failed) = put_quoted_path(sink, waiting, tree, node.number) {
         return Err(Failed);
     }
-    if let Err(Failed) = put_size(sink, waiting, node.content) {
+    if let Err(Failed) = put_size(sink, waiting, &node) {
         return Err(Failed);
     }
     if let Err(Failed) = put(sink, waiting, b"\n") {

@@ -1,9 +1,9 @@
 -- How what is read of a change at one place goes on at the next.
-use Rattle.std.proofs.Common.{◌≡◌, ◌≢◌, ◌≤◌, ℕ, None, List, [], ◌∷◌, length, refl, ap, arith}
-use Rattle.ktm_base.specs.Grammar.{IsU8, IsBytesOf}
+use Rattle.std.proofs.Common.{◌≡◌, ◌≢◌, ◌≤◌, ℕ, zero, suc, None, List, [], refl, arith}
+use Rattle.ktm_base.specs.Grammar.{IsU8, IsU32}
 use Rattle.ktm_codec.specs.Spans.{Spans, Reads}
-use Rattle.ktm_codec.proofs.Forms.{unambiguous_u8, unambiguous_bytes}
-use Rattle.ktm_codec.proofs.SpansLemmas.{one_reading}
+use Rattle.ktm_codec.proofs.Forms.{unambiguous_u8, unambiguous_u32}
+use Rattle.ktm_codec.proofs.SpansLemmas.{one_reading, spans_parts}
 use Rattle.ktm_types.specs.declared.change.Change.{Change}
 use Rattle.ktm_types.specs.declared.change.Change.TheVariants.{Make, Put, Cut, Move, Drop}
 use Rattle.ktm_types.specs.declared.change.Contents.TheVariants.{Whole, Paged}
@@ -11,7 +11,7 @@ use Rattle.ktm_types.specs.declared.change.NodeKind.TheVariants.{File, Directory
 use Rattle.ktm_types.specs.EventGrammar.{IsKindOf, IsPutOf, IsChangeOf}
 use Rattle.ktm_event.specs.Reading.{Behind}
 use Rattle.ktm_event.proofs.Tags.{other_tag, no_byte}
-use Rattle.ktm_event.proofs.Changes.{IsMakeOf, IsPutAtOf, IsCutToOf, IsMoveOf}
+use Rattle.ktm_event.proofs.Changes.{IsMakeOf, IsPagedOf, IsPutAtOf, IsCutToOf, IsMoveOf}
 use Rattle.ktm_event.proofs.Readings.{Absent, tag_after}
 
 module _ {bytes : List ℕ} {at : ℕ} where
@@ -26,21 +26,25 @@ module _ {bytes : List ℕ} {at : ℕ} where
   other_kind {tag} {mid} read file directory File end spans = file (one_reading IsU8 unambiguous_u8 bytes at tag 0 mid end read spans).0
   other_kind {tag} {mid} read file directory Directory end spans = directory (one_reading IsU8 unambiguous_u8 bytes at tag 1 mid end read spans).0
 
-  pub no_contents : Reads IsBytesOf bytes at None → Reads IsPutOf bytes at None
-  no_contents none (Whole []) end spans = spans.form
-  no_contents none (Whole (c ∷ cs)) end spans = none (c ∷ cs) end spans
-  no_contents none (Paged pages) end spans = spans.form
+  pub no_contents : Absent IsPagedOf bytes at → Absent IsPutOf bytes at
+  no_contents absent = record { none = none }
+    where
+      none : Reads IsPutOf bytes at None
+      none (Whole contents) end spans = spans.form
+      none (Paged zero pages) end spans = spans.form
+      none (Paged (suc n) pages) end spans = absent.none (suc n, pages) end spans
 
-  pub empty_contents : {contents : List ℕ} {end : ℕ} → Spans (IsBytesOf contents) bytes at end → length contents ≡ 0 → Reads IsPutOf bytes at None
-  empty_contents read empty (Whole []) end' spans = spans.form
-  empty_contents {contents} {end} read empty (Whole (c ∷ cs)) end' spans =
-      let (same, ends) = one_reading IsBytesOf unambiguous_bytes bytes at contents (c ∷ cs) end end' read spans in
-      absurd (omega (arith, empty, ap (λ (l : List ℕ). length l) same))
-  empty_contents read empty (Paged pages) end' spans = spans.form
+  pub empty_contents : {len mid : ℕ} → Spans (IsU32 len) bytes at mid → len ≡ 0 → Reads IsPutOf bytes at None
+  empty_contents read empty (Whole contents) end spans = spans.form
+  empty_contents read empty (Paged zero pages) end spans = spans.form
+  empty_contents {len} {mid} read empty (Paged (suc n) pages) end spans =
+      let (mid', first, rest) = spans_parts bytes at end spans in
+      let (same, places) = one_reading IsU32 unambiguous_u32 bytes at len (suc n) mid mid' read first in
+      absurd (omega (arith, empty, same))
 
-  pub contents_read : (contents : List ℕ) {end : ℕ} → 1 ≤ length contents → Spans (IsBytesOf contents) bytes at end → Spans (IsPutOf (Whole contents)) bytes at end
-  contents_read [] some read = absurd (omega arith)
-  contents_read (c ∷ cs) some read = read
+  pub contents_read : (len : ℕ) (pages : List ℕ) {end : ℕ} → 1 ≤ len → Spans (IsPagedOf (len, pages)) bytes at end → Spans (IsPutOf (Paged len pages)) bytes at end
+  contents_read zero pages some read = absurd (omega arith)
+  contents_read (suc n) pages some read = read
 
   pub no_make : Absent IsMakeOf bytes at → Absent (Behind IsChangeOf 1) bytes at
   no_make absent = record { none = none }
@@ -60,8 +64,7 @@ module _ {bytes : List ℕ} {at : ℕ} where
   no_cut absent = record { none = none }
     where
       none : Reads (Behind IsChangeOf 3) bytes at None
-      none (Cut node size []) end spans = absent.none (node, size) end (tag_after 3 spans)
-      none (Cut node size (page ∷ pages)) end spans = spans.form.2.4
+      none (Cut node size pages) end spans = absent.none (node, (size, pages)) end (tag_after 3 spans)
       none change end spans = absurd (other_tag spans.form.1 refl)
 
   pub no_move : Absent IsMoveOf bytes at → Absent (Behind IsChangeOf 4) bytes at

@@ -8,19 +8,19 @@ use Rattle.std.specs.Prelude.{nat_lt}
 use Rattle.ktm_types.specs.declared.change.Change.{Change}
 use Rattle.ktm_types.specs.Sizes.{change_size}
 use Rattle.ktm_event.specs.Work.{AreAbove, AreRising, FinalFile, changes_of_file, final_file, first_above, first_of}
-use Rattle.ktm_event.specs.declared.work.FileBytes.{FileBytes}
+use Rattle.ktm_event.specs.declared.work.FilePages.{FilePages}
 
 -- the files above this number
 abbrev files_above : List FinalFile → ℕ → List FinalFile
 files_above fs number = filter (λ f. nat_lt number f.file) fs
 
 -- what is left where this is the next one
-abbrev pub files_left : List FinalFile → Option FileBytes → List FinalFile
+abbrev pub files_left : List FinalFile → Option FilePages → List FinalFile
 files_left fs None = []
 files_left fs (Some f) = final_file f ∷ files_above fs f.file
 
 -- the changes of these
-abbrev pub changes_left : List FinalFile → Option FileBytes → List Change
+abbrev pub changes_left : List FinalFile → Option FilePages → List Change
 changes_left fs next = flat_map changes_of_file (files_left fs next)
 
 -- where all are above a number, all are above a lower one
@@ -62,26 +62,26 @@ first-above (g ∷ gs) n f rise is = elim (cases_Bool (nat_lt n g.file)) [
       }
 ]
 
-all-shown : (fs : List FinalFile) (next : Option FileBytes) → AreRising fs → option_map final_file next ≡ first_of fs → files_left fs next ≡ fs
+all-shown : (fs : List FinalFile) (next : Option FilePages) → AreRising fs → option_map final_file next ≡ first_of fs → files_left fs next ≡ fs
 all-shown [] None rise is = refl
 all-shown [] (Some g) rise is = absurd (none-some (final_file g) (sym is))
 all-shown (f ∷ fs) None rise is = absurd (none-some f is)
 all-shown (f ∷ fs) (Some g) rise is = ap (λ (h : FinalFile). h ∷ files_above (f ∷ fs) h.file) (same_Some (final_file g) f is) ∙ ap (λ (us : List FinalFile). f ∷ us) (behind-first f fs rise)
 
 -- at first the changes of all files are left
-pub left-all : (fs : List FinalFile) (next : Option FileBytes) → AreRising fs → option_map final_file next ≡ first_of fs → changes_left fs next ≡ flat_map changes_of_file fs
+pub left-all : (fs : List FinalFile) (next : Option FilePages) → AreRising fs → option_map final_file next ≡ first_of fs → changes_left fs next ≡ flat_map changes_of_file fs
 left-all fs next rise is = ap (flat_map changes_of_file) (all-shown fs next rise is)
 
 -- at last no changes are left
-pub left-none : (fs : List FinalFile) (next : Option FileBytes) → next ≡ None → changes_left fs next ≡ []
+pub left-none : (fs : List FinalFile) (next : Option FilePages) → next ≡ None → changes_left fs next ≡ []
 left-none fs next none = ap (changes_left fs) none
 
-above-left : (fs : List FinalFile) (n : ℕ) (next : Option FileBytes) → AreRising fs → option_map final_file next ≡ first_above fs n → files_left fs next ≡ files_above fs n
+above-left : (fs : List FinalFile) (n : ℕ) (next : Option FilePages) → AreRising fs → option_map final_file next ≡ first_above fs n → files_left fs next ≡ files_above fs n
 above-left fs n None rise is = sym (none-above fs n (sym is))
 above-left fs n (Some f) rise is = sym (first-above fs n (final_file f) rise (sym is)).all
 
 -- this one is left, and those from the next one on
-module _ (fs : List FinalFile) (now next : Option FileBytes) (f : FileBytes) (rise : AreRising fs) (now_is : now ≡ Some f) (is : option_map final_file next ≡ first_above fs f.file) where
+module _ (fs : List FinalFile) (now next : Option FilePages) (f : FilePages) (rise : AreRising fs) (now_is : now ≡ Some f) (is : option_map final_file next ≡ first_above fs f.file) where
   one-left : files_left fs now ≡ final_file f ∷ files_left fs next
   one-left = ap (files_left fs) now_is ∙ ap (λ (us : List FinalFile). final_file f ∷ us) (sym (above-left fs f.file next rise is))
 

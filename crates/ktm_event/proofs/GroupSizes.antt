@@ -1,5 +1,5 @@
 -- The bytes of a group are as many as are counted for it.
-use Rattle.std.proofs.Common.{◌≡◌, ℕ, ◌+◌, List, [], ◌∷◌, length, sum_by, Option, None, Some, sym, ◌∙◌, ap, ap₂, arith, length-append}
+use Rattle.std.proofs.Common.{◌≡◌, ℕ, zero, suc, ◌+◌, ◌*◌, List, [], ◌∷◌, length, sum_by, Option, None, Some, refl, sym, ◌∙◌, ap, ap₂, arith, length-append}
 use Rattle.std.proofs.lemmas.List.Sums.{sum_by-cons}
 use Rattle.ktm_base.specs.Grammar.{IsU32, Then, Tagged, IsTextOf, IsRow, IsListOf}
 use Rattle.ktm_base.specs.declared.id.Id.{Id}
@@ -16,8 +16,8 @@ use Rattle.ktm_types.specs.declared.change.Contents.{Contents}
 use Rattle.ktm_types.specs.declared.change.Contents.TheVariants.{Whole, Paged}
 use Rattle.ktm_types.specs.declared.change.NodeKind.{NodeKind}
 use Rattle.ktm_types.specs.declared.change.NodeKind.TheVariants.{File, Directory}
-use Rattle.ktm_types.specs.EventGrammar.{IsIdOf, IsSetTo, IsSettingOf, AreSettingsOf, IsKindOf, IsPutOf, IsCutOf, IsChangeOf, IsRecordOf, IsPartOf, IsSoleOf, IsDoneOf, IsEventOf, IsGroupOf}
-use Rattle.ktm_types.specs.Sizes.{set_to_size, setting_size, put_size, change_size, record_size, part_size, done_size, event_size, group_size}
+use Rattle.ktm_types.specs.EventGrammar.{IsIdOf, IsSetTo, IsSettingOf, AreSettingsOf, IsKindOf, IsPutOf, IsChangeOf, IsRecordOf, IsPartOf, IsSoleOf, IsDoneOf, IsEventOf, IsGroupOf}
+use Rattle.ktm_types.specs.Sizes.{set_to_size, setting_size, pages_size, put_size, change_size, record_size, part_size, done_size, event_size, group_size}
 
 -- one thing and then another take the bytes of both
 pub length-then : (m n : ℕ) (First Second : List ℕ → Type 0) (bytes : List ℕ) → ((first : List ℕ) → First first → length first ≡ m) → ((second : List ℕ) → Second second → length second ≡ n)
@@ -61,14 +61,18 @@ length-kind : (kind : NodeKind) (bytes : List ℕ) → IsKindOf kind bytes → l
 length-kind File bytes is = ap length is.value
 length-kind Directory bytes is = ap length is.value
 
-length-put : (contents : Contents) (bytes : List ℕ) → IsPutOf contents bytes → length bytes ≡ put_size contents
-length-put (Whole []) bytes is = absurd is
-length-put (Whole (c ∷ cs)) bytes is = length-then 4 (length (c ∷ cs)) _ _ bytes (λ count four. four.long) (λ second same. ap length same) is
-length-put (Paged pages) bytes is = absurd is
+-- a page has four bytes
+four-each : (pages : List ℕ) → sum_by (λ page. 4) pages ≡ 4 * length pages
+four-each [] = refl
+four-each (page ∷ pages) = let rest = four-each pages in sum_by-cons (λ page. 4) page pages ∙ omega (arith, rest)
 
-length-cut : (size : ℕ) (pages bytes : List ℕ) → IsCutOf size pages bytes → length bytes ≡ 8
-length-cut size [] bytes is = is.long
-length-cut size (page ∷ pages) bytes is = absurd is
+length-pages : (pages bytes : List ℕ) → IsListOf IsU32 pages bytes → length bytes ≡ pages_size pages
+length-pages pages bytes is = length-list IsU32 (λ page. 4) (λ page part four. four.long) pages bytes is ∙ ap (λ n. 4 + n) (four-each pages)
+
+length-put : (contents : Contents) (bytes : List ℕ) → IsPutOf contents bytes → length bytes ≡ put_size contents
+length-put (Whole contents) bytes is = absurd is
+length-put (Paged zero pages) bytes is = absurd is
+length-put (Paged (suc n) pages) bytes is = length-then 4 (pages_size pages) _ _ bytes (λ count four. four.long) (length-pages pages) is
 
 length-change : (change : Change) (bytes : List ℕ) → IsChangeOf change bytes → length bytes ≡ change_size change
 length-change (Make node parent kind name) bytes is =
@@ -81,7 +85,9 @@ length-change (Put node offset contents) bytes is =
     (λ second more. length-then 8 (put_size contents) _ _ second (λ number eight. eight.long) (length-put contents) more) fields ∙ omega arith) is
     ∙ omega arith
 length-change (Cut node size pages) bytes is =
-    length-tagged 3 16 _ bytes (λ rest fields. length-then 8 8 _ _ rest (λ number eight. eight.long) (length-cut size pages) fields) is
+    length-tagged 3 (16 + pages_size pages) _ bytes (λ rest fields. length-then 8 (8 + pages_size pages) _ _ rest (λ number eight. eight.long)
+    (λ second more. length-then 8 (pages_size pages) _ _ second (λ number eight. eight.long) (length-pages pages) more) fields ∙ omega arith) is
+    ∙ omega arith
 length-change (Move node parent name) bytes is =
     length-tagged 4 (17 + length name) _ bytes (λ rest fields. length-then 8 (9 + length name) _ _ rest (λ number eight. eight.long)
     (λ second more. length-then 8 (1 + length name) _ _ second (λ number eight. eight.long) (length-text name) more ∙ omega arith) fields ∙ omega arith) is

@@ -1,9 +1,11 @@
+pub mod offered
 pub mod Tags
 pub mod Pairs
 pub mod Changes
 pub mod Parts
 pub mod OneEvent
 pub mod Spellable
+pub mod Recordable
 pub mod Readings
 pub mod ChangeReadings
 pub mod PartReadings

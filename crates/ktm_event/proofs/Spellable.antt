@@ -1,11 +1,11 @@
 -- What has a spelling in bytes can be written.
-use Rattle.std.proofs.Common.{◌≡◌, ℕ, ◌<◌, ◌^◌, Option, Some, None, List, [], ◌∷◌, length, refl, subst, arith}
+use Rattle.std.proofs.Common.{ℕ, zero, suc, ◌<◌, ◌^◌, Option, Some, None, List, [], ◌∷◌, length, subst, arith}
 use Rattle.std.proofs.lemmas.List.Elements.{All-from_recursion}
 use Rattle.std.specs.List.{AllByRecursion}
 use Rattle.std.specs.Option.{IfSome}
 use Rattle.ktm_base.specs.declared.id.Id.{Id}
 use Rattle.ktm_base.specs.Bytes.{AreBytes}
-use Rattle.ktm_base.specs.Grammar.{IsTextOf, IsRow, IsListOf, Then, Tagged}
+use Rattle.ktm_base.specs.Grammar.{IsU32, IsTextOf, IsRow, IsListOf, Then, Tagged}
 use Rattle.ktm_codec.proofs.Forms.{AreBytes-parts, u16_fits, u32_fits}
 use Rattle.ktm_types.specs.declared.change.Change.{Change}
 use Rattle.ktm_types.specs.declared.change.Change.TheVariants.{Make, Put, Cut, Move, Drop}
@@ -18,8 +18,8 @@ use Rattle.ktm_types.specs.declared.event.DonePart.{DonePart}
 use Rattle.ktm_types.specs.declared.event.DonePart.TheVariants.{Files, Keys}
 use Rattle.ktm_types.specs.declared.event.Event.{Event}
 use Rattle.ktm_types.specs.declared.event.Event.TheVariants.{Boot, MadeRm, Plain, Ready, Single, Held, Decide, Undo}
-use Rattle.ktm_types.specs.EventGrammar.{IsIdOf, IsSetTo, IsSettingOf, AreSettingsOf, IsPutOf, IsCutOf, IsChangeOf, IsRecordOf, IsPartOf, IsSoleOf, IsDoneOf, IsEventOf, IsGroupOf}
-use Rattle.ktm_event.specs.Spelling.{IsSpellableId, IsSpellableSetting, AreSpellableSettings, IsSpellableContents, IsSpellableChange, AreSpellableChanges, IsSpellableRecord, IsSpellablePart, IsSpellableSole, IsSpellableDone, IsSpellableEvent, AreSpellableEvents}
+use Rattle.ktm_types.specs.EventGrammar.{IsIdOf, IsSetTo, IsSettingOf, AreSettingsOf, IsPutOf, IsChangeOf, IsRecordOf, IsPartOf, IsSoleOf, IsDoneOf, IsEventOf, IsGroupOf}
+use Rattle.ktm_event.specs.Spelling.{IsSpellableId, IsSpellableSetting, AreSpellableSettings, AreSpellablePages, IsSpellableContents, IsSpellableChange, AreSpellableChanges, IsSpellableRecord, IsSpellablePart, IsSpellableSole, IsSpellableDone, IsSpellableEvent, AreSpellableEvents}
 
 -- what a spelling in bytes shows, one behind the other
 abbrev Shows : (List ℕ → Type 0) → Type 0 → Type 0
@@ -61,19 +61,20 @@ setting_shows setting bytes all is =
     let (short_key, short_value) = then_shows (text_shows setting.key) (set_to_shows setting.value) bytes all is.parts in
     record { text = is.text; short_key = short_key; short_value = short_value }
 
-put_shows : (contents : Contents) → Shows (IsPutOf contents) (IsSpellableContents contents)
-put_shows (Whole []) bytes all is = absurd is
-put_shows (Whole (c ∷ cs)) bytes all is = (omega arith, front_shows (u32_fits (length (c ∷ cs))) bytes all is)
-put_shows (Paged pages) bytes all is = absurd is
+pages_show : (pages : List ℕ) → Shows (IsListOf IsU32 pages) (AreSpellablePages pages)
+pages_show pages bytes all is =
+    let (few, each) = list_shows IsU32 (λ page. page < 2 ^ 32) u32_fits pages bytes all is in
+    record { few = few; each = All-from_recursion (λ page. page < 2 ^ 32) pages each }
 
-cut_shows : (size : ℕ) (pages : List ℕ) → Shows (IsCutOf size pages) (pages ≡ [])
-cut_shows size [] bytes all is = refl
-cut_shows size (page ∷ pages) bytes all is = absurd is
+put_shows : (contents : Contents) → Shows (IsPutOf contents) (IsSpellableContents contents)
+put_shows (Whole contents) bytes all is = absurd is
+put_shows (Paged zero pages) bytes all is = absurd is
+put_shows (Paged (suc n) pages) bytes all is = let (few, on) = then_shows (u32_fits (suc n)) (pages_show pages) bytes all is in (omega arith, few, on)
 
 change_shows : (change : Change) → Shows (IsChangeOf change) (IsSpellableChange change)
 change_shows (Make node parent kind name) = tagged_shows (behind_shows (behind_shows (behind_shows (text_shows name))))
 change_shows (Put node offset contents) = tagged_shows (behind_shows (behind_shows (put_shows contents)))
-change_shows (Cut node size pages) = tagged_shows (behind_shows (cut_shows size pages))
+change_shows (Cut node size pages) = tagged_shows (behind_shows (behind_shows (pages_show pages)))
 change_shows (Move node parent name) = tagged_shows (behind_shows (behind_shows (text_shows name)))
 change_shows (Drop node) = λ bytes all is. tt
 

@@ -1,17 +1,17 @@
 -- How what is written at the end goes on.
-use Rattle.std.proofs.Common.{◌≡◌, ◌+◌, ◌<◌, ◌≤◌, ℕ, IsTrue, Option, Result, List, [], ◌∷◌, ◌++◌, length, take, get_or, sum_by, refl, sym, ◌∙◌, ap, subst, arith, append_assoc}
+use Rattle.std.proofs.Common.{◌≡◌, ◌+◌, ◌<◌, ◌≤◌, ℕ, zero, suc, IsTrue, Option, Result, List, [], ◌∷◌, ◌++◌, length, take, get_or, sum_by, refl, sym, ◌∙◌, ap, subst, arith, append_assoc}
 use Rattle.std.proofs.lemmas.List.Sums.{sum_by_more, sum_by_more_le}
 use Rattle.std.specs.Result.{OnOk, OnErr}
 use Rattle.std.proofs.lemmas.Result.{on_ok_weaker, on_err_weaker}
 use Rattle.ktm_base.specs.declared.id.Id.{Id}
-use Rattle.ktm_base.specs.Grammar.{IsU8, IsTextOf, IsBytesOf, Then, Tagged, IsListOf}
+use Rattle.ktm_base.specs.Grammar.{IsU8, IsU32, IsTextOf, Then, Tagged, IsListOf}
 use Rattle.ktm_keyed.specs.declared.keyed.Keyed.{Keyed}
 use Rattle.ktm_keyed.specs.Keyed.{is_rising}
 use Rattle.ktm_codec.specs.Spans.{Adds}
 use Rattle.ktm_codec.proofs.Adding.{adds_then, adds_tagged}
 use Rattle.ktm_codec.proofs.SpansLemmas.{then_tagged}
 use Rattle.ktm_types.specs.declared.change.Change.{Change}
-use Rattle.ktm_types.specs.declared.change.Contents.TheVariants.{Whole}
+use Rattle.ktm_types.specs.declared.change.Contents.TheVariants.{Paged}
 use Rattle.ktm_types.specs.declared.event.Part.{Part}
 use Rattle.ktm_types.specs.declared.event.Part.TheVariants.{Enlistment, Changes, Settings}
 use Rattle.ktm_types.specs.EventGrammar.{IsIdOf, IsPutOf, IsSetTo, IsSettingOf, AreSettingsOf, IsPartOf, IsSoleOf, IsEventOf}
@@ -45,9 +45,9 @@ pub pushed : {P : List ℕ → Type 0} {a b c : List ℕ} {tag : ℕ} → b ≡ 
 pushed {P} {a} {b} {c} {tag} is rest = adds_tagged tag P a b c is rest
 
 -- contents that are put are not empty
-pub put : {a b : List ℕ} (contents : List ℕ) → 1 ≤ length contents → Adds (IsBytesOf contents) a b → Adds (IsPutOf (Whole contents)) a b
-put [] some adds = absurd (omega arith)
-put (c ∷ cs) some adds = adds
+pub put : {a b : List ℕ} (len : ℕ) (pages : List ℕ) → 1 ≤ len → Adds (Then (IsU32 len) (IsListOf IsU32 pages)) a b → Adds (IsPutOf (Paged len pages)) a b
+put zero pages some adds = absurd (omega arith)
+put (suc n) pages some adds = adds
 
 -- a setting whose key is a text
 pub setting : {setting : Keyed (Option (List ℕ))} {a b : List ℕ} → IsText setting.key → Adds (Then (IsTextOf setting.key) (IsSetTo setting.value)) a b

@@ -1,5 +1,5 @@
 -- Which events and groups have bytes.
-use Rattle.std.specs.Prelude.{◌≡◌, ℕ, ◌<◌, ◌≤◌, ◌^◌, List, [], length, Option, All, IfSome, IsTrue}
+use Rattle.std.specs.Prelude.{ℕ, ◌<◌, ◌≤◌, ◌^◌, List, length, Option, All, IfSome, IsTrue}
 use Rattle.ktm_base.specs.declared.id.Id.{Id}
 use Rattle.ktm_types.specs.declared.change.Change.{Change}
 use Rattle.ktm_types.specs.declared.change.Change.TheVariants.{Make, Put, Cut, Move, Drop}
@@ -32,18 +32,33 @@ pub record AreSpellableSettings (settings : List (Keyed (Option (List ℕ)))) : 
   pub few : length settings < 2 ^ 32
   pub each : All IsSpellableSetting settings
 
--- bytes that are put stand as they are; there is one at least, and their count fits four bytes
+-- the count of pages fits four bytes, and so does the number of each
+pub record AreSpellablePages (pages : List ℕ) : Type 0 where
+  pub few : length pages < 2 ^ 32
+  pub each : All (λ page. page < 2 ^ 32) pages
+
+-- there is one byte at least, and their count fits four bytes; bytes that stand as they are have no spelling of their own, but that of their pages
 abbrev pub IsSpellableContents : Contents → Type 0
 IsSpellableContents (Whole bytes) = (1 ≤ length bytes) × (length bytes < 2 ^ 32)
-IsSpellableContents (Paged pages) = ⊥
+IsSpellableContents (Paged len pages) = (1 ≤ len) × (len < 2 ^ 32) × AreSpellablePages pages
 
--- a name's length fits one byte, and a cut names no pages
+-- contents that are recorded stand on pages
+abbrev pub StandOnPages : Contents → Type 0
+StandOnPages (Whole bytes) = ⊥
+StandOnPages (Paged len pages) = Unit {0}
+
+-- a name's length fits one byte
 abbrev pub IsSpellableChange : Change → Type 0
 IsSpellableChange (Make node parent kind name) = length name < 2 ^ 8
 IsSpellableChange (Put node offset contents) = IsSpellableContents contents
-IsSpellableChange (Cut node size pages) = pages ≡ []
+IsSpellableChange (Cut node size pages) = AreSpellablePages pages
 IsSpellableChange (Move node parent name) = length name < 2 ^ 8
 IsSpellableChange (Drop node) = Unit {0}
+
+-- a change that is recorded puts no contents but such as stand on pages
+abbrev pub IsRecordableChange : Change → Type 0
+IsRecordableChange (Put node offset contents) = StandOnPages contents
+IsRecordableChange _ = Unit {0}
 
 -- their count fits four bytes
 pub record AreSpellableChanges (changes : List Change) : Type 0 where
@@ -61,6 +76,11 @@ abbrev pub IsSpellablePart : Part → Type 0
 IsSpellablePart (Enlistment enlistment manager information) = IsSpellableRecord enlistment manager information
 IsSpellablePart (Changes changes) = AreSpellableChanges changes
 IsSpellablePart (Settings settings) = AreSpellableSettings settings
+
+-- a part that is recorded puts none either
+abbrev pub IsRecordablePart : Part → Type 0
+IsRecordablePart (Changes changes) = All IsRecordableChange changes
+IsRecordablePart _ = Unit {0}
 
 -- the part of a transaction that has this one alone is no enlistment's
 abbrev pub IsSpellableSole : Part → Type 0
@@ -85,6 +105,13 @@ IsSpellableEvent (Held transaction enlistment manager information) = IsSpellable
 IsSpellableEvent (Decide transaction) = IsSpellableId transaction
 IsSpellableEvent (Undo transaction) = IsSpellableId transaction
 IsSpellableEvent (Event.Done transaction done) = IsSpellableId transaction × IsSpellableDone done
+
+-- an event that is recorded puts none either
+abbrev pub IsRecordable : Event → Type 0
+IsRecordable (Plain change) = IsRecordableChange change
+IsRecordable (Ready transaction part) = IsRecordablePart part
+IsRecordable (Single transaction part) = IsRecordablePart part
+IsRecordable _ = Unit {0}
 
 -- there is one at least, and their count fits four bytes
 pub record AreSpellableEvents (events : List Event) : Type 0 where

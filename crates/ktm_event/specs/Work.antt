@@ -1,27 +1,29 @@
 -- What a transaction has to record of its work.
-use Rattle.std.specs.Prelude.{ℕ, ◌<◌, List, [], ◌∷◌, ◌++◌, Option, Some, None, find, nat_lt}
+use Rattle.std.specs.Prelude.{ℕ, zero, suc, ◌<◌, All, List, [], ◌∷◌, ◌++◌, Option, Some, None, find, nat_lt}
 use Rattle.std.specs.List.{flat_map}
 use Rattle.ktm_base.specs.declared.id.Id.{Id}
 use Rattle.ktm_types.specs.declared.change.Change.{Change}
 use Rattle.ktm_types.specs.declared.change.Change.TheVariants.{Put, Cut}
-use Rattle.ktm_types.specs.declared.change.Contents.TheVariants.{Whole}
+use Rattle.ktm_types.specs.declared.change.Contents.TheVariants.{Paged}
 use Rattle.ktm_types.specs.declared.event.Part.{Part}
 use Rattle.ktm_types.specs.declared.event.Event.{Event}
 use Rattle.ktm_types.specs.declared.event.Event.TheVariants.{Ready, Single}
-use Rattle.ktm_event.specs.declared.work.FileBytes.{FileBytes}
+use Rattle.ktm_event.specs.Spelling.{IsRecordableChange}
+use Rattle.ktm_event.specs.declared.work.FilePages.{FilePages}
 use Rattle.ktm_event.specs.declared.work.Work.{Work}
 use Rattle.ktm_event.specs.declared.work.Work.TheVariants.{Changes, Settings, Enlistment}
 use Rattle.ktm_event.specs.declared.work.Stage.{Stage}
 use Rattle.ktm_event.specs.declared.work.Stage.TheVariants.{Ready as Prepared, Single as Alone}
 
--- a file that a transaction wrote, with all of its bytes
+-- a file that a transaction wrote: how many bytes it has, and the pages that hold them
 pub record FinalFile : Type 0 where
   pub file : ℕ
-  pub bytes : List ℕ
+  pub len : ℕ
+  pub pages : List ℕ
 
 -- the one that is shown
-abbrev pub final_file : FileBytes → FinalFile
-final_file f = record { file = f.file; bytes = f.bytes.now }
+abbrev pub final_file : FilePages → FinalFile
+final_file f = record { file = f.file; len = f.len; pages = f.pages.now }
 
 -- the first of the files
 abbrev pub first_of : List FinalFile → Option FinalFile
@@ -42,14 +44,14 @@ abbrev pub AreRising : List FinalFile → Type 0
 AreRising [] = Unit {0}
 AreRising (f ∷ fs) = AreAbove f.file fs × AreRising fs
 
--- a cut to nothing, and the bytes where there are any: by cases the same as `final_bytes` of the worlds
-abbrev pub bytes_changes : ℕ → List ℕ → List Change
-bytes_changes file [] = Cut file 0 [] ∷ []
-bytes_changes file (b ∷ bs) = Cut file 0 [] ∷ Put file 0 (Whole (b ∷ bs)) ∷ []
+-- a cut to nothing, and the bytes where there are any: by cases the same as `final_bytes` of the worlds, but on their pages
+abbrev pub pages_changes : ℕ → ℕ → List ℕ → List Change
+pages_changes file zero pages = Cut file 0 [] ∷ []
+pages_changes file (suc n) pages = Cut file 0 [] ∷ Put file 0 (Paged (suc n) pages) ∷ []
 
 -- the changes that give a file the bytes that were written
 abbrev pub changes_of_file : FinalFile → List Change
-changes_of_file f = bytes_changes f.file f.bytes
+changes_of_file f = pages_changes f.file f.len f.pages
 
 -- the changes of names, and then those of the files
 abbrev pub changes_of : List Change → List FinalFile → List Change
@@ -60,6 +62,11 @@ abbrev pub part_of : {F : Type 0} → (F → List FinalFile) → Work F → Part
 part_of files_of (Changes names files) = Part.Changes (changes_of names.now (files_of files.now))
 part_of files_of (Settings settings) = Part.Settings settings.now
 part_of files_of (Enlistment enlistment manager information) = Part.Enlistment enlistment manager information.now
+
+-- the changes of names among the work put no contents but such as stand on pages
+abbrev pub IsRecordableWork : {F : Type 0} → Work F → Type 0
+IsRecordableWork (Changes names files) = All IsRecordableChange names.now
+IsRecordableWork _ = Unit {0}
 
 -- the event of a participant that is prepared, or of a transaction that has this one part alone and commits
 abbrev pub work_event : Stage → Id → Part → Event

@@ -1,18 +1,18 @@
 // Changes, each a tag and its fields.
 ghost use Rattle.std.specs.Prelude.{◌≡◌, ◌+◌, ◌<◌, ◌≤◌, ◌^◌, [], All, length, sum_by, OnErr, OnOk, vec_len, vec_capacity};
-ghost use Rattle.ktm_base.specs.Grammar.{IsListOf, IsRow};
+ghost use Rattle.ktm_base.specs.Grammar.{IsListOf, IsRow, IsU32};
 ghost use Rattle.ktm_codec.specs.Spans.{Adds};
 ghost use Rattle.ktm_types.specs.EventGrammar.{IsChangeOf, IsKindOf, IsPutOf};
-ghost use Rattle.ktm_types.specs.Sizes.{change_size, put_size};
+ghost use Rattle.ktm_types.specs.Sizes.{change_size, pages_size, put_size};
 ghost use Rattle.ktm_types.specs.declared.change.Change.TheVariants.{Cut, Drop, Make, Move, Put};
-ghost use Rattle.ktm_types.specs.declared.change.Contents.TheVariants.{Whole};
+ghost use Rattle.ktm_types.specs.declared.change.Contents.TheVariants.{Paged};
 ghost use Rattle.ktm_event.specs.Reading.{Behind, Gives};
-ghost use Rattle.ktm_event.specs.Spelling.{AreSpellableChanges, IsSpellableChange, IsSpellableContents};
+ghost use Rattle.ktm_event.specs.Spelling.{AreSpellableChanges, AreSpellablePages, IsRecordableChange, IsSpellableChange, IsSpellableContents, StandOnPages};
 
 use crate::EventFault;
 use crate::field::{count_at, name_at, number_at, tag_at};
-use ktm_base::{Bytes, NoMemory, PageList};
-use ktm_codec::{bytes_at, put_bytes, put_text, put_u8, put_u32, put_u64};
+use ktm_base::{NoMemory, PageList};
+use ktm_codec::{put_text, put_u8, put_u32, put_u64};
 use ktm_types::{Change, Changes, Contents, NodeKind};
 use std::alloc::Global;
 
@@ -41,17 +41,30 @@ fn kind_at(bytes: &[u8], at: usize) -> Result<(NodeKind, usize), EventFault>
     }
 }
 
+/// The numbers of pages at a place, behind their count, and the place behind them.
+pub fn pages_at(alloc: Global, bytes: &[u8], at: usize) -> Result<(PageList, usize), EventFault>
+    ensures { Gives (IsListOf IsU32) bytes.now at result }
+{
+    let (count, start) = count_at(bytes, at)?;
+    let mut pages = Vec::new(alloc);
+    let mut end = start;
+    'pages: for _ in 0..count {
+        let (page, next) = count_at(bytes, end)?;
+        pages.push(page)?;
+        end = next;
+    }
+    Ok((PageList::new(pages), end))
+}
+
 fn contents_at(alloc: Global, bytes: &[u8], at: usize) -> Result<(Contents, usize), EventFault>
     ensures { Gives IsPutOf bytes.now at result }
 {
-    let Some((contents, end)) = bytes_at(bytes, at) else {
-        return Err(EventFault::NotAnEvent);
-    };
-    if contents.is_empty() {
+    let (len, after) = count_at(bytes, at)?;
+    if len == 0 {
         return Err(EventFault::NotAnEvent);
     }
-    let contents = Bytes::new(contents.to_vec(alloc)?);
-    Ok((Contents::Whole(contents), end))
+    let (pages, end) = pages_at(alloc, bytes, after)?;
+    Ok((Contents::Paged { len, pages }, end))
 }
 
 // Each of these reads the fields of a change, behind its tag.
@@ -90,8 +103,8 @@ fn cut_at(alloc: Global, bytes: &[u8], at: usize) -> Result<(Change, usize), Eve
     ensures { Gives (Behind IsChangeOf 3) bytes.now at result }
 {
     let (node, after) = number_at(bytes, at)?;
-    let (size, end) = number_at(bytes, after)?;
-    let pages = PageList::new(Vec::new(alloc));
+    let (size, after) = number_at(bytes, after)?;
+    let (pages, end) = pages_at(alloc, bytes, after)?;
     Ok((Change::Cut { node, size, pages }, end))
 }
 
@@ -184,50 +197,75 @@ fn put_make(
     Ok(())
 }
 
-// Bytes, of which there is one at least, at an offset of a file.
-pub(crate) fn put_whole(
+/// Writes the numbers of pages at the end, behind their count. It takes no memory.
+pub fn put_pages(out: &mut Vec<u8>, pages: &[u32])
+    requires few { length pages.now < 2 ^ 32 }
+    requires room { vec_len out.old + pages_size pages.now ≤ vec_capacity out.old }
+    ensures adds { Adds (IsListOf IsU32 pages.now) out.old.items out.new.items }
+    ensures len { vec_len out.new ≡ vec_len out.old + pages_size pages.now }
+    ensures room { vec_capacity out.old ≤ vec_capacity out.new }
+{
+    put_u32(out, pages.len() as u32);
+    for page in pages {
+        put_u32(out, *page);
+    }
+}
+
+// So many bytes, at an offset of a file, on their pages. There is one byte at least.
+pub(crate) fn put_paged(
     out: &mut Vec<u8>,
     node: u64,
     offset: u64,
-    bytes: &[u8],
+    len: u32,
+    pages: &[u32],
 ) -> Result<(), NoMemory>
-    requires { IsSpellableContents (Whole bytes.now) }
-    ensures adds { OnOk result (Adds (IsChangeOf (Put node offset (Whole bytes.now))) out.old.items out.new.items) }
-    ensures len { OnOk result (vec_len out.new ≡ vec_len out.old + 21 + length bytes.now) }
+    requires { IsSpellableContents (Paged len pages.now) }
+    ensures adds { OnOk result (Adds (IsChangeOf (Put node offset (Paged len pages.now))) out.old.items out.new.items) }
+    ensures len { OnOk result (vec_len out.new ≡ vec_len out.old + 21 + pages_size pages.now) }
     ensures room { vec_capacity out.old ≤ vec_capacity out.new }
-    ensures full { OnErr result (vec_capacity out.old < vec_len out.old + 21 + length bytes.now) }
+    ensures full { OnErr result (vec_capacity out.old < vec_len out.old + 21 + pages_size pages.now) }
 {
-    out.reserve(21 + bytes.len())?;
+    out.reserve(25 + 4 * pages.len())?;
     put_u8(out, PUT);
     put_u64(out, node);
     put_u64(out, offset);
-    put_bytes(out, bytes);
+    put_u32(out, len);
+    put_pages(out, pages);
     Ok(())
 }
 
 fn put_put(out: &mut Vec<u8>, node: u64, offset: u64, contents: &Contents) -> Result<(), NoMemory>
-    requires { IsSpellableContents contents.now }
+    requires spellable { IsSpellableContents contents.now }
+    requires recordable { StandOnPages contents.now }
     ensures adds { OnOk result (Adds (IsChangeOf (Put node offset contents.now)) out.old.items out.new.items) }
     ensures len { OnOk result (vec_len out.new ≡ vec_len out.old + 17 + put_size contents.now) }
     ensures room { vec_capacity out.old ≤ vec_capacity out.new }
     ensures full { OnErr result (vec_capacity out.old < vec_len out.old + 17 + put_size contents.now) }
 {
     match contents {
-        Contents::Whole(bytes) => put_whole(out, node, offset, bytes.as_slice()),
-        Contents::Paged(_) => Ok(()),
+        // It is required that there are none.
+        Contents::Whole(_) => Ok(()),
+        Contents::Paged { len, pages } => put_paged(out, node, offset, *len, pages.as_slice()),
     }
 }
 
-pub(crate) fn put_cut(out: &mut Vec<u8>, node: u64, size: u64) -> Result<(), NoMemory>
-    ensures adds { OnOk result (Adds (IsChangeOf (Cut node size [])) out.old.items out.new.items) }
-    ensures len { OnOk result (vec_len out.new ≡ vec_len out.old + 17) }
+pub(crate) fn put_cut(
+    out: &mut Vec<u8>,
+    node: u64,
+    size: u64,
+    pages: &[u32],
+) -> Result<(), NoMemory>
+    requires { AreSpellablePages pages.now }
+    ensures adds { OnOk result (Adds (IsChangeOf (Cut node size pages.now)) out.old.items out.new.items) }
+    ensures len { OnOk result (vec_len out.new ≡ vec_len out.old + 17 + pages_size pages.now) }
     ensures room { vec_capacity out.old ≤ vec_capacity out.new }
-    ensures full { OnErr result (vec_capacity out.old < vec_len out.old + 17) }
+    ensures full { OnErr result (vec_capacity out.old < vec_len out.old + 17 + pages_size pages.now) }
 {
-    out.reserve(17)?;
+    out.reserve(21 + 4 * pages.len())?;
     put_u8(out, CUT);
     put_u64(out, node);
     put_u64(out, size);
+    put_pages(out, pages);
     Ok(())
 }
 
@@ -259,7 +297,8 @@ fn put_drop(out: &mut Vec<u8>, node: u64) -> Result<(), NoMemory>
 }
 
 pub(crate) fn put_change(out: &mut Vec<u8>, change: &Change) -> Result<(), NoMemory>
-    requires { IsSpellableChange change.now }
+    requires spellable { IsSpellableChange change.now }
+    requires recordable { IsRecordableChange change.now }
     ensures adds { OnOk result (Adds (IsChangeOf change.now) out.old.items out.new.items) }
     ensures len { OnOk result (vec_len out.new ≡ vec_len out.old + change_size change.now) }
     ensures room { vec_capacity out.old ≤ vec_capacity out.new }
@@ -277,7 +316,7 @@ pub(crate) fn put_change(out: &mut Vec<u8>, change: &Change) -> Result<(), NoMem
             offset,
             contents,
         } => put_put(out, *node, *offset, contents),
-        Change::Cut { node, size, .. } => put_cut(out, *node, *size),
+        Change::Cut { node, size, pages } => put_cut(out, *node, *size, pages.as_slice()),
         Change::Move { node, parent, name } => put_move(out, *node, *parent, name.as_slice()),
         Change::Drop { node } => put_drop(out, *node),
     }
@@ -285,7 +324,8 @@ pub(crate) fn put_change(out: &mut Vec<u8>, change: &Change) -> Result<(), NoMem
 
 // Changes in a row.
 pub(crate) fn put_row(out: &mut Vec<u8>, changes: &[Change]) -> Result<(), NoMemory>
-    requires { All IsSpellableChange changes.now }
+    requires spellable { All IsSpellableChange changes.now }
+    requires recordable { All IsRecordableChange changes.now }
     ensures adds { OnOk result (Adds (IsRow IsChangeOf changes.now) out.old.items out.new.items) }
     ensures len { OnOk result (vec_len out.new ≡ vec_len out.old + sum_by change_size changes.now) }
     ensures room { vec_capacity out.old ≤ vec_capacity out.new }
@@ -298,7 +338,8 @@ pub(crate) fn put_row(out: &mut Vec<u8>, changes: &[Change]) -> Result<(), NoMem
 }
 
 pub(crate) fn put_changes(out: &mut Vec<u8>, changes: &[Change]) -> Result<(), NoMemory>
-    requires { AreSpellableChanges changes.now }
+    requires spellable { AreSpellableChanges changes.now }
+    requires recordable { All IsRecordableChange changes.now }
     ensures adds { OnOk result (Adds (IsListOf IsChangeOf changes.now) out.old.items out.new.items) }
     ensures len { OnOk result (vec_len out.new ≡ vec_len out.old + 4 + sum_by change_size changes.now) }
     ensures room { vec_capacity out.old ≤ vec_capacity out.new }

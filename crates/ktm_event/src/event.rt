@@ -4,13 +4,15 @@ ghost use Rattle.ktm_base.specs.Grammar.{Tagged};
 ghost use Rattle.ktm_codec.specs.Spans.{Adds};
 ghost use Rattle.ktm_types.specs.EventGrammar.{IsEventOf, IsIdOf};
 ghost use Rattle.ktm_types.specs.Sizes.{change_size, done_size, event_size, part_size, record_size};
+ghost use Rattle.ktm_types.specs.declared.change.Change.TheVariants.{Cut, Put};
+ghost use Rattle.ktm_types.specs.declared.change.Contents.TheVariants.{Paged};
 ghost use Rattle.ktm_types.specs.declared.event.Event.{Event};
 ghost use Rattle.ktm_types.specs.declared.event.Event.TheVariants.{Boot, Held, Plain, Ready, Single};
 ghost use Rattle.ktm_event.specs.Reading.{Behind, Gives};
-ghost use Rattle.ktm_event.specs.Spelling.{IsSpellableChange, IsSpellableDone, IsSpellableEvent, IsSpellableId, IsSpellablePart, IsSpellableRecord, IsSpellableSole};
-ghost use Rattle.ktm_event.specs.Work.{part_of, work_event};
+ghost use Rattle.ktm_event.specs.Spelling.{AreSpellablePages, IsRecordable, IsRecordableChange, IsRecordablePart, IsSpellableChange, IsSpellableContents, IsSpellableDone, IsSpellableEvent, IsSpellableId, IsSpellablePart, IsSpellableRecord, IsSpellableSole};
+ghost use Rattle.ktm_event.specs.Work.{IsRecordableWork, part_of, work_event};
 
-use crate::change::{change_at, put_change};
+use crate::change::{change_at, put_change, put_cut, put_paged};
 use crate::field::{count_at, id_at, put_id, tag_at};
 use crate::part::{
     done_at, part_at, put_done, put_enlistment, put_names_and_files_part, put_part, put_record,
@@ -163,7 +165,8 @@ fn put_tagged_id(out: &mut Vec<u8>, tag: u8, id: Id) -> Result<(), NoMemory>
 }
 
 fn put_plain(out: &mut Vec<u8>, change: &Change) -> Result<(), NoMemory>
-    requires { IsSpellableChange change.now }
+    requires spellable { IsSpellableChange change.now }
+    requires recordable { IsRecordableChange change.now }
     ensures adds { OnOk result (Adds (IsEventOf (Plain change.now)) out.old.items out.new.items) }
     ensures len { OnOk result (vec_len out.new ≡ vec_len out.old + 1 + change_size change.now) }
     ensures room { vec_capacity out.old ≤ vec_capacity out.new }
@@ -173,9 +176,45 @@ fn put_plain(out: &mut Vec<u8>, change: &Change) -> Result<(), NoMemory>
     put_change(out, change)
 }
 
+// A plain put of so many bytes, on their pages.
+pub(crate) fn put_plain_put(
+    out: &mut Vec<u8>,
+    node: u64,
+    offset: u64,
+    len: u32,
+    pages: &[u32],
+) -> Result<(), NoMemory>
+    requires { IsSpellableContents (Paged len pages.now) }
+    ensures adds { OnOk result (Adds (IsEventOf (Plain (Put node offset (Paged len pages.now)))) out.old.items out.new.items) }
+    ensures len { OnOk result (vec_len out.new ≡ vec_len out.old + event_size (Plain (Put node offset (Paged len pages.now)))) }
+    ensures room { vec_capacity out.old ≤ vec_capacity out.new }
+    ensures full { OnErr result (vec_capacity out.old < vec_len out.old + event_size (Plain (Put node offset (Paged len pages.now)))) }
+{
+    out.push(PLAIN)?;
+    put_paged(out, node, offset, len, pages)
+}
+
+// A plain cut, with the pages of what a file becomes longer by.
+pub(crate) fn put_plain_cut(
+    out: &mut Vec<u8>,
+    node: u64,
+    size: u64,
+    pages: &[u32],
+) -> Result<(), NoMemory>
+    requires { AreSpellablePages pages.now }
+    ensures adds { OnOk result (Adds (IsEventOf (Plain (Cut node size pages.now))) out.old.items out.new.items) }
+    ensures len { OnOk result (vec_len out.new ≡ vec_len out.old + event_size (Plain (Cut node size pages.now))) }
+    ensures room { vec_capacity out.old ≤ vec_capacity out.new }
+    ensures full { OnErr result (vec_capacity out.old < vec_len out.old + event_size (Plain (Cut node size pages.now))) }
+{
+    out.push(PLAIN)?;
+    put_cut(out, node, size, pages)
+}
+
 fn put_ready(out: &mut Vec<u8>, transaction: Id, part: &Part) -> Result<(), NoMemory>
     requires transaction { IsSpellableId transaction }
     requires part { IsSpellablePart part.now }
+    requires recordable { IsRecordablePart part.now }
     ensures adds { OnOk result (Adds (IsEventOf (Ready transaction part.now)) out.old.items out.new.items) }
     ensures len { OnOk result (vec_len out.new ≡ vec_len out.old + 9 + part_size part.now) }
     ensures room { vec_capacity out.old ≤ vec_capacity out.new }
@@ -188,6 +227,7 @@ fn put_ready(out: &mut Vec<u8>, transaction: Id, part: &Part) -> Result<(), NoMe
 fn put_single(out: &mut Vec<u8>, transaction: Id, part: &Part) -> Result<(), NoMemory>
     requires transaction { IsSpellableId transaction }
     requires part { IsSpellableSole part.now }
+    requires recordable { IsRecordablePart part.now }
     ensures adds { OnOk result (Adds (IsEventOf (Single transaction part.now)) out.old.items out.new.items) }
     ensures len { OnOk result (vec_len out.new ≡ vec_len out.old + 9 + part_size part.now) }
     ensures room { vec_capacity out.old ≤ vec_capacity out.new }
@@ -234,7 +274,8 @@ pub(crate) fn put_work<F: WrittenFiles>(
     transaction: Id,
     work: Work<'_, F>,
 ) -> Result<(), NoMemory>
-    requires { IsSpellableEvent (work_event stage transaction (part_of F.files work)) }
+    requires spellable { IsSpellableEvent (work_event stage transaction (part_of F.files work)) }
+    requires recordable { IsRecordableWork work }
     ensures adds { OnOk result (Adds (IsEventOf (work_event stage transaction (part_of F.files work.entry))) out.old.items out.new.items) }
     ensures len { OnOk result (vec_len out.new ≡ vec_len out.old + event_size (work_event stage transaction (part_of F.files work.entry))) }
     ensures room { vec_capacity out.old ≤ vec_capacity out.new }
@@ -254,7 +295,8 @@ pub(crate) fn put_work<F: WrittenFiles>(
 
 /// Writes the spelling of the event at the end. Where memory is not to be had, a front of it may have been written.
 pub fn write_event(out: &mut Vec<u8>, event: &Event) -> Result<(), NoMemory>
-    requires { IsSpellableEvent event.now }
+    requires spellable { IsSpellableEvent event.now }
+    requires recordable { IsRecordable event.now }
     ensures adds { OnOk result (Adds (IsEventOf event.now) out.old.items out.new.items) }
     ensures len { OnOk result (vec_len out.new ≡ vec_len out.old + event_size event.now) }
     ensures room { vec_capacity out.old ≤ vec_capacity out.new }

@@ -6,12 +6,14 @@ ghost use Rattle.ktm_log.specs.Settle.{IsBodyOf, behind_gate};
 ghost use Rattle.ktm_types.specs.EventGrammar.{IsGroupOf};
 ghost use Rattle.ktm_types.specs.Sizes.{event_size, frame_size};
 ghost use Rattle.ktm_types.specs.declared.event.Event.{Event};
-ghost use Rattle.ktm_types.specs.declared.event.Event.TheVariants.{Held};
+ghost use Rattle.ktm_types.specs.declared.change.Change.TheVariants.{Cut, Put};
+ghost use Rattle.ktm_types.specs.declared.change.Contents.TheVariants.{Paged};
+ghost use Rattle.ktm_types.specs.declared.event.Event.TheVariants.{Held, Plain};
 ghost use Rattle.ktm_event.specs.Kept.{Holds};
-ghost use Rattle.ktm_event.specs.Spelling.{IsSpellableEvent};
-ghost use Rattle.ktm_event.specs.Work.{part_of, work_event};
+ghost use Rattle.ktm_event.specs.Spelling.{AreSpellablePages, IsRecordable, IsSpellableContents, IsSpellableEvent};
+ghost use Rattle.ktm_event.specs.Work.{IsRecordableWork, part_of, work_event};
 
-use crate::event::{put_held, put_work, write_event};
+use crate::event::{put_held, put_plain_cut, put_plain_put, put_work, write_event};
 use crate::{Stage, Work, WrittenFiles};
 use ktm_base::{Id, NoMemory};
 use ktm_types::Event;
@@ -140,6 +142,7 @@ impl Events {
     /// Adds an event at the end.
     pub fn push(&mut self, event: &Event)
         requires spellable { IsSpellableEvent event.now }
+        requires recordable { IsRecordable event.now }
         requires fits { event_size event.now ≤ self.old.spare }
         ensures adds { (events : List Event) → Holds self.old events → Holds self.new (events ++ event.now ∷ []) }
         ensures spare { self.new.spare + event_size event.now ≡ self.old.spare }
@@ -152,9 +155,42 @@ impl Events {
         close(&mut self.bytes, self.count);
     }
 
+    /// Adds a plain put of so many bytes at an offset of a file, on the pages of all units that it touches.
+    pub fn push_put(&mut self, node: u64, offset: u64, len: u32, pages: &[u32])
+        requires spellable { IsSpellableContents (Paged len pages.now) }
+        requires fits { event_size (Plain (Put node offset (Paged len pages.now))) ≤ self.old.spare }
+        ensures adds { (events : List Event) → Holds self.old events
+            → Holds self.new (events ++ Plain (Put node offset (Paged len pages.now)) ∷ []) }
+        ensures spare { self.new.spare + event_size (Plain (Put node offset (Paged len pages.now))) ≡ self.old.spare }
+        ensures room { self.new.room ≡ self.old.room }
+        ensures capacity { self.old.capacity ≤ self.new.capacity }
+    {
+        open(&mut self.bytes);
+        put_plain_put(&mut self.bytes, node, offset, len, pages).unwrap();
+        self.count += 1;
+        close(&mut self.bytes, self.count);
+    }
+
+    /// Adds that a file has so many bytes from a plain call on, and the pages of the units from that of its old end on, where
+    /// it becomes longer.
+    pub fn push_cut(&mut self, node: u64, size: u64, pages: &[u32])
+        requires spellable { AreSpellablePages pages.now }
+        requires fits { event_size (Plain (Cut node size pages.now)) ≤ self.old.spare }
+        ensures adds { (events : List Event) → Holds self.old events → Holds self.new (events ++ Plain (Cut node size pages.now) ∷ []) }
+        ensures spare { self.new.spare + event_size (Plain (Cut node size pages.now)) ≡ self.old.spare }
+        ensures room { self.new.room ≡ self.old.room }
+        ensures capacity { self.old.capacity ≤ self.new.capacity }
+    {
+        open(&mut self.bytes);
+        put_plain_cut(&mut self.bytes, node, size, pages).unwrap();
+        self.count += 1;
+        close(&mut self.bytes, self.count);
+    }
+
     /// Adds what a participant has to record of a transaction's work.
     pub fn push_work<F: WrittenFiles>(&mut self, stage: Stage, transaction: Id, work: Work<'_, F>)
         requires spellable { IsSpellableEvent (work_event stage transaction (part_of F.files work)) }
+        requires recordable { IsRecordableWork work }
         requires fits { event_size (work_event stage transaction (part_of F.files work)) ≤ self.old.spare }
         ensures adds { (events : List Event) → Holds self.old events
             → Holds self.new (events ++ work_event stage transaction (part_of F.files work.entry) ∷ []) }

@@ -1,5 +1,5 @@
 // Laws of events and groups and their bytes, each but the last the contract of a function that does nothing.
-ghost use Rattle.std.specs.Prelude.{◌≡◌, ◌⊎◌, ℕ, List, length, Ok, Err};
+ghost use Rattle.std.specs.Prelude.{◌≡◌, ◌⊎◌, ℕ, All, List, length, Ok, Err};
 ghost use Rattle.ktm_base.specs.Bytes.{AreBytes};
 ghost use Rattle.ktm_codec.specs.Spans.{OneSpelling, Unambiguous};
 ghost use Rattle.ktm_types.specs.EventGrammar.{IsEventOf, IsGroupOf};
@@ -7,7 +7,7 @@ ghost use Rattle.ktm_types.specs.Sizes.{event_size, group_size};
 ghost use Rattle.ktm_types.specs.declared.event.Event.{Event};
 ghost use Rattle.ktm_event.specs.declared.fault.EventFault.{EventFault};
 ghost use Rattle.ktm_event.specs.Kept.{EventsState, Holds};
-ghost use Rattle.ktm_event.specs.Spelling.{AreSpellableEvents, IsSpellableEvent};
+ghost use Rattle.ktm_event.specs.Spelling.{AreSpellableEvents, IsRecordable, IsSpellableEvent};
 
 use crate::EventFault;
 use crate::event::{read_event, write_event};
@@ -20,6 +20,7 @@ pub fn law_of_events()
     ensures event { Unambiguous IsEventOf }
     ensures spelling { OneSpelling IsEventOf }
     ensures written { (event : Event) (bytes : List ℕ) → AreBytes bytes → IsEventOf event bytes → IsSpellableEvent event }
+    ensures recordable { (event : Event) (bytes : List ℕ) → IsEventOf event bytes → IsRecordable event }
 {}
 
 /// Bytes spell one group at most, and a group has one spelling at most, which takes as many bytes as are counted for it. What
@@ -29,6 +30,7 @@ pub fn law_of_groups()
     ensures spelling { OneSpelling IsGroupOf }
     ensures size { (events : List Event) (bytes : List ℕ) → IsGroupOf events bytes → length bytes ≡ group_size events }
     ensures written { (events : List Event) (bytes : List ℕ) → AreBytes bytes → IsGroupOf events bytes → AreSpellableEvents events }
+    ensures recordable { (events : List Event) (bytes : List ℕ) → IsGroupOf events bytes → All IsRecordable events }
 {}
 
 /// A list of events that is kept as their spellings is one list.
@@ -42,7 +44,8 @@ pub fn law_of_round_trip(
     event: &Event,
     behind: &[u8],
 ) -> Result<(Event, usize), EventFault>
-    requires { IsSpellableEvent event.now }
+    requires spellable { IsSpellableEvent event.now }
+    requires recordable { IsRecordable event.now }
     ensures { (result ≡ Ok (event.now, event_size event.now)) ⊎ (result ≡ Err EventFault.NoMemory) }
 {
     let mut bytes = Vec::new(alloc);

@@ -14,6 +14,7 @@ mod part;
 mod setting;
 mod work;
 
+pub use change::{pages_at, put_pages};
 pub use event::{read_event, write_event};
 pub use fault::EventFault;
 pub use field::{is_text, put_id, read_id};
@@ -24,4 +25,4 @@ pub use part::{
     part_at, put_enlistment, put_names_and_files_part, put_part, put_record, put_settings_part,
     record_at,
 };
-pub use work::{FileBytes, Stage, Work, WrittenFiles};
+pub use work::{FilePages, Stage, Work, WrittenFiles};

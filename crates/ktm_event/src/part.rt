@@ -1,11 +1,11 @@
 // Parts, each a tag and an enlistment or a list, and who is done.
-ghost use Rattle.std.specs.Prelude.{◌≡◌, ◌+◌, ◌<◌, ◌≤◌, sum_by, OnErr, OnOk, vec_len, vec_capacity};
+ghost use Rattle.std.specs.Prelude.{◌≡◌, ◌+◌, ◌<◌, ◌≤◌, All, sum_by, OnErr, OnOk, vec_len, vec_capacity};
 ghost use Rattle.ktm_codec.specs.Spans.{Adds};
 ghost use Rattle.ktm_types.specs.EventGrammar.{IsDoneOf, IsPartOf, IsRecordOf, IsSoleOf};
 ghost use Rattle.ktm_types.specs.Sizes.{change_size, done_size, part_size, record_size, setting_size};
 ghost use Rattle.ktm_types.specs.declared.event.Part.TheVariants.{Changes, Enlistment, Settings};
 ghost use Rattle.ktm_event.specs.Reading.{Gives, IsRecordedOf};
-ghost use Rattle.ktm_event.specs.Spelling.{AreSpellableChanges, AreSpellableSettings, IsSpellableDone, IsSpellablePart, IsSpellableRecord};
+ghost use Rattle.ktm_event.specs.Spelling.{AreSpellableChanges, AreSpellableSettings, IsRecordableChange, IsRecordablePart, IsSpellableDone, IsSpellablePart, IsSpellableRecord};
 ghost use Rattle.ktm_event.specs.Work.{changes_of};
 
 use crate::change::{changes_at, put_changes};
@@ -132,14 +132,15 @@ pub fn put_enlistment(
     put_record(out, enlistment, manager, information)
 }
 
-/// Writes the part of the files at the end: changes of names, and behind them the bytes of the files that were written. It
+/// Writes the part of the files at the end: changes of names, and behind them the files that were written. It
 /// takes no memory where there is room for it, and where memory is not to be had a front of it may have been written.
 pub fn put_names_and_files_part<F: WrittenFiles>(
     out: &mut Vec<u8>,
     names: &[Change],
     files: &F,
 ) -> Result<(), NoMemory>
-    requires { AreSpellableChanges (changes_of names.now (F.files files.now)) }
+    requires spellable { AreSpellableChanges (changes_of names.now (F.files files.now)) }
+    requires recordable { All IsRecordableChange names.now }
     ensures adds { OnOk result (Adds (IsPartOf (Changes (changes_of names.now (F.files files.now)))) out.old.items out.new.items) }
     ensures len { OnOk result (vec_len out.new ≡ vec_len out.old + 5 + sum_by change_size (changes_of names.now (F.files files.now))) }
     ensures room { vec_capacity out.old ≤ vec_capacity out.new }
@@ -150,7 +151,8 @@ pub fn put_names_and_files_part<F: WrittenFiles>(
 }
 
 fn put_changes_part(out: &mut Vec<u8>, changes: &[Change]) -> Result<(), NoMemory>
-    requires { AreSpellableChanges changes.now }
+    requires spellable { AreSpellableChanges changes.now }
+    requires recordable { All IsRecordableChange changes.now }
     ensures adds { OnOk result (Adds (IsPartOf (Changes changes.now)) out.old.items out.new.items) }
     ensures len { OnOk result (vec_len out.new ≡ vec_len out.old + 5 + sum_by change_size changes.now) }
     ensures room { vec_capacity out.old ≤ vec_capacity out.new }
@@ -176,7 +178,8 @@ pub fn put_settings_part(out: &mut Vec<u8>, settings: &[Setting]) -> Result<(), 
 /// Writes the part at the end. It takes no memory where there is room for it, and where memory is not to be had a front of it
 /// may have been written.
 pub fn put_part(out: &mut Vec<u8>, part: &Part) -> Result<(), NoMemory>
-    requires { IsSpellablePart part.now }
+    requires spellable { IsSpellablePart part.now }
+    requires recordable { IsRecordablePart part.now }
     ensures adds { OnOk result (Adds (IsPartOf part.now) out.old.items out.new.items) }
     ensures len { OnOk result (vec_len out.new ≡ vec_len out.old + part_size part.now) }
     ensures room { vec_capacity out.old ≤ vec_capacity out.new }

@@ -6,14 +6,17 @@ use crate::event::{READY, SINGLE};
 use ktm_base::Id;
 use ktm_types::{Change, Setting};
 
-/// All bytes of a file that a transaction wrote.
+/// A file that a transaction wrote, as it is recorded.
 #[derive(Clone, Copy)]
-pub struct FileBytes<'a> {
+pub struct FilePages<'a> {
     pub file: u64,
-    pub bytes: &'a [u8],
+    /// How many bytes it has.
+    pub len: u64,
+    /// The pages that hold them, one for each 4,096 bytes.
+    pub pages: &'a [u32],
 }
 
-/// The files that a transaction wrote or made, each with all of its bytes, by rising number. They are shown where they stand.
+/// The files that a transaction wrote or made, each with its pages, by rising number. They are shown where they stand.
 pub trait WrittenFiles {
     /// The files.
     ghost files: { Self → List FinalFile };
@@ -22,11 +25,11 @@ pub trait WrittenFiles {
         ensures { result ≡ (length (files self.now) == 0) };
 
     /// The first of them.
-    fn first(&self) -> Option<FileBytes<'_>>
+    fn first(&self) -> Option<FilePages<'_>>
         ensures { option_map final_file result ≡ first_of (files self.now) };
 
     /// The first whose number is above this one.
-    fn behind(&self, file: u64) -> Option<FileBytes<'_>>
+    fn behind(&self, file: u64) -> Option<FilePages<'_>>
         ensures { option_map final_file result ≡ first_above (files self.now) file };
 
     /// Their numbers rise.
@@ -36,8 +39,8 @@ pub trait WrittenFiles {
 /// What one participant has to record of a transaction.
 #[derive_where(Clone, Copy)]
 pub enum Work<'a, F> {
-    /// Changes of names in order, and behind them the bytes of the files that were written. A file's bytes are recorded as a
-    /// cut to nothing and, where there are any, a put of them all.
+    /// Changes of names in order, and behind them the files that were written. A file is recorded as a cut to nothing and,
+    /// where it has bytes, a put of them all, which names their pages.
     Changes {
         names: &'a [Change],
         files: &'a F,

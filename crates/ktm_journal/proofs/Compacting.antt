@@ -6,23 +6,24 @@ use Rattle.ktm_base.specs.Bytes.{SameOutside, covers}
 use Rattle.ktm_base.specs.Disk.{DeviceCalls, DiskState, DiskStatus, IsSafe}
 use Rattle.ktm_base.specs.Told.{Goes}
 use Rattle.ktm_base.proofs.offered.Images.{calls_law, same_written}
-use Rattle.ktm_base.proofs.offered.ToldSteps.{IfSome-map, IfSome-step, IsSomeAnd-step}
+use Rattle.ktm_base.proofs.offered.ToldSteps.{Goes-map, IfSome-map, IfSome-step, IsSomeAnd-step}
 use Rattle.ktm_log.specs.Log.{IsLog, LogState, area_bytes}
 use Rattle.ktm_log.specs.OnDisk.{on}
 use Rattle.ktm_log.specs.Settle.{Settled, Tore}
 use Rattle.ktm_log.specs.declared.area.Area.{Area}
 use Rattle.ktm_log.proofs.Parts.{not_covered, written_part}
 use Rattle.ktm_log.proofs.Reading.{calls_most}
-use Rattle.ktm_log.proofs.Steps.{IsSomeAnd-two}
+use Rattle.ktm_log.proofs.Steps.{Goes-two, IfSome-from_tells, IsSomeAnd-two}
 use Rattle.ktm_types.specs.Groups.{Group}
 use Rattle.ktm_types.specs.Sizes.{area_len}
 use Rattle.ktm_journal.specs.declared.half.Half.{Half}
 use Rattle.ktm_journal.specs.declared.half.Half.TheVariants.{A, B}
 use Rattle.ktm_journal.specs.Compact.{Compacts, IsCutOff, LeavesOldOrNew, compacted, next_selector}
 use Rattle.ktm_journal.specs.Format.{IsLaid, LaysHalf}
-use Rattle.ktm_journal.specs.Image.{HasSnapshot, HoldGroups, IsHeaded, IsImage, JournalAt, JournalState, half_at, half_of, log_area}
+use Rattle.ktm_journal.specs.Image.{HasSnapshot, HoldGroups, IsHeaded, IsImage, JournalAt, JournalState, half_at, half_of, log_area, row_of}
 use Rattle.ktm_journal.proofs.Laying.{byte_at}
 use Rattle.ktm_journal.proofs.offered.Halves.{frames_same, half_high, half_low, halves_apart, headed_same, snapshot_same}
+use Rattle.ktm_journal.proofs.offered.Rows.{row_kept}
 
 -- ---- which half counts
 
@@ -121,6 +122,13 @@ module _ (j : JournalState) (snapshot : List ℕ) where
       let there = ap (λ (l : List ℕ). take 1 (drop 2048 l)) settled.seen ∙ written_part b.seen (next_selector j.selector ∷ []) 2048 (omega arith) in
       turned b.seen d.seen (next_selector j.selector) (settled_same b d long settled) (byte_at d.seen 2048 (next_selector j.selector) there) headed
 
+  -- both writes are away from the pages
+  half_pages : (a : DiskState) (image : List ℕ) → SameOutside ((half_at j.units (half_of (next_selector j.selector)), 2 * area_len j.units) ∷ []) a.seen image → row_of j.units image ≡ row_of j.units a.seen
+  half_pages a image same = row_kept j.units (half_at j.units (half_of (next_selector j.selector))) (2 * area_len j.units) a.seen image (half_high j.units (half_of (next_selector j.selector))) same
+
+  selector_pages : (b : DiskState) (image : List ℕ) → SameOutside ((2048, 1) ∷ []) b.seen image → row_of j.units image ≡ row_of j.units b.seen
+  selector_pages b image same = row_kept j.units 2048 1 b.seen image (omega arith) same
+
   module _ (before : List ℕ) (log : List Group) where
     used_of : (s : DiskState) → JournalAt j before log s → HalfHolds j.units (half_of j.selector) before log s.seen
     used_of s at = record {
@@ -203,6 +211,8 @@ module _ (j : JournalState) (snapshot : List ℕ) where
       cut_off_laying calls tore = record {
         same = refl;
         either = λ before log at. IsSomeAnd-step o m (JournalAt j before log) (LeavesOldOrNew j before log snapshot) at tore (laying before log);
+        pages = λ before log at.
+            Goes-map o m (JournalAt j before log) (IfSome-from_tells (JournalAt j before log) o at) tore (λ a b is torn image left. half_pages a image (torn.leaves is.rests.safe image left));
         calls = calls_most 4 6 s t true (omega arith) calls;
       }
 
@@ -212,6 +222,9 @@ module _ (j : JournalState) (snapshot : List ℕ) where
         cut_off_turning second tore = record {
           same = refl;
           either = λ before log at. IsSomeAnd-two (JournalAt j before log) (LeavesOldOrNew j before log snapshot) o m n at lays tore (turning before log);
+          pages = λ before log at.
+              Goes-two (JournalAt j before log) o m n (IfSome-from_tells (JournalAt j before log) o at) lays tore
+              (λ a b d is laid torn image left. selector_pages b image (torn.leaves laid.safe image left) ∙ half_pages a b.seen laid.elsewhere);
           calls = calls_law s t u 4 2 true first second;
         }
 
@@ -226,5 +239,7 @@ module _ (j : JournalState) (snapshot : List ℕ) where
               is = refl;
               begins = λ before log at. IsSomeAnd-two (JournalAt j before log) (JournalAt (compacted j) snapshot []) o m n at lays settled (begun before log);
               headed = headed_turned (headed_laid headed lays) settled;
+              pages = Goes-two (λ (s : DiskState). IsHeaded j.units j.image j.selector s.seen) o m n headed lays settled
+                  (λ a b d is laid turned. selector_pages b d.seen (settled_same b d (omega (arith, (laid_headed a b is laid).long)) turned) ∙ half_pages a b.seen laid.elsewhere);
               synced = record { calls = calls_law s t u 4 2 false first second; pending = pending; up = up };
             })

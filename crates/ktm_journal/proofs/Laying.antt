@@ -19,16 +19,10 @@ use Rattle.ktm_types.specs.Sizes.{area_len}
 use Rattle.ktm_journal.specs.declared.half.Half.{Half}
 use Rattle.ktm_journal.specs.Format.{LaysHalf}
 use Rattle.ktm_journal.specs.Image.{half_at, image_len, log_area}
+use Rattle.ktm_journal.specs.Pages.{StaysWithin}
 use Rattle.ktm_journal.proofs.offered.Halves.{half_high}
 
 -- ---- what stays as it was
-
--- nothing has changed and nothing more is dirty but in this range
-pub record StaysWithin (at len : ℕ) (old new : DiskState) : Type 0 where
-  pub same : SameOutside ((at, len) ∷ []) old.seen new.seen
-  pub shortest : new.shortest ≡ old.shortest
-  pub longest : new.longest ≡ old.longest
-  pub clean : (place : ℕ) → covers old.dirty place ≡ false → covers ((at, len) ∷ []) place ≡ false → covers new.dirty place ≡ false
 
 module _ (at len : ℕ) where
   pub stays_same : (a : DiskState) → StaysWithin at len a a
@@ -38,7 +32,7 @@ module _ (at len : ℕ) where
   narrower x n place low high h = let away = outside at len place h in not_covered x n place (grind arith)
 
   -- one write more, done or refused
-  dirties : (a b c : DiskState) (x n : ℕ) → StaysWithin at len a b → SameOutside ((x, n) ∷ []) b.seen c.seen → Dirtied x n b c → at ≤ x → x + n ≤ at + len → StaysWithin at len a c
+  pub dirties : (a b c : DiskState) (x n : ℕ) → StaysWithin at len a b → SameOutside ((x, n) ∷ []) b.seen c.seen → Dirtied x n b c → at ≤ x → x + n ≤ at + len → StaysWithin at len a c
   dirties a b c x n stays same dirtied low high = record {
     same = record {
       same_length = same.same_length ∙ stays.same.same_length;
@@ -114,7 +108,7 @@ no_frame units half bytes long gate =
     record { frames = tt; gate = closed_at (area_bytes (log_area units half) bytes) 0 (omega (arith, length-area (log_area units half) bytes within)) (λ e. absurd (omega (arith, shut, e))) }
 
 -- the three writes to a half, one after another
-module _ (units : ℕ) (half : Half) (first snapshot : List ℕ) (len_is : first ≡ to_le_bytes w64 (length snapshot)) (fits : 8 + length snapshot ≤ area_len units) where
+module _ (units : ℕ) (half : Half) (first snapshot : List ℕ) (len_is : first ≡ to_le_bytes w64 (2 ^ 63 + length snapshot)) (fits : 8 + length snapshot ≤ area_len units) where
   abbrev Lays : DiskState → DiskState → Type 0
   Lays = StaysWithin (half_at units half) (2 * area_len units)
 
@@ -171,7 +165,7 @@ module _ (units : ℕ) (half : Half) (first snapshot : List ℕ) (len_is : first
           gate_there = ap (λ (l : List ℕ). take 1 (drop gate l)) wrote.seen ∙ written_part c.seen (0 ∷ []) gate (omega arith);
         }
 
-    pub laid : (d e : DiskState) → length snapshot < 2 ^ 64 → WroteGate a d → Synced d e → LaysHalf units half snapshot a e
+    pub laid : (d e : DiskState) → 2 ^ 63 + length snapshot < 2 ^ 64 → WroteGate a d → Synced d e → LaysHalf units half snapshot a e
     laid d e small all synced =
         let same = synced.seen in
         let long : image_len units ≤ length e.seen = omega (arith, ap (λ (l : List ℕ). length l) same, all.stays.same.same_length) in
@@ -180,7 +174,7 @@ module _ (units : ℕ) (half : Half) (first snapshot : List ℕ) (len_is : first
             long = long;
             has = record {
               fits = fits;
-              length_is = ap (λ (l : List ℕ). from_le_bytes w64 (take 8 (drop (half_at units half) l))) same ∙ ap (λ (l : List ℕ). from_le_bytes w64 l) (all.length_there ∙ len_is) ∙ from_le_bytes-to_le_bytes_8 (length snapshot) small;
+              length_is = ap (λ (l : List ℕ). from_le_bytes w64 (take 8 (drop (half_at units half) l))) same ∙ ap (λ (l : List ℕ). from_le_bytes w64 l) (all.length_there ∙ len_is) ∙ from_le_bytes-to_le_bytes_8 (2 ^ 63 + length snapshot) small;
               is = ap (λ (l : List ℕ). take (length snapshot) (drop (half_at units half + 8) l)) same ∙ all.snapshot_there;
             };
             frames = no_frame units half e.seen long (ap (λ (l : List ℕ). take 1 (drop (half_at units half + area_len units) l)) same ∙ all.gate_there);
@@ -200,7 +194,7 @@ module _ (units : ℕ) (half : Half) (first snapshot : List ℕ) (len_is : first
     pub gate_told : (m n : Option DiskState) → Goes WroteSnapshot o m → Goes (Wrote (half_at units half + area_len units) (0 ∷ [])) m n → Goes WroteGate o n
     gate_told m n before wrote = Goes-two (λ (s : DiskState). image_len units ≤ length s.seen) o m n within before wrote (λ a b c long first w. wrote_gate a long b c first w)
 
-    pub laid_told : (m n : Option DiskState) → length snapshot < 2 ^ 64 → Goes WroteGate o m → Goes Synced m n → Goes (LaysHalf units half snapshot) o n
+    pub laid_told : (m n : Option DiskState) → 2 ^ 63 + length snapshot < 2 ^ 64 → Goes WroteGate o m → Goes Synced m n → Goes (LaysHalf units half snapshot) o n
     laid_told m n small before synced = Goes-two (λ (s : DiskState). image_len units ≤ length s.seen) o m n within before synced (λ a d e long all is. laid a long d e small all is)
 
     pub gate_within : (m : Option DiskState) → Goes WroteSnapshot o m → IfSome m (λ s. half_at units half + area_len units + 1 ≤ length s.seen)

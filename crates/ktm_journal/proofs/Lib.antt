@@ -1,5 +1,6 @@
 mod Known
 mod Laying
+mod Snapshots
 mod Formats
 mod Headers
 mod Opened

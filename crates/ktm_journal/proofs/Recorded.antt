@@ -15,7 +15,7 @@ use Rattle.ktm_types.specs.Sizes.{frame_size}
 use Rattle.ktm_types.specs.Groups.{Group, is_full}
 use Rattle.ktm_journal.specs.Append.{RecordLeaves, Records, has_no_room, with_group}
 use Rattle.ktm_journal.specs.Image.{IsHeaded, JournalState, half_of, log_area}
-use Rattle.ktm_journal.proofs.offered.Images.{group_added, group_or_not, stays_headed}
+use Rattle.ktm_journal.proofs.offered.Images.{group_added, group_or_not, keeps_pages, leaves_pages, stays_headed}
 
 -- a group has room where its frame has it
 has_room : (len end size : ℕ) (group : Group) → 1 ≤ length group → size ≡ frame_size group → end + size + 1 ≤ len → is_full (len - end) group ≡ false
@@ -53,6 +53,7 @@ module _ (j : JournalState) (events : EventsState) (body : List ℕ) (some : 1 �
         group_added j snapshot log group events.payload (is_group group held (some_of group held)) l count o n (ap (λ (l : LogState). l.area) appends.log) at
         (λ ps rests. appends.frame ps events.payload body_is rests) appends.elsewhere;
     headed = stays_headed j o n area headed appends.elsewhere;
+    pages = keeps_pages j o n area headed appends.elsewhere;
     synced = appends.synced;
   }
 
@@ -63,6 +64,7 @@ module _ (j : JournalState) (events : EventsState) (body : List ℕ) (some : 1 �
     room = room_of cut.room;
     either = λ snapshot log group held at.
         group_or_not j snapshot log group events.payload (is_group group held (some_of group held)) o n at (λ ps rests. cut.either ps events.payload body_is rests);
+    pages = λ snapshot log at. leaves_pages j snapshot log events.payload o n at (λ ps rests. cut.either ps events.payload body_is rests);
     calls = cut.calls;
   }
   unrecorded Full l o n s t full = record {

@@ -1,6 +1,7 @@
 -- What an append to a journal leaves, by its answer.
 use Rattle.std.specs.Prelude.{◌≡◌, ℕ, ◌+◌, ◌-◌, Bool, true, false, List, [], ◌∷◌, ◌++◌, length, Result, Ok, Err, IfSome, IsSomeAnd}
 use Rattle.ktm_base.specs.Disk.{DeviceCalls}
+use Rattle.ktm_base.specs.Told.{Goes}
 use Rattle.ktm_event.specs.Kept.{EventsState, Holds}
 use Rattle.ktm_log.specs.declared.fault.AppendFault.{AppendFault}
 use Rattle.ktm_log.specs.declared.fault.AppendFault.TheVariants.{Down, Full}
@@ -8,6 +9,7 @@ use Rattle.ktm_log.specs.OnDisk.{AllSynced, OnDisk}
 use Rattle.ktm_types.specs.Sizes.{frame_size}
 use Rattle.ktm_types.specs.Groups.{Group, is_full}
 use Rattle.ktm_journal.specs.Image.{IsHeaded, JournalAt, JournalState, LeavesGroupOrNot}
+use Rattle.ktm_journal.specs.Pages.{KeepsPages, LeavesPages}
 
 -- has the log no room for this group
 abbrev pub has_no_room : JournalState → Group → Bool
@@ -24,7 +26,7 @@ pub record IsSameImage (old new : JournalState) : Type 0 where
   pub selector : new.selector ≡ old.selector
   pub area : new.log.area ≡ old.log.area
 
--- the journal has these events as a group more, and all of it is safe
+-- the journal has these events as a group more, all of it is safe, and the pages are as they were
 pub record Records (events : EventsState) (old new : OnDisk JournalState) : Type 0 where
   pub same : IsSameImage old.it new.it
   pub room : (group : Group) → Holds events group → has_no_room old.it group ≡ false
@@ -32,14 +34,16 @@ pub record Records (events : EventsState) (old new : OnDisk JournalState) : Type
   pub adds : (snapshot : List ℕ) (log : List Group) (group : Group) → Holds events group
       → IsSomeAnd old.told (JournalAt old.it snapshot log) → IsSomeAnd new.told (JournalAt new.it snapshot (log ++ group ∷ []))
   pub headed : IfSome new.told (λ s. IsHeaded new.it.units new.it.image new.it.selector s.seen)
+  pub pages : Goes (KeepsPages old.it.units) old.told new.told
   pub synced : AllSynced 4 old.status new.status
 
--- the disk went down: the group may be there or not
+-- the disk went down: the group may be there or not, and the pages are as they were
 pub record IsInterrupted (events : EventsState) (old new : OnDisk JournalState) : Type 0 where
   pub same : new.it ≡ old.it
   pub room : (group : Group) → Holds events group → has_no_room old.it group ≡ false
   pub either : (snapshot : List ℕ) (log : List Group) (group : Group) → Holds events group
       → IsSomeAnd old.told (JournalAt old.it snapshot log) → IsSomeAnd new.told (LeavesGroupOrNot old.it snapshot log group)
+  pub pages : (snapshot : List ℕ) (log : List Group) → IsSomeAnd old.told (JournalAt old.it snapshot log) → Goes (LeavesPages old.it.units) old.told new.told
   pub calls : DeviceCalls 4 old.status new.status true
 
 -- the log has no room for the group, and nothing was done

@@ -9,7 +9,7 @@ use Rattle.ktm_journal.specs.Image.{HasSnapshot, IsHeaded}
 abbrev pub HasNoHeader : List ℕ → Type 0
 HasNoHeader bytes = (units image selector : ℕ) → ¬ IsHeaded units image selector bytes
 
--- the half has no snapshot: it would be longer than its area
+-- the half has no snapshot: its length is not marked, or it would be longer than its area
 abbrev pub HasNoSnapshot : ℕ → Half → List ℕ → Type 0
 HasNoSnapshot units half bytes = (snapshot : List ℕ) → ¬ HasSnapshot units half snapshot bytes
 

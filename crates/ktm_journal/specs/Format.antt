@@ -16,7 +16,7 @@ Anything old new = Unit {0}
 pub record IsHeader (units image : ℕ) (bytes : List ℕ) : Type 0 where
   pub long : length bytes ≡ 18
   pub magic : take 8 bytes ≡ codes "KTMTXF01"
-  pub layout : from_le_bytes w32 (take 4 (drop 8 bytes)) ≡ 1
+  pub layout : from_le_bytes w32 (take 4 (drop 8 bytes)) ≡ 3
   pub units_are : from_le_bytes w32 (take 4 (drop 12 bytes)) ≡ units
   pub number : from_le_bytes w16 (take 2 (drop 16 bytes)) ≡ image
 

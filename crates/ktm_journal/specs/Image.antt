@@ -1,7 +1,7 @@
--- The image of a journal on a disk: a header, and behind it two halves of two areas, of which one holds a snapshot and the next a log.
-use Rattle.std.specs.Prelude.{◌≡◌, ◌⊎◌, ℕ, ◌+◌, ◌-◌, ◌*◌, ◌%◌, ◌≤◌, ◌==◌, if◌then◌else◌, List, [], ◌∷◌, ◌++◌, length, take, drop, slice_index, codes}
+-- The image of a journal on a disk: a header, behind it two halves of two areas, of which one holds a snapshot and the next a log, and behind them pages.
+use Rattle.std.specs.Prelude.{◌≡◌, ◌⊎◌, ℕ, ◌+◌, ◌*◌, ◌^◌, ◌%◌, ◌≤◌, ◌==◌, if◌then◌else◌, List, [], ◌∷◌, ◌++◌, length, take, drop, slice_index, codes}
 use Rattle.std.specs.Int.{from_le_bytes, w16, w32, w64}
-use Rattle.ktm_base.specs.declared.limits.TheConstants.{LEAST_UNITS, MOST_UNITS}
+use Rattle.ktm_base.specs.declared.limits.TheConstants.{LEAST_UNITS, MOST_UNITS, UNIT_BYTES}
 use Rattle.ktm_base.specs.Disk.{DiskState, MayLeave}
 use Rattle.ktm_log.specs.declared.area.Area.{Area}
 use Rattle.ktm_log.specs.Log.{LogState, IsLog, Rests, area_bytes}
@@ -28,9 +28,25 @@ snapshot_area units half = record { at = half_at units half; len = area_len unit
 abbrev pub log_area : ℕ → Half → Area
 log_area units half = record { at = half_at units half + area_len units; len = area_len units }
 
--- the header and four areas
+-- how many pages an image has
+abbrev pub page_count : ℕ → ℕ
+page_count units = 2 * units + 64
+
+-- where the pages begin, behind the header and the four areas
+abbrev pub pages_at : ℕ → ℕ
+pages_at units = 4096 + 4 * area_len units
+
+-- the part of an image that its pages take
+abbrev pub page_area : ℕ → Area
+page_area units = record { at = pages_at units; len = UNIT_BYTES * page_count units }
+
+-- the header, four areas, and the pages
 abbrev pub image_len : ℕ → ℕ
-image_len units = 4096 + 4 * area_len units
+image_len units = pages_at units + UNIT_BYTES * page_count units
+
+-- the pages of an image, one behind another
+abbrev pub row_of : ℕ → List ℕ → List ℕ
+row_of units bytes = area_bytes (page_area units) bytes
 
 -- the state of a new image: no event, no boot, the next node number 2, and four empty lists
 unfoldable pub empty_snapshot : List ℕ
@@ -38,21 +54,21 @@ empty_snapshot =
     0 ∷ 0 ∷ 0 ∷ 0 ∷ 0 ∷ 0 ∷ 0 ∷ 0 ∷ 0 ∷ 0 ∷ 0 ∷ 0 ∷ 2 ∷ 0 ∷ 0 ∷ 0 ∷ 0 ∷ 0 ∷ 0 ∷ 0
     ∷ 0 ∷ 0 ∷ 0 ∷ 0 ∷ 0 ∷ 0 ∷ 0 ∷ 0 ∷ 0 ∷ 0 ∷ 0 ∷ 0 ∷ 0 ∷ 0 ∷ 0 ∷ 0 ∷ []
 
--- the bytes begin with the header of this image with this selector, and are long enough for its areas
+-- the bytes begin with the header of this image with this selector, and are long enough for its areas and its pages
 pub record IsHeaded (units image selector : ℕ) (bytes : List ℕ) : Type 0 where
   pub least : LEAST_UNITS ≤ units
   pub most : units ≤ MOST_UNITS
   pub long : image_len units ≤ length bytes
   pub magic : take 8 bytes ≡ codes "KTMTXF01"
-  pub layout : from_le_bytes w32 (take 4 (drop 8 bytes)) ≡ 1
+  pub layout : from_le_bytes w32 (take 4 (drop 8 bytes)) ≡ 3
   pub units_are : from_le_bytes w32 (take 4 (drop 12 bytes)) ≡ units
   pub number : from_le_bytes w16 (take 2 (drop 16 bytes)) ≡ image
   pub selector_is : slice_index bytes 2048 ≡ selector
 
--- the half's snapshot is this: its area begins with the length in eight bytes, least byte first, and then has the snapshot
+-- the half's snapshot is this: its area begins with the length in eight bytes, least byte first and with the top bit set, and then has the snapshot
 pub record HasSnapshot (units : ℕ) (half : Half) (snapshot bytes : List ℕ) : Type 0 where
   pub fits : 8 + length snapshot ≤ area_len units
-  pub length_is : from_le_bytes w64 (take 8 (drop (snapshot_area units half).at bytes)) ≡ length snapshot
+  pub length_is : from_le_bytes w64 (take 8 (drop (snapshot_area units half).at bytes)) ≡ 2 ^ 63 + length snapshot
   pub is : take (length snapshot) (drop ((snapshot_area units half).at + 8) bytes) ≡ snapshot
 
 -- before the log stand the header and, in the half that counts, this snapshot

@@ -1,4 +1,5 @@
 pub mod Image
+pub mod Pages
 pub mod Format
 pub mod Bad
 pub mod Header

@@ -29,7 +29,7 @@ fn parse(bytes: &[u8; 18], selector: u8) -> Option<Header>
     ensures some { IfSome result (λ header. IsHeader header.units header.image bytes.now × (header.selector ≡ selector)) }
     ensures none { result ≡ None → (units image : ℕ) → ¬ IsHeader units image bytes.now }
 {
-    if bytes[..8] != b"KTMTXF01"[..] || u32_in(bytes, 8) != 1 {
+    if bytes[..8] != b"KTMTXF01"[..] || u32_in(bytes, 8) != 3 {
         return None;
     }
     Some(Header {

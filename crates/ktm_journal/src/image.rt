@@ -1,16 +1,17 @@
 // What a new image holds, and how it is written.
-ghost use Rattle.std.specs.Prelude.{[], false, ◌≡◌, ℕ, ◌+◌, ◌≤◌, length, OnOk, OnErr, is_err, IfSome};
+ghost use Rattle.std.specs.Prelude.{[], false, ◌≡◌, ℕ, ◌+◌, ◌<◌, ◌≤◌, length, OnOk, OnErr, is_err, IfSome};
 ghost use Rattle.ktm_base.specs.declared.limits.TheConstants.{LEAST_UNITS, MOST_UNITS};
 ghost use Rattle.ktm_base.specs.Told.{Goes};
 ghost use Rattle.ktm_base.specs.Disk.{DeviceCalls, IsSafe};
 ghost use Rattle.ktm_journal.specs.declared.half.Half.TheVariants.{A};
-ghost use Rattle.ktm_journal.specs.Image.{IsImage, empty_snapshot, half_at, image_len, log_area, snapshot_area};
+ghost use Rattle.ktm_journal.specs.Image.{IsImage, empty_snapshot, half_at, image_len, log_area, page_count, pages_at, snapshot_area};
 ghost use Rattle.ktm_types.specs.Sizes.{area_len};
 ghost use Rattle.ktm_journal.specs.Format.{Anything, IsHeader, IsLaid, SettledBoth};
+ghost use Rattle.ktm_journal.specs.Pages.{page_at};
 
 use crate::half::Half;
 use crate::snapshot::{empty_snapshot, lay_half};
-use ktm_base::{Disk, Down};
+use ktm_base::{Disk, Down, UNIT_BYTES};
 use ktm_log::Area;
 
 pub(crate) const SELECTOR_AT: u64 = 2048;
@@ -25,11 +26,36 @@ pub(crate) fn area_len(units: u32) -> u64
     8192 * u64::from(units) + 65536
 }
 
+/// How many pages an image of so many units has.
+pub fn page_count(units: u32) -> u32
+    requires { units ≤ MOST_UNITS }
+    ensures { result ≡ page_count units }
+{
+    2 * units + 64
+}
+
+// Where the pages begin.
+fn pages_at(units: u32) -> u64
+    requires { units ≤ MOST_UNITS }
+    ensures { result ≡ pages_at units }
+{
+    HEADER_LEN + 4 * area_len(units)
+}
+
+/// Where a page begins.
+pub(crate) fn page_at(units: u32, page: u32) -> u64
+    requires most { units ≤ MOST_UNITS }
+    requires within { page < page_count units }
+    ensures { result ≡ page_at units page }
+{
+    pages_at(units) + u64::from(page) * UNIT_BYTES
+}
+
 pub(crate) fn image_len(units: u32) -> u64
     requires { units ≤ MOST_UNITS }
     ensures { result ≡ image_len units }
 {
-    HEADER_LEN + 4 * area_len(units)
+    pages_at(units) + UNIT_BYTES * u64::from(page_count(units))
 }
 
 fn half_at(units: u32, half: Half) -> u64
@@ -71,7 +97,7 @@ fn header(units: u32, image: u16) -> [u8; 18]
     let [u0, u1, u2, u3] = units.to_le_bytes();
     let [i0, i1] = image.to_le_bytes();
     [
-        b'K', b'T', b'M', b'T', b'X', b'F', b'0', b'1', 1, 0, 0, 0, u0, u1, u2, u3, i0, i1,
+        b'K', b'T', b'M', b'T', b'X', b'F', b'0', b'1', 3, 0, 0, 0, u0, u1, u2, u3, i0, i1,
     ]
 }
 

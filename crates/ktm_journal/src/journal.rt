@@ -1,18 +1,21 @@
 // The journal of an image, and how it grows.
-ghost use Rattle.std.specs.Prelude.{◌^◌, ◌≡◌, ◌+◌, ◌-◌, ◌*◌, ◌<◌, ◌≤◌, [], length, OnOk, OnErr, false, is_err, IfSome};
-ghost use Rattle.ktm_base.specs.declared.limits.TheConstants.{LEAST_UNITS, MOST_UNITS, MOST_PENDING};
+ghost use Rattle.std.specs.Prelude.{◌^◌, ◌≡◌, ℕ, ◌+◌, ◌-◌, ◌*◌, ◌<◌, ◌≤◌, List, [], ◌∷◌, length, OnOk, OnErr, false, is_err, IfSome, IsSomeAnd};
+ghost use Rattle.ktm_base.specs.declared.limits.TheConstants.{LEAST_UNITS, MOST_UNITS, MOST_PENDING, UNIT_BYTES};
 ghost use Rattle.ktm_base.specs.Told.{Goes};
-ghost use Rattle.ktm_base.specs.Disk.{DeviceCalls, IsSafe};
+ghost use Rattle.ktm_base.specs.Disk.{DeviceCalls, IsSafe, OnlyReads};
 ghost use Rattle.ktm_log.specs.OnDisk.{on};
+ghost use Rattle.ktm_page.specs.Row.{page_of};
+ghost use Rattle.ktm_types.specs.Groups.{Group};
 ghost use Rattle.ktm_types.specs.Sizes.{area_len, frame_size};
 ghost use Rattle.ktm_journal.specs.Append.{RecordLeaves};
 ghost use Rattle.ktm_journal.specs.Compact.{CompactLeaves};
 ghost use Rattle.ktm_journal.specs.Format.{Anything};
-ghost use Rattle.ktm_journal.specs.Image.{IsHeaded, IsImage, empty_snapshot};
+ghost use Rattle.ktm_journal.specs.Image.{IsHeaded, IsImage, empty_snapshot, page_count, row_of};
 ghost use Rattle.ktm_journal.specs.Open.{OpenLeaves};
+ghost use Rattle.ktm_journal.specs.Pages.{JournalBut, PageTorn, PageWritten};
 
 use crate::half::half_of;
-use crate::image::{SELECTOR_AT, area_len, lay, log_area, put_header};
+use crate::image::{SELECTOR_AT, area_len, lay, log_area, page_at, put_header};
 use crate::snapshot::lay_half;
 use crate::{Header, LoadFault};
 use ktm_base::{Disk, Down};
@@ -138,6 +141,42 @@ impl Journal {
         let log = Log::empty(log_area(self.units, half));
         self.selector = selector;
         self.log = log;
+        Ok(())
+    }
+
+    /// Fills the buffer with the bytes of a page.
+    pub fn read_page<D: Disk>(&self, disk: &mut D, page: u32, buf: &mut [u8]) -> Result<(), Down>
+        requires within { page < page_count self.now.units }
+        requires whole { length buf.old ≡ UNIT_BYTES }
+        requires headed { IfSome (D.told disk.old) (λ s. IsHeaded self.now.units self.now.image self.now.selector s.seen) }
+        ensures value { OnOk result (IfSome (D.told disk.old) (λ s. buf.new ≡ page_of (row_of self.now.units s.seen) page)) }
+        ensures reads { OnlyReads 1 (D.told disk.old) (D.told disk.new) (D.status disk.old) (D.status disk.new) (is_err result) }
+        ensures up { OnOk result ((D.status disk.new).is_down ≡ false) }
+    {
+        if let Err(Down) = disk.read_at(page_at(self.units, page), buf) {
+            return Err(Down);
+        }
+        Ok(())
+    }
+
+    /// Writes over a page, in one device call. Until a sync a loss of power may leave anything in it, and where it answers Down
+    /// the page may hold anything; all else of the image is as it was.
+    pub fn write_page<D: Disk>(&self, disk: &mut D, page: u32, bytes: &[u8]) -> Result<(), Down>
+        requires within { page < page_count self.now.units }
+        requires whole { length bytes.now ≡ UNIT_BYTES }
+        requires pending { (D.status disk.old).pending < MOST_PENDING }
+        requires headed { IfSome (D.told disk.old) (λ s. IsHeaded self.now.units self.now.image self.now.selector s.seen) }
+        ensures ok { OnOk result (Goes (PageWritten self.now.units page bytes.now) (D.told disk.old) (D.told disk.new)) }
+        ensures err { OnErr result (Goes (PageTorn self.now.units page) (D.told disk.old) (D.told disk.new)) }
+        ensures kept { (pages snapshot : List ℕ) (log : List Group) → IsSomeAnd (D.told disk.old) (JournalBut pages self.now snapshot log) → IsSomeAnd (D.told disk.new) (JournalBut (page ∷ pages) self.now snapshot log) }
+        ensures headed { IfSome (D.told disk.new) (λ s. IsHeaded self.now.units self.now.image self.now.selector s.seen) }
+        ensures pending { (D.status disk.new).pending ≤ (D.status disk.old).pending + 1 }
+        ensures up { OnOk result ((D.status disk.new).is_down ≡ false) }
+        ensures calls { DeviceCalls 1 (D.status disk.old) (D.status disk.new) (is_err result) }
+    {
+        if let Err(Down) = disk.write_at(page_at(self.units, page), bytes) {
+            return Err(Down);
+        }
         Ok(())
     }
 

@@ -1,5 +1,6 @@
 // Reading the snapshot of an image, and laying a half anew.
-ghost use Rattle.std.specs.Prelude.{◌≡◌, ◌+◌, ◌*◌, ◌≤◌, length, IfSome, OnOk, OnErr, is_err, false};
+ghost use Rattle.std.specs.Prelude.{◌≡◌, ℕ, ◌+◌, ◌*◌, ◌^◌, ◌<◌, ◌≤◌, length, None, IfSome, OnOk, OnErr, is_err, false};
+ghost use Rattle.std.specs.Int.{from_le_bytes, w64};
 ghost use Rattle.ktm_base.specs.declared.limits.TheConstants.{MOST_UNITS};
 ghost use Rattle.ktm_base.specs.Told.{Goes};
 ghost use Rattle.ktm_base.specs.Disk.{DeviceCalls};
@@ -25,8 +26,28 @@ pub fn empty_snapshot() -> [u8; 36]
     bytes
 }
 
+// Set in a snapshot's length where it stands in an image.
+const LENGTH_MARK: u64 = 1 << 63;
+
+// The length of the snapshot whose area begins so, where the area has room for it.
+fn length_in(first: [u8; 8], area_len: u64) -> Option<u64>
+    requires { 8 ≤ area_len }
+    ensures some { IfSome result (λ len. (from_le_bytes w64 first ≡ 2 ^ 63 + len) × (8 + len ≤ area_len)) }
+    ensures none { result ≡ None → (len : ℕ) → from_le_bytes w64 first ≡ 2 ^ 63 + len → area_len < 8 + len }
+{
+    let marked = u64::from_le_bytes(first);
+    if marked < LENGTH_MARK {
+        return None;
+    }
+    let len = marked - LENGTH_MARK;
+    if area_len - 8 < len {
+        return None;
+    }
+    Some(len)
+}
+
 /// Reads the snapshot of the half that counts into the buffer, which is made as long as its area first: it takes memory
-/// only where the buffer has less. A snapshot that would be longer than its area is bad.
+/// only where the buffer has less. A snapshot whose length is not marked, or that would be longer than its area, is bad.
 pub fn read_snapshot<D: Disk>(
     disk: &mut D,
     header: Header,
@@ -45,10 +66,9 @@ pub fn read_snapshot<D: Disk>(
     if let Err(Down) = disk.read_at(area.at, &mut first) {
         return Err(LoadFault::Down);
     }
-    let len = u64::from_le_bytes(first);
-    if area.len - 8 < len {
+    let Some(len) = length_in(first, area.len) else {
         return Err(LoadFault::Bad(area.at));
-    }
+    };
     buffer.resize(len as usize, 0).unwrap();
     if let Err(Down) = disk.read_at(area.at + 8, buffer) {
         return Err(LoadFault::Down);
@@ -74,7 +94,7 @@ pub(crate) fn lay_half<D: Disk>(
     ensures calls { DeviceCalls 4 (D.status disk.old) (D.status disk.new) (is_err result) }
 {
     let area = snapshot_area(units, half);
-    let len = (snapshot.len() as u64).to_le_bytes();
+    let len = (LENGTH_MARK + snapshot.len() as u64).to_le_bytes();
     if let Err(Down) = disk.write_at(area.at, &len) {
         return Err(Down);
     }

@@ -13,7 +13,7 @@ use Rattle.ktm_types.specs.declared.command.Line.{Line}
 use Rattle.ktm_types.specs.declared.command.Line.TheVariants.{Process, Tick}
 use Rattle.ktm_types.specs.declared.reply.Reply.{Reply}
 use Rattle.ktm_types.specs.declared.reply.Reply.TheVariants.{Refused}
-use Rattle.ktm_types.specs.Values.{IsCommand}
+use Rattle.ktm_types.specs.Values.{IsGiven}
 use Rattle.ktm_world.specs.Decide.{decide}
 use Rattle.ktm_world.specs.Outcome.{Outcome, apply}
 use Rattle.ktm_world.specs.Present.{Present}
@@ -26,7 +26,8 @@ use Rattle.ktm_standing.specs.Laws.{KeptLaw, StandingLaw}
 use Rattle.ktm_standing.specs.Standing.{IsStanding, IsStandingNow}
 use Rattle.ktm_standing.proofs.offered.Decided.{decided_law}
 use Rattle.ktm_kernel.specs.Answers.{AnswerLeaves, CallLeaves, IsAnswered, IsLineAnswered}
-use Rattle.ktm_kernel.specs.Done.{Ends, fallen, most_calls}
+use Rattle.ktm_core.specs.Done.{fallen}
+use Rattle.ktm_kernel.specs.Done.{Ends, most_calls}
 use Rattle.ktm_kernel.specs.Reserved.{KeepsReserved}
 use Rattle.ktm_kernel.specs.Stands.{DoesLine, IsPowered, IsReady, KernelAt, KernelState}
 use Rattle.ktm_kernel.proofs.Reserved.{call_reserved, tick_reserved}
@@ -55,6 +56,7 @@ off_ready k told status off = record {
   powered = unpowered k told status off;
   standing = λ on. absurd (both_ways k.now.machine.is_up off on);
   slots = off_slots k off;
+  core = λ on. absurd (both_ways k.now.machine.is_up off on);
 }
 
 -- ---- an outcome
@@ -110,6 +112,7 @@ module _ (line : Line) (decides : Present → Outcome) (does : (w : World) (k : 
       powered = answered.powered;
       standing = ends_standing new.status.is_down old.it new.it (decides old.it.now) reply old.told new.told standing answered.ends;
       slots = answered.slots;
+      core = answered.core;
     };
     calls = answered.calls;
     untouched = answered.untouched;
@@ -132,7 +135,7 @@ module _ (line : Line) (decides : Present → Outcome) (does : (w : World) (k : 
   }
 
 -- a call of a process
-pub call_answered : StandingLaw → ReservedFilesLaw → KeptLaw → SpellingLaw → (process : Pid) (command : Command) → IsCommand command → (old new : OnDisk KernelState) → old.it.now.machine.is_up ≡ true → IsReady old.it old.told old.status
+pub call_answered : StandingLaw → ReservedFilesLaw → KeptLaw → SpellingLaw → (process : Pid) (command : Command) → IsGiven command → (old new : OnDisk KernelState) → old.it.now.machine.is_up ≡ true → IsReady old.it old.told old.status
     → HasEventsLeft old.it.now → (r : Result Reply NoMemory) → AnswerLeaves (decide old.it.now process command) old new r → CallLeaves process command old new r
 call_answered law reserves keeps spelling process command can old new up ready left (Ok reply) answered =
     let kept = keeps old.it.now (ready.standing up) in

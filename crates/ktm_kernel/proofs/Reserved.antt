@@ -16,7 +16,8 @@ use Rattle.txf_laws.proofs.offered.Reservations.{own-apply}
 use Rattle.txf_laws.specs.Reservations.{IsLeft}
 use Rattle.ktm_laws.specs.ReservedFiles.{ReservedFilesLaw, with_opens}
 use Rattle.ktm_records.specs.Kept.{IsKept}
-use Rattle.ktm_kernel.specs.Done.{Ends, fallen}
+use Rattle.ktm_core.specs.Done.{fallen}
+use Rattle.ktm_kernel.specs.Done.{Ends}
 use Rattle.ktm_kernel.specs.Reserved.{KeepsReserved}
 use Rattle.ktm_kernel.specs.Stands.{KernelState}
 

@@ -1,36 +1,55 @@
 -- What a restart finds on a disk, and what it makes of it.
-use Rattle.std.proofs.Common.{◌≡◌, ℕ, ◌≤◌, Bool, true, false, List, [], ◌∷◌, ◌++◌, length, Option, None, Some, refl, sym, ◌∙◌, ap, subst, arith, inl}
-use Rattle.std.specs.Prelude.{IfSome, IsSomeAnd, Vec, vec_capacity}
-use Rattle.ktm_base.specs.declared.limits.TheConstants.{MOST_UNITS}
-use Rattle.ktm_base.specs.Disk.{DiskState}
-use Rattle.ktm_base.proofs.offered.Images.{safe_law}
-use Rattle.ktm_base.proofs.offered.ToldSteps.{IfSome-map, IsSomeAnd-map}
+use Rattle.std.proofs.Common.{◌≡◌, ℕ, ◌+◌, ◌*◌, ◌≤◌, Bool, true, false, List, length, Option, None, Some, Vec, refl, sym, ◌∙◌, ap, subst, arith, inl, inr}
+use Rattle.std.specs.Prelude.{IfSome, IsSomeAnd, vec_capacity}
+use Rattle.ktm_base.specs.declared.limits.TheConstants.{LEAST_UNITS, MOST_UNITS}
+use Rattle.ktm_base.specs.Disk.{DeviceCalls, DiskState, DiskStatus, IsSafe}
+use Rattle.ktm_base.specs.Told.{Goes}
+use Rattle.ktm_base.proofs.offered.Images.{calls_law, safe_law}
+use Rattle.ktm_base.proofs.offered.ToldSteps.{IfSome-map, IfSome-step, IsSomeAnd-map}
+use Rattle.ktm_alike.specs.Alike.{mapped_present}
+use Rattle.ktm_alike.specs.Laws.{AlikeLaw}
+use Rattle.ktm_content.specs.Places.{byte_at}
+use Rattle.ktm_core.specs.Core.{AreSoundFiles, ArePlacesStored, HoldsPlaces, PagesAgree, core_of}
+use Rattle.ktm_core.specs.Starting.{Begun, IsOnStart, ListsStart, LeavesOwnOrNot as LeavesPlaces, started as what_starts}
+use Rattle.ktm_core.proofs.offered.Places.{files-weaker, durable-weaker, recorded-each}
+use Rattle.ktm_each.specs.Each.{EachOfFiles}
+use Rattle.ktm_event.specs.Kept.{EventsState}
+use Rattle.ktm_journal.specs.Image.{JournalState, IsHeaded, page_count, row_of}
+use Rattle.ktm_journal.specs.Open.{log_reads}
+use Rattle.ktm_journal.specs.Pages.{LeavesPages}
+use Rattle.ktm_laws.proofs.offered.LogCounts.{own-counts}
 use Rattle.ktm_log.specs.declared.area.Area.{Area}
 use Rattle.ktm_log.specs.OnDisk.{OnDisk, ReadsInto, on}
+use Rattle.ktm_mapped.specs.Laws.{MappedLaw}
+use Rattle.ktm_mapped.specs.Mapped.{IsBlank, mapped_durable}
+use Rattle.ktm_memory.specs.Memory.{IsRoomy, MemoryState, held, present_of}
+use Rattle.ktm_memory.specs.Stored.{AreFilesHeld}
+use Rattle.ktm_page.specs.Row.{page_of}
+use Rattle.ktm_records.specs.Spelling.{AreRecordedTexts, SpellingLaw}
 use Rattle.ktm_restart.specs.Loads.{IsBadImage, IsJournalOf, IsLoaded}
 use Rattle.ktm_restart.specs.declared.replay.Loaded.{Loaded}
-use Rattle.ktm_restart.specs.Logs.{IsSafeFor, JournalFor, StandsFor}
-use Rattle.ktm_journal.specs.Image.{JournalState, IsHeaded}
-use Rattle.ktm_event.specs.Kept.{EventsState}
-use Rattle.ktm_world.specs.Durable.{Durable, is_worn, stand}
-use Rattle.ktm_types.specs.Sizes.{area_len}
-use Rattle.ktm_world.specs.Logs.{Group}
-use Rattle.ktm_world.specs.World.{in_doubt, own_group}
-use Rattle.ktm_world.specs.Present.{Present}
-use Rattle.ktm_world.proofs.offered.Durables.{stand-append}
-use Rattle.ktm_laws.proofs.offered.LogCounts.{own-counts}
-use Rattle.ktm_records.specs.Spelling.{AreRecordedTexts, SpellingLaw}
+use Rattle.ktm_restart.specs.Logs.{IsSafeFor, JournalFor, PagedFor, StandsFor, bytes_seen}
+use Rattle.ktm_slots.specs.Owed.{owed_slots}
 use Rattle.ktm_standing.specs.Laws.{FreshLaw, StandingLaw}
 use Rattle.ktm_standing.specs.Standing.{IsStandingNow, fresh}
-use Rattle.ktm_slots.specs.Owed.{owed_slots}
-use Rattle.ktm_memory.specs.Memory.{IsRoomy, MemoryState}
+use Rattle.ktm_store.specs.Store.{IsStoredAt, StoreState, page_at}
+use Rattle.ktm_store.proofs.offered.Holding.{byte-same}
+use Rattle.ktm_types.specs.Sizes.{area_len}
+use Rattle.ktm_units.specs.Units.{Agree, SeenLaw}
+use Rattle.ktm_world.specs.Durable.{Durable, is_worn, stand}
+use Rattle.ktm_world.specs.Logs.{Group}
+use Rattle.ktm_world.specs.Present.{Present}
+use Rattle.ktm_world.specs.World.{in_doubt, opened, own_group, present}
+use Rattle.ktm_world.proofs.offered.Durables.{after_events-units}
+use Rattle.txf_volume.specs.Held.{files_of}
+use Rattle.ktm_kernel.specs.Begun.{IsBegun, IsNotBegun}
 use Rattle.ktm_kernel.specs.Buffers.{BuffersState, KeepBuffers}
-use Rattle.ktm_kernel.specs.Restarts.{FoundBad, FoundWorn, IsFreshlyCounted, IsStarted, IsUnpowered, IsUnwritten, IsWorn, LeavesOwnOrNot, ListsStart, MayOpen, NoStartLeaves, Started, started as what_starts}
-use Rattle.ktm_kernel.specs.Starting.{Begun, IsNotRecorded, IsOnStart, IsRecorded}
+use Rattle.ktm_kernel.specs.Restarts.{FoundBad, FoundWorn, IsFreshlyCounted, IsStarted, IsUnpowered, IsUnwritten, IsWorn, LeavesOwnOrNot, MayOpen, NoStartLeaves, Started}
 use Rattle.ktm_kernel.specs.declared.restart.Restarted.{Restarted}
 use Rattle.ktm_kernel.specs.declared.restart.RestartFault.{RestartFault}
-use Rattle.ktm_kernel.specs.Stands.{KernelState, machine_of}
-use Rattle.ktm_kernel.proofs.StartAgain.{StatesLaw}
+use Rattle.ktm_kernel.specs.Stands.{HoldsRecorded, IsCoreReady, KernelState, machine_of}
+use Rattle.ktm_kernel.proofs.Sizes.{more_calls}
+use Rattle.ktm_kernel.proofs.InBytes.{doubts-mapped, fresh-mapped, started-mapped, texts-mapped}
 
 -- ---- what was loaded, and what is to start from it
 
@@ -47,10 +66,64 @@ headed_begun loaded events m told begun headed = subst (λ (j : JournalState). I
 pub roomy_then : (j k : JournalState) (events : EventsState) → k.units ≡ j.units → IsRoomy j events → IsRoomy k events
 roomy_then j k events units roomy = record { most = omega (arith, units, roomy.most); room = omega (arith, ap area_len units, roomy.room) }
 
--- the state for which bytes stand, where the disk tells them
-state_is : StatesLaw → (found state : Durable) (told : Option DiskState) → IfSome told (λ s. StandsFor found s.seen) → IsSomeAnd told (IsSafeFor state) → found ≡ state
-state_is law found state None stands holds = absurd holds
-state_is law found state (Some s) stands holds = law found state s.seen stands holds.1
+-- ---- states of bytes, and the places that they are on
+
+-- bytes are an image of one state over places at most
+abbrev pub PlacesLaw : Type 0
+PlacesLaw = (a b : Durable) (bytes : List ℕ) → PagedFor a bytes → PagedFor b bytes → a ≡ b
+
+-- a safe disk has this state over places, and the other one is that with the bytes on its pages
+record IsRead (places state : Durable) (s : DiskState) : Type 0 where
+  safe : IsSafe s
+  paged : PagedFor places s.seen
+  is : state ≡ bytes_seen s.seen places
+
+-- the state for which a safe disk stands is that of the places that were read
+read_is : PlacesLaw → (places state : Durable) (told : Option DiskState) → IfSome told (λ s. PagedFor places s.seen) → IsSomeAnd told (IsSafeFor state) → IsSomeAnd told (IsRead places state)
+read_is law places state None paged safe = absurd safe
+read_is law places state (Some s) paged safe = record {
+  safe = safe.0;
+  paged = paged;
+  is = safe.1.is ∙ ap (bytes_seen s.seen) (law safe.1.places places s.seen safe.1.paged paged);
+}
+
+-- it has some byte for each place
+read_by : (places state : Durable) (told : Option DiskState) → IsSomeAnd told (IsRead places state) → (f : ℕ → ℕ) × IsBlank f × (state ≡ mapped_durable f places)
+read_by places state None read = absurd read
+read_by places state (Some s) read = (byte_at (row_of places.units s.seen), refl, read.is)
+
+-- both facts of what is told
+both-told : {S : Type 0} (told : Option S) (P Q R : S → Type 0) → IsSomeAnd told P → IfSome told Q → ((s : S) → P s → Q s → R s) → IsSomeAnd told R
+both-told None P Q R first second f = absurd first
+both-told (Some s) P Q R first second f = f s first second
+
+-- what a disk may leave whose pages stay is what the places are in bytes
+leaves-bytes : MappedLaw → (units : ℕ) (places state : Durable) → units ≡ places.units → (told now : Option DiskState) → IsSomeAnd told (IsRead places state) → IsSomeAnd now (LeavesPlaces places) → Goes (LeavesPages units) told now
+    → IsSomeAnd now (LeavesOwnOrNot state)
+leaves-bytes law units places state same None now read leaves pages = absurd read
+leaves-bytes law units places state same (Some s) None read leaves pages = absurd leaves
+leaves-bytes law units places state same (Some s) (Some t) read leaves pages = λ image may.
+    let row : row_of places.units s.seen ≡ row_of places.units image = sym (subst (λ u. row_of u image ≡ row_of u s.seen) same (pages image may)) in
+    let f : ℕ → ℕ = byte_at (row_of places.units s.seen) in
+    elim (leaves image may) [
+      | inl first ↦ inl (record { places = places; paged = first; is = read.is ∙ ap (λ (l : List ℕ). mapped_durable (byte_at l) places) row })
+      | inr then ↦ inr (
+        ap is_worn read.is ∙ then.0,
+        record {
+          places = what_starts places;
+          paged = then.1;
+          is = ap what_starts read.is ∙ started-mapped f refl law places
+              ∙ ap (λ (l : List ℕ). mapped_durable (byte_at l) (what_starts places)) (row ∙ ap (λ u. row_of u image) (sym (after_events-units places (own_group places))));
+        },
+      )
+    ]
+
+-- what a disk that nothing was written to may leave
+unwritten_leaves : (state : Durable) (told : Option DiskState) → IsSomeAnd told (IsSafeFor state) → IsSomeAnd told (LeavesOwnOrNot state)
+unwritten_leaves state told holds =
+    IsSomeAnd-map told (IsSafeFor state) (LeavesOwnOrNot state) holds (λ s held bytes may. inl (subst (λ (l : List ℕ). StandsFor state l) (sym ((safe_law s bytes held.0).0 may)) held.1))
+
+-- ---- a load
 
 module _ {Z : Type 0} (most : ℕ) (old mid : OnDisk (Vec ℕ Z)) (loaded : Loaded) (is : IsLoaded most old mid loaded) where
   -- the buffer has room for whatever the log has room for
@@ -61,15 +134,24 @@ module _ {Z : Type 0} (most : ℕ) (old mid : OnDisk (Vec ℕ Z)) (loaded : Load
   small = omega (arith, is.journal.units, is.state.most)
 
   -- the disk stands for a state that is worn or is not
-  pub found_state : (worn : Bool) → is_worn loaded.state ≡ worn → IfSome old.told (IsWorn worn)
-  found_state worn test = IfSome-map old.told (λ s. StandsFor loaded.state s.seen) (IsWorn worn) is.stands (λ s stands. (loaded.state, stands, record { good = is.state.good; small = is.state.most; applies = refl }, test))
+  pub found_state : MappedLaw → (worn : Bool) → is_worn loaded.state ≡ worn → IfSome old.told (IsWorn worn)
+  found_state law worn test = IfSome-map old.told (λ s. PagedFor loaded.state s.seen) (IsWorn worn) is.stands (λ s paged. (
+    bytes_seen s.seen loaded.state,
+    record { places = loaded.state; paged = paged; is = refl },
+    record { good = (law (byte_at (row_of loaded.state.units s.seen)) refl).2.good loaded.state is.state.good; small = is.state.most; applies = refl },
+    test,
+  ))
 
   -- nothing was written, and the buffers lost no memory
   pub unwritten : (a b : BuffersState) → KeepBuffers a b → IsUnwritten (on a old.told old.status) (on b mid.told mid.status)
   unwritten a b kept = record { told = is.read.reads.reads.same; pending = is.read.reads.reads.pending; kept = kept }
 
-  pub found_worn : (a b : BuffersState) → KeepBuffers a b → is_worn loaded.state ≡ true → FoundWorn (on a old.told old.status) (on b mid.told mid.status)
-  found_worn a b kept worn = record { found = found_state true worn; unwritten = unwritten a b kept }
+  pub found_worn : MappedLaw → (a b : BuffersState) → KeepBuffers a b → is_worn loaded.state ≡ true → FoundWorn (on a old.told old.status) (on b mid.told mid.status)
+  found_worn law a b kept worn = record { found = found_state law true worn; unwritten = unwritten a b kept }
+
+  -- what the disk told before the load
+  read_state : PlacesLaw → (state : Durable) → IsSomeAnd old.told (IsSafeFor state) → IsSomeAnd mid.told (IsRead loaded.state state)
+  read_state law state safe = subst (λ (t : Option DiskState). IsSomeAnd t (IsRead loaded.state state)) (sym is.read.reads.reads.same) (read_is law loaded.state state old.told is.stands safe)
 
   module _ (unworn : is_worn loaded.state ≡ false) (events : EventsState) (m : MemoryState) (begun : Begun loaded events m) where
     pub on_start : IsOnStart loaded.state m events
@@ -81,71 +163,179 @@ module _ {Z : Type 0} (most : ℕ) (old mid : OnDisk (Vec ℕ Z)) (loaded : Load
       lists = subst (λ (j : JournalState). ListsStart loaded.state j.units events) (sym begun.journal) begun.lists;
     }
 
+    -- its image has so many units
+    units_of_state : m.journal.units ≡ loaded.state.units
+    units_of_state = on_start.journal.units
+
+    -- its files are sound
+    pub sound_begun : AreSoundFiles (page_count m.journal.units) (files_of m.files)
+    sound_begun =
+        subst (λ n. AreSoundFiles (page_count n) (files_of m.files)) (sym units_of_state)
+        (subst (AreSoundFiles (page_count loaded.state.units)) (sym begun.shows.files) begun.sound)
+
     -- the journal comes to the state, where the disk is safe
-    knows : (state : Durable) → loaded.state ≡ state → IsSomeAnd old.told (IsSafeFor state) → IsSomeAnd mid.told (JournalFor m.journal loaded.state)
-    knows state same safe =
+    knows : PlacesLaw → (state : Durable) → IsSomeAnd old.told (IsSafeFor state) → IsSomeAnd mid.told (JournalFor m.journal loaded.state)
+    knows law state safe =
         subst (λ (j : JournalState). IsSomeAnd mid.told (JournalFor j loaded.state)) (sym begun.journal)
-        (is.knows loaded.state (subst (λ (d : Durable). IsSomeAnd old.told (IsSafeFor d)) (sym same) safe))
+        (is.knows loaded.state (IsSomeAnd-map old.told (IsRead loaded.state state) (λ s. IsSafe s × PagedFor loaded.state s.seen) (read_is law loaded.state state old.told is.stands safe) (λ s read. (read.safe, read.paged))))
+
+    -- the disk has no more units than are read
+    few-begun : (told : Option DiskState) (units image selector : ℕ) → IsSomeAnd told (λ s. IsHeaded units image selector s.seen) → IfSome told (λ s. IsHeaded m.journal.units m.journal.image m.journal.selector s.seen)
+        → (m.journal.units ≡ units) × (LEAST_UNITS ≤ units)
+    few-begun None units image selector headed there = absurd headed
+    few-begun (Some s) units image selector headed there = (sym there.units_are ∙ headed.units_are, headed.least)
+
+    -- it takes as many device calls as the units of its image ask for
+    pub few_calls : (a b c units image selector : ℕ) → IsSomeAnd old.told (λ s. IsHeaded units image selector s.seen) → b ≤ a + (log_reads units + 5) → c ≤ b + (page_count m.journal.units + 6) → c ≤ a + (8 * units + 70)
+    few_calls a b c units image selector headed first second =
+        let (same, least) = few-begun old.told units image selector headed (subst (λ (t : Option DiskState). IfSome t (λ s. IsHeaded m.journal.units m.journal.image m.journal.selector s.seen)) is.read.reads.reads.same (headed_begun loaded events m mid.told begun is.headed)) in
+        omega (arith, same, least, first, second)
+
+    -- and no more than those of any image ask for
+    pub all_calls : (t : DiskStatus) (refused : Bool) → most ≤ log_reads MOST_UNITS + 5 → DeviceCalls (page_count m.journal.units + 6) mid.status t refused → DeviceCalls (8 * MOST_UNITS + 70) old.status t refused
+    all_calls t refused few calls =
+        more_calls (most + (page_count m.journal.units + 6)) (8 * MOST_UNITS + 70) old.status t refused (omega (arith, few, units_of_state, is.state.most))
+        (calls_law old.status mid.status t most (page_count m.journal.units + 6) refused is.read.reads.reads.calls calls)
 
     -- the start was recorded
-    module _ (states : StatesLaw) (begins : FreshLaw) (a : BuffersState) (new : OnDisk BuffersState) (n : MemoryState) (r : Restarted) (recorded : IsRecorded events (on m mid.told mid.status) (on n new.told new.status))
-        (kernel : r.kernel ≡ machine_of n) where
-      now_is : r.kernel.now ≡ fresh loaded.state
-      now_is = ap (λ (k : KernelState). k.now) kernel ∙ recorded.now loaded.state on_start
+    module _ (new : OnDisk BuffersState) (n : MemoryState) (store : StoreState) (b : IsBegun events (on m mid.told mid.status) (on n new.told new.status) store) where
+      -- the byte at each place
+      abbrev f : ℕ → ℕ
+      f = byte_at store.seen
 
-      standing : IsStandingNow (fresh loaded.state)
-      standing = begins.stands loaded.state is.state.good is.state.texts is.state.most unworn
+      -- over the places
+      places_now : present_of n ≡ fresh loaded.state
+      places_now = b.leaves.now loaded.state on_start
 
-      slots_here : owed_slots r.kernel.now ≤ r.kernel.slots
+      same_files : files_of n.files ≡ files_of m.files
+      same_files = ap (λ (k : MemoryState). files_of k.files) b.leaves.journal
+
+      stored_files : EachOfFiles (λ file index place. IsStoredAt store.stored place) (files_of n.files)
+      stored_files = subst (EachOfFiles (λ file index place. IsStoredAt store.stored place)) (sym same_files) b.pages.stored
+
+      stored_recorded : ArePlacesStored store.stored (present_of n).recorded
+      stored_recorded = recorded-each (λ file index place. IsStoredAt store.stored place) (held n) stored_files
+
+      -- the bytes in memory are those on the disk
+      same-bytes : SeenLaw → (s : DiskState) → PagesAgree m.journal.units store s → mapped_present f (present_of n) ≡ mapped_present (byte_at (row_of m.journal.units s.seen)) (present_of n)
+      same-bytes law s agree =
+          let g : ℕ → ℕ = byte_at (row_of m.journal.units s.seen) in
+          let same : (place : ℕ) → IsStoredAt store.stored place → f place ≡ g place = λ place stored. byte-same store.seen (row_of m.journal.units s.seen) place (λ some. sym (agree (page_at place) (stored some))) in
+          law f g (present_of n)
+          (files-weaker (λ file index place. IsStoredAt store.stored place) (Agree f g) (λ file index place. same place) (files_of n.files) stored_files)
+          (durable-weaker (λ file index place. IsStoredAt store.stored place) (Agree f g) (λ file index place. same place) (present_of n).recorded stored_recorded)
+
+      -- what is so is what is so once a machine started from the state of bytes
+      bytes_now : SeenLaw → AlikeLaw → FreshLaw → (state : Durable) (told : Option DiskState) → IsSomeAnd told (IsRead loaded.state state) → IfSome told (PagesAgree m.journal.units store)
+          → mapped_present f (present_of n) ≡ fresh state
+      bytes_now seen alike begins state None read agree = absurd read
+      bytes_now seen alike begins state (Some s) read agree =
+          let g : ℕ → ℕ = byte_at (row_of loaded.state.units s.seen) in
+          same-bytes seen s agree
+          ∙ ap (λ u. mapped_present (byte_at (row_of u s.seen)) (present_of n)) units_of_state
+          ∙ ap (mapped_present g) places_now
+          ∙ sym (fresh-mapped g refl alike begins loaded.state)
+          ∙ ap fresh (sym read.is)
+
+      -- the disk has the journal, and the pages
+      pages_then : IfSome new.told (PagesAgree n.journal.units store)
+      pages_then =
+          subst (λ u. IfSome new.told (PagesAgree u store)) (sym b.leaves.units)
+          (IfSome-step mid.told new.told (PagesAgree m.journal.units store) (PagesAgree m.journal.units store) b.pages.agree b.leaves.pages
+          (λ s t agree keeps page stored. ap (λ (l : List ℕ). page_of l page) keeps ∙ agree page stored))
+
+      holds_then : PlacesLaw → (state : Durable) → IsSomeAnd old.told (IsSafeFor state) → IsSomeAnd new.told (HoldsPlaces (core_of n store))
+      holds_then law state safe =
+          both-told new.told (JournalFor n.journal (what_starts loaded.state)) (PagesAgree n.journal.units store) (HoldsPlaces (core_of n store)) (b.leaves.disk loaded.state on_start (knows law state safe)) pages_then
+          (λ s journal agree. record { journal = subst (λ (x : Present). JournalFor n.journal x.recorded s) (sym places_now) journal; pages = agree; stored = stored_recorded })
+
+      -- what the machine holds
+      standing_places : FreshLaw → IsStandingNow (present_of n)
+      standing_places begins = subst IsStandingNow (sym places_now) (begins.stands loaded.state is.state.good is.state.texts is.state.most unworn)
+
+      slots_here : owed_slots (present_of n) ≤ n.tm.slots
       slots_here =
-          subst (λ (x : Present). owed_slots x ≤ r.kernel.slots) (sym now_is)
-          (subst (λ slots. owed_slots (fresh loaded.state) ≤ slots) (sym (ap (λ (k : KernelState). k.slots) kernel ∙ ap (λ (b : MemoryState). b.tm.slots) recorded.journal)) begun.slots)
+          subst (λ (x : Present). owed_slots x ≤ n.tm.slots) (sym places_now)
+          (subst (λ slots. owed_slots (fresh loaded.state) ≤ slots) (sym (ap (λ (k : MemoryState). k.tm.slots) b.leaves.journal)) begun.slots)
 
-      disk_here : (base : Durable) (log : List Group) → loaded.state ≡ stand base log → IsSomeAnd old.told (IsSafeFor (stand base log)) → IsSomeAnd new.told (JournalFor r.kernel.journal (stand base (log ++ own_group (stand base log) ∷ [])))
-      disk_here base log same safe =
-          subst (λ (j : JournalState). IsSomeAnd new.told (JournalFor j (stand base (log ++ own_group (stand base log) ∷ [])))) (sym (ap (λ (k : KernelState). k.journal) kernel))
-          (subst (λ (d : Durable). IsSomeAnd new.told (JournalFor n.journal d)) (ap what_starts same ∙ sym (stand-append base log (own_group (stand base log) ∷ [])))
-          (recorded.disk loaded.state on_start (knows (stand base log) same safe)))
+      sound_then : AreSoundFiles (page_count n.journal.units) (files_of n.files)
+      sound_then =
+          subst (λ u. AreSoundFiles (page_count u) (files_of n.files)) (sym b.leaves.units)
+          (subst (AreSoundFiles (page_count m.journal.units)) (sym same_files) sound_begun)
 
-      starts : StandingLaw → r.events ≡ loaded.state.events → r.in_doubt ≡ length (in_doubt loaded.state) → (base : Durable) (log : List Group) → MayOpen base log → IsSomeAnd old.told (IsSafeFor (stand base log))
-          → Started base log r.kernel r.events r.in_doubt new.told
-      starts law count doubts base log may safe =
-          let same : loaded.state ≡ stand base log = state_is states loaded.state (stand base log) old.told is.stands safe in
-          let fine : is_worn (stand base log) ≡ false = ap is_worn (sym same) ∙ unworn in
-          record {
-            unworn = fine;
-            stands = record {
-              now = now_is ∙ ap fresh same ∙ sym (begins.opens base log);
-              standing = law.restarts base log may.good may.small may.applies (subst AreRecordedTexts same is.state.texts) fine;
-              disk = disk_here base log same safe;
-            };
-            events_are = count ∙ ap (λ (d : Durable). d.events) same;
-            in_doubt_are = doubts ∙ ap (λ (d : Durable). length (in_doubt d)) same;
-          }
-
-      pub restarted : StandingLaw → SpellingLaw → r.events ≡ loaded.state.events → r.in_doubt ≡ length (in_doubt loaded.state) → IsStarted (on a old.told old.status) new r
-      restarted law spelling count doubts = record {
-        starts = starts law count doubts;
+      core_ready : FreshLaw → IsCoreReady (machine_of (core_of n store)) new.told new.status
+      core_ready begins = record {
+        is = refl;
         ready = record {
-          powered = record {
-            power = λ up. recorded.synced.up;
-            settled = λ up. recorded.synced.pending;
-            image = λ up. subst (λ (k : KernelState). IfSome new.told (λ s. IsHeaded k.journal.units k.journal.image k.journal.selector s.seen)) (sym kernel) recorded.headed;
-          };
-          standing = λ up. subst IsStandingNow (sym now_is) standing;
-          slots = λ up. slots_here;
+          powered = record { power = λ up. b.leaves.synced.up; settled = λ up. b.leaves.synced.pending; image = λ up. b.leaves.headed; wanted = λ up. b.pages.wanted };
+          standing = standing_places begins;
+          slots = slots_here;
         };
-        up = ap (λ (x : Present). x.machine.is_up) now_is;
-        counts = subst IsFreshlyCounted (sym now_is) (own-counts spelling loaded.state is.state.good unworn);
-        found = found_state false unworn;
+        count = b.count ∙ ap page_count (sym b.leaves.units);
+        sound = sound_then;
+        held = subst (AreFilesHeld store) (sym same_files) b.pages.held;
       }
 
+      -- what is so over the bytes
+      now_is : AlikeLaw → FreshLaw → mapped_present f (present_of n) ≡ fresh (mapped_durable f loaded.state)
+      now_is alike begins = ap (mapped_present f) places_now ∙ sym (fresh-mapped f refl alike begins loaded.state)
+
+      standing : MappedLaw → AlikeLaw → FreshLaw → IsStandingNow (mapped_present f (present_of n))
+      standing mapped alike begins =
+          subst IsStandingNow (sym (now_is alike begins)) (begins.stands (mapped_durable f loaded.state) ((mapped f refl).2.good loaded.state is.state.good) (texts-mapped f loaded.state is.state.texts) is.state.most unworn)
+
+      module _ (r : Restarted) (kernel : r.kernel ≡ machine_of (core_of n store)) (states : PlacesLaw) (seen : SeenLaw) (mapped : MappedLaw) (alike : AlikeLaw) (begins : FreshLaw) where
+        -- the machine is this one
+        by_machine : (P : KernelState → Type 0) → P (machine_of (core_of n store)) → P r.kernel
+        by_machine P there = subst P (sym kernel) there
+
+        starts : StandingLaw → r.events ≡ loaded.state.events → r.in_doubt ≡ length (in_doubt loaded.state) → (base : Durable) (log : List Group) → MayOpen base log → IsSomeAnd old.told (IsSafeFor (stand base log))
+            → Started base log r.kernel r.events r.in_doubt new.told
+        starts law count doubts base log may safe =
+            let read = read_state states (stand base log) safe in
+            let (g, blank, same) = read_by loaded.state (stand base log) mid.told read in
+            let fine : is_worn (stand base log) ≡ false = ap is_worn same ∙ unworn in
+            record {
+              unworn = fine;
+              stands = record {
+                is = by_machine (λ k. k ≡ machine_of k.core) refl;
+                now = by_machine (λ k. k.now ≡ present (opened base log)) (bytes_now seen alike begins (stand base log) mid.told read b.pages.agree ∙ sym (begins.opens base log));
+                standing = law.restarts base log may.good may.small may.applies (subst AreRecordedTexts (sym same) (texts-mapped g loaded.state is.state.texts)) fine;
+                disk = by_machine (λ k. IsSomeAnd new.told (HoldsRecorded k)) (holds_then states (stand base log) safe);
+              };
+              events_are = count ∙ ap (λ (d : Durable). d.events) (sym same);
+              in_doubt_are = doubts ∙ sym (doubts-mapped g loaded.state) ∙ ap (λ (d : Durable). length (in_doubt d)) (sym same);
+            }
+
+        pub restarted : StandingLaw → SpellingLaw → r.events ≡ loaded.state.events → r.in_doubt ≡ length (in_doubt loaded.state) → (a : BuffersState) → IsStarted (on a old.told old.status) new r
+        restarted law spelling count doubts a = record {
+          starts = starts law count doubts;
+          ready = record {
+            powered = record {
+              power = λ up. b.leaves.synced.up;
+              settled = λ up. b.leaves.synced.pending;
+              image = λ up. by_machine (λ k. IfSome new.told (λ s. IsHeaded k.journal.units k.journal.image k.journal.selector s.seen)) b.leaves.headed;
+            };
+            standing = λ up. by_machine (λ k. IsStandingNow k.now) (standing mapped alike begins);
+            slots = λ up. by_machine (λ k. owed_slots k.now ≤ k.slots) slots_here;
+            core = λ up. by_machine (λ k. IsCoreReady k new.told new.status) (core_ready begins);
+          };
+          up = by_machine (λ k. k.now.machine.is_up ≡ true) (ap (λ (x : Present). x.machine.is_up) places_now);
+          counts = by_machine (λ k. IsFreshlyCounted k.now) (subst IsFreshlyCounted (sym places_now) (own-counts spelling loaded.state is.state.good unworn));
+          found = found_state mapped false unworn;
+        }
+
     -- it was not
-    pub not_restarted : StatesLaw → (a : BuffersState) (new : OnDisk BuffersState) (n : MemoryState) → IsNotRecorded events (on m mid.told mid.status) (on n new.told new.status) → KeepBuffers a new.it → IsUnpowered (on a old.told old.status) new
-    not_restarted states a new n left kept = record {
+    pub not_restarted : PlacesLaw → MappedLaw → (a : BuffersState) (new : OnDisk BuffersState) (n : MemoryState) → IsNotBegun events (on m mid.told mid.status) (on n new.told new.status) → KeepBuffers a new.it
+        → IsUnpowered (on a old.told old.status) new
+    not_restarted states law a new n (inl unread) kept = record {
+      leaves = λ state safe. subst (λ (t : Option DiskState). IsSomeAnd t (LeavesOwnOrNot state)) (sym (unread.same ∙ is.read.reads.reads.same)) (unwritten_leaves state old.told safe);
+      kept = kept;
+    }
+    not_restarted states law a new n (inr unrecorded) kept = record {
       leaves = λ state safe.
-          let same : loaded.state ≡ state = state_is states loaded.state state old.told is.stands safe in
-          subst (λ (d : Durable). IsSomeAnd new.told (LeavesOwnOrNot d)) same (left.disk loaded.state on_start (knows state same safe));
+          let left = unrecorded.leaves.disk loaded.state on_start (knows states state safe) in
+          leaves-bytes law m.journal.units loaded.state state units_of_state mid.told new.told (read_state states state safe) left.0 left.1;
       kept = kept;
     }
 
@@ -154,11 +344,6 @@ module _ {Z : Type 0} (most : ℕ) (old mid : OnDisk (Vec ℕ Z)) (loaded : Load
 -- the buffers, of which the one was read into
 abbrev buffers_of : {Z : Type 0} → Vec ℕ Z → ℕ → BuffersState
 buffers_of v snapshot = record { log = vec_capacity v; snapshot = snapshot }
-
--- what a disk that nothing was written to may leave
-unwritten_leaves : (state : Durable) (told : Option DiskState) → IsSomeAnd told (IsSafeFor state) → IsSomeAnd told (LeavesOwnOrNot state)
-unwritten_leaves state told holds =
-    IsSomeAnd-map told (IsSafeFor state) (LeavesOwnOrNot state) holds (λ s held bytes may. inl (subst (λ (l : List ℕ). StandsFor state l) (sym ((safe_law s bytes held.0).0 may)) held.1))
 
 module _ {Z : Type 0} (most : ℕ) (old new : OnDisk (Vec ℕ Z)) (snapshot : ℕ) where
   kept_read : vec_capacity old.it ≤ vec_capacity new.it → KeepBuffers (buffers_of old.it snapshot) (buffers_of new.it snapshot)

@@ -8,6 +8,7 @@ use Rattle.ktm_base.specs.Disk.{DeviceCalls, DiskState, DiskStatus}
 use Rattle.ktm_base.proofs.offered.Images.{safe_law, power_law as images_power_law}
 use Rattle.ktm_base.proofs.offered.ToldSteps.{IsSomeAnd-map, IsSomeAnd-step}
 use Rattle.ktm_restart.specs.Bad.{IsBadAt}
+use Rattle.ktm_core.specs.Starting.{started as what_starts}
 use Rattle.ktm_journal.specs.Image.{IsHeaded}
 use Rattle.ktm_restart.specs.Logs.{IsSafeFor, StandsFor}
 use Rattle.ktm_types.specs.declared.command.Line.TheVariants.{Restart}
@@ -25,7 +26,6 @@ use Rattle.ktm_log.specs.OnDisk.{on}
 use Rattle.ktm_kernel.specs.Answers.{IsAsBefore, IsRestartAnswered, StartAgainLeaves}
 use Rattle.ktm_kernel.specs.Buffers.{BuffersState}
 use Rattle.ktm_kernel.specs.Restarts.{IsStarted, IsUnwritten, IsWorn, LeavesOwnOrNot, MayOpen, NoStartLeaves, Started, answer_of, restart_went_down}
-use Rattle.ktm_kernel.specs.Restarts.{started as what_starts}
 use Rattle.ktm_kernel.specs.declared.restart.Restarted.{Restarted as RestartedMachine}
 use Rattle.ktm_kernel.specs.declared.restart.RestartFault.{RestartFault}
 use Rattle.ktm_kernel.specs.declared.restart.RestartFault.TheVariants.{Down, Bad, Worn}
@@ -164,9 +164,9 @@ found_few k None a b few w at = absurd at.disk
 found_few k (Some s) a b few w at =
     let (safe, held) = at.disk in
     let (log, possible, stands) = held in
-    let most = few (stand w.base log).units (stand w.base log).image stands.is.selector stands.is.formatted.headed in
-    let units = stand-units w.base log in
-    omega arith
+    let most = few stands.places.units stands.places.image stands.paged.is.selector stands.paged.is.formatted.headed in
+    let units = sym (ap (λ (d : Durable). d.units) stands.is) ∙ stand-units w.base log in
+    omega (arith, most, units)
 
 -- what is safe is what a loss of power leaves
 pub found_law : FoundLaw
@@ -177,6 +177,10 @@ found_law k (Some s) w at = λ image may.
     (log, possible, subst (λ (l : List ℕ). StandsFor (stand w.base log) l) (sym ((safe_law s image safe).0 may)) stands)
 
 -- ---- what a restart of a machine that is down leaves
+
+-- device calls of which none was refused leave a disk up that was up
+pub calls_up : (most : ℕ) (s t : DiskStatus) → s.is_down ≡ false → DeviceCalls most s t false → DeviceCalls most s t t.is_down
+calls_up most s t up calls = subst (DeviceCalls most s t) (sym (calls.down ∙ ap (λ down. down || false) up)) calls
 
 module _ (law : StandingLaw) (k : KernelState) (o n : Option DiskState) (s t : DiskStatus) (b d : BuffersState) where
   pub restart_answered : (r : RestartedMachine) → IsStarted (on b o s) (on d n t) r → IsRestartAnswered (on k o s) (on r.kernel n t) (Restarted r.events r.in_doubt)

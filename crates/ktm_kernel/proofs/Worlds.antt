@@ -6,12 +6,14 @@ use Rattle.ktm_base.specs.declared.refusal.Refusal.TheVariants.{MachineDown}
 use Rattle.ktm_base.specs.Disk.{DiskState}
 use Rattle.ktm_base.proofs.offered.ToldSteps.{IsSomeAnd-map}
 use Rattle.ktm_laws.specs.Running.{HasEventsLeft}
-use Rattle.ktm_restart.specs.Logs.{JournalFor, StandsFor}
+use Rattle.ktm_journal.specs.Pages.{PagesLaw}
+use Rattle.ktm_paged.specs.Laws.{RowsSeen}
+use Rattle.ktm_restart.specs.Logs.{StandsFor}
 use Rattle.ktm_types.specs.declared.command.Command.{Command}
 use Rattle.ktm_types.specs.declared.command.Line.TheVariants.{Crash}
 use Rattle.ktm_types.specs.declared.reply.Reply.{Reply}
 use Rattle.ktm_types.specs.declared.reply.Reply.TheVariants.{Refused, Done}
-use Rattle.ktm_types.specs.Values.{IsCommand}
+use Rattle.ktm_types.specs.Values.{IsGiven}
 use Rattle.ktm_world.specs.Decide.{command_tests, decide, refusal_of}
 use Rattle.ktm_world.specs.Durable.{Durable, stand}
 use Rattle.ktm_world.specs.Logs.{Group, Power, up, down, is_up, as_groups, prefixes_from}
@@ -24,7 +26,8 @@ use Rattle.ktm_standing.specs.Laws.{StandingLaw}
 use Rattle.ktm_standing.specs.Standing.{IsStanding}
 use Rattle.ktm_standing.proofs.offered.Decided.{decided_law, done_tick}
 use Rattle.ktm_kernel.specs.Stands.{KernelState, Stands, StandsBy, KernelAt, LeavesStates, DoesLine}
-use Rattle.ktm_kernel.specs.Done.{IsDone, IsCutOff, Ends, HoldsRecorded, LeavesEither, fallen}
+use Rattle.ktm_core.specs.Done.{fallen}
+use Rattle.ktm_kernel.specs.Done.{IsDone, IsCutOff, Ends, LeavesEither}
 use Rattle.ktm_kernel.proofs.Left.{left_up}
 use Rattle.ktm_kernel.proofs.Possible.{log_possible, groups_possible}
 
@@ -50,7 +53,7 @@ pub record GoesOn (w : World) (o : Outcome) : Type 0 where
   pub falls : IsStanding (interrupted_by w o)
 
 -- so it is of the outcome of a command
-pub call_goes_on : StandingLaw → (process : Pid) (command : Command) → IsCommand command → (w : World) → HasEventsLeft (present w) → IsStanding w → GoesOn w (decide (present w) process command)
+pub call_goes_on : StandingLaw → (process : Pid) (command : Command) → IsGiven command → (w : World) → HasEventsLeft (present w) → IsStanding w → GoesOn w (decide (present w) process command)
 call_goes_on law process command is w counts standing = record {
   stands = law.commands w process command is counts standing;
   falls = law.interrupted_commands w process command is counts standing;
@@ -78,21 +81,19 @@ module _ (old new : KernelState) (o : Outcome) (reply : Reply) (before now : Opt
   recorded_then : (apply old.now o).recorded ≡ stand w.base (w.log ++ as_groups o.events)
   recorded_then = ap (λ (x : Present). (apply x o).recorded) stands.now ∙ sym keeps.stands.running.comes_to
 
-  held : IsSomeAnd before (HoldsRecorded old)
-  held = subst (λ (s : Durable). IsSomeAnd before (JournalFor old.journal s)) (sym recorded_is) stands.disk
-
   done_up : IsDone old o reply new before now → Stands new now (extend w o)
   done_up done = record {
+    is = done.is;
     now = done.state ∙ ap (λ x. apply x o) stands.now ∙ sym (step_law.0 w o stands.standing.running.openings);
     standing = keeps.stands;
-    disk = subst (λ (s : Durable). IsSomeAnd now (JournalFor new.journal s)) (ap (λ (x : Present). x.recorded) done.state ∙ recorded_then) (done.disk held);
+    disk = done.disk stands.disk;
   }
 
   pub done_line : IsDone old o reply new before now → DoesCall w o reply new now
   done_line done = (answered, extend w o, (done.says, refl), subst (λ power. StandsBy (is_up power) new now (extend w o)) (sym on) (done_up done))
 
   left : IsCutOff old o reply new before now → IsSomeAnd now (LeavesStates (interrupted_by w o))
-  left cut = IsSomeAnd-map now (LeavesEither old.now.recorded (apply old.now o).recorded) (LeavesStates (interrupted_by w o)) (cut.disk held)
+  left cut = IsSomeAnd-map now (LeavesEither old.now.recorded (apply old.now o).recorded) (LeavesStates (interrupted_by w o)) (cut.disk stands.disk)
       (λ s either image may. elim (either image may) [
         | inl without ↦ (w.log, kept w.log (log_possible w.log (as_groups o.events)), subst (λ (d : Durable). StandsFor d image) recorded_is without)
         | inr with_it ↦ (w.log ++ as_groups o.events, kept (w.log ++ as_groups o.events) (groups_possible w.log o.events), subst (λ (d : Durable). StandsFor d image) recorded_then with_it)
@@ -137,11 +138,12 @@ down_tick k told ms off w at =
 -- ---- a crash
 
 -- a machine whose power goes while nothing is recorded
-pub crash_line : StandingLaw → (k : KernelState) → k.now.machine.is_up ≡ true → (told : Option DiskState) (w : World) → KernelAt k told w → DoesLine w (Some Crash) Done (record k { now = fallen k.now }) told
-crash_line law k on told w at =
+pub crash_line : StandingLaw → RowsSeen → PagesLaw → (k : KernelState) → k.now.machine.is_up ≡ true → (told : Option DiskState) (w : World) → KernelAt k told w
+    → DoesLine w (Some Crash) Done (record k { now = fallen k.now; core = record k.core { now = fallen k.core.now } }) told
+crash_line law seen pages k on told w at =
     let (power, stands) = up_by w.power k told w refl at on in (
       answered,
       crashed w,
       subst (λ p. CrashDoes (is_up p) w answered Done (crashed w)) (sym power) (refl, refl),
-      record { now = ap fallen stands.now; standing = law.crashes w stands.standing; disk = left_up k told w power stands },
+      record { now = ap fallen stands.now; standing = law.crashes w stands.standing; disk = left_up seen pages k told w power stands },
     )

@@ -1,10 +1,10 @@
 -- What an answer of the machine leaves.
-use Rattle.std.specs.Prelude.{◌≡◌, ◌⊎◌, ℕ, ◌+◌, ◌≤◌, Bool, true, false, Some, Result, Ok, Err}
+use Rattle.std.specs.Prelude.{◌≡◌, ◌⊎◌, ℕ, ◌+◌, ◌≤◌, Bool, true, false, Option, Some, Result, Ok, Err}
 use Rattle.ktm_base.specs.Count.{Rose}
 use Rattle.ktm_base.specs.declared.fault.NoMemory.{NoMemory}
 use Rattle.ktm_base.specs.declared.id.Pid.{Pid}
 use Rattle.ktm_base.specs.declared.refusal.Refusal.TheVariants.{ImageWorn, MachineDown}
-use Rattle.ktm_base.specs.Disk.{DeviceCalls}
+use Rattle.ktm_base.specs.Disk.{DeviceCalls, DiskState, DiskStatus}
 use Rattle.ktm_log.specs.OnDisk.{OnDisk}
 use Rattle.ktm_slots.specs.Owed.{owed_slots}
 use Rattle.ktm_types.specs.declared.command.Command.{Command}
@@ -19,9 +19,10 @@ use Rattle.ktm_world.specs.World.{World}
 use Rattle.ktm_records.specs.Spelling.{most_at_once}
 use Rattle.ktm_memory.specs.Recorded.{IsUntouched}
 use Rattle.ktm_kernel.specs.Restarts.{IsFreshlyCounted}
-use Rattle.ktm_kernel.specs.Done.{Ends, TouchesNothing, fallen, most_calls}
+use Rattle.ktm_core.specs.Done.{TouchesNothing, fallen}
+use Rattle.ktm_kernel.specs.Done.{Ends, most_calls}
 use Rattle.ktm_kernel.specs.Reserved.{KeepsReserved}
-use Rattle.ktm_kernel.specs.Stands.{DoesLine, FoundAt, IsPowered, IsReady, KernelAt, KernelState}
+use Rattle.ktm_kernel.specs.Stands.{DoesLine, FoundAt, HoldsRecorded, IsCoreReady, IsPowered, IsReady, KernelAt, KernelState, machine_of}
 
 -- ---- while the machine is up
 
@@ -33,12 +34,17 @@ pub record IsAnswered (o : Outcome) (old new : OnDisk KernelState) (reply : Repl
   pub slots : new.it.now.machine.is_up ≡ true → owed_slots new.it.now ≤ new.it.slots
   pub calls : DeviceCalls (most_calls old.it.journal o.events) old.status new.status new.status.is_down
   pub untouched : TouchesNothing o reply → IsUntouched old new
+  pub core : new.it.now.machine.is_up ≡ true → IsCoreReady new.it new.told new.status
 
--- out of memory: nothing has changed, and there is room for no fewer notifications
+-- out of memory: nothing has changed but pages that were free, and there is room for no fewer notifications
 pub record IsAsItWas (old new : KernelState) : Type 0 where
+  pub is : new ≡ machine_of new.core
   pub now : new.now ≡ old.now
   pub journal : new.journal ≡ old.journal
   pub slots : old.slots ≤ new.slots
+  -- it stays ready, and its disk has all that it recorded
+  pub ready : (told : Option DiskState) (status : DiskStatus) → IsReady old told status → IsReady new told status
+  pub disk : (s : DiskState) → HoldsRecorded old s → HoldsRecorded new s
 
 -- what that leaves; out of memory the disk is as it was
 abbrev pub AnswerLeaves : Outcome → OnDisk KernelState → OnDisk KernelState → Result Reply NoMemory → Type 0

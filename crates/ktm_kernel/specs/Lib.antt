@@ -1,8 +1,8 @@
 pub mod Stands
 pub mod Buffers
 pub mod Restarts
-pub mod Starting
 pub mod Done
-pub mod Recording
+pub mod Staging
+pub mod Begun
 pub mod Reserved
 pub mod Answers

@@ -4,17 +4,16 @@ use Rattle.ktm_base.specs.declared.limits.TheConstants.{MOST_UNITS}
 use Rattle.ktm_base.specs.Disk.{DiskState, MayLeave}
 use Rattle.ktm_restart.specs.Logs.{IsSafeFor, StandsFor}
 use Rattle.ktm_log.specs.OnDisk.{OnDisk}
-use Rattle.ktm_event.specs.Kept.{EventsState, Holds}
+use Rattle.ktm_core.specs.Starting.{started}
 use Rattle.ktm_laws.specs.Running.{is_good_log}
 use Rattle.ktm_restart.specs.Bad.{IsBadAt}
 use Rattle.ktm_states.specs.GoodState.{IsGoodState}
-use Rattle.ktm_world.specs.Durable.{Durable, after_events, is_worn, stand}
-use Rattle.ktm_types.specs.Sizes.{area_len, frame_size}
+use Rattle.ktm_world.specs.Durable.{Durable, is_worn, stand}
 use Rattle.ktm_world.specs.Logs.{Group}
 use Rattle.ktm_types.specs.declared.reply.Reply.{Reply}
 use Rattle.ktm_types.specs.declared.reply.Reply.TheVariants.{BadImage, Refused}
 use Rattle.ktm_base.specs.declared.refusal.Refusal.TheVariants.{ImageWorn, MachineDown}
-use Rattle.ktm_world.specs.World.{in_doubt as all_in_doubt, own_group, opened}
+use Rattle.ktm_world.specs.World.{in_doubt as all_in_doubt, opened}
 use Rattle.ktm_kernel.specs.declared.restart.RestartFault.{RestartFault}
 use Rattle.ktm_kernel.specs.declared.restart.RestartFault.TheVariants.{Down, Bad, Worn, NoMemory}
 use Rattle.ktm_kernel.specs.declared.restart.Restarted.{Restarted}
@@ -37,20 +36,9 @@ pub record Started (base : Durable) (log : List Group) (kernel : KernelState) (e
   pub events_are : events ≡ (stand base log).events
   pub in_doubt_are : in_doubt ≡ length (all_in_doubt (stand base log))
 
--- what a start makes of the state that it found
-abbrev pub started : Durable → Durable
-started state = after_events state (own_group state)
-
 -- each image that a loss of power may leave stands for the state that was found, or, where that is not worn, for what a start makes of it
 abbrev pub LeavesOwnOrNot : Durable → DiskState → Type 0
 LeavesOwnOrNot state s = (image : List ℕ) → MayLeave s image → StandsFor state image ⊎ ((is_worn state ≡ false) × StandsFor (started state) image)
-
--- ---- what a start records
-
--- the list has the group of a start from this state, and the room for whatever a log of so many units has room for
-pub record ListsStart (state : Durable) (units : ℕ) (events : EventsState) : Type 0 where
-  pub holds : Holds events (own_group state)
-  pub room : events.room + frame_size [] ≡ area_len units
 
 -- ---- what a restart leaves
 

@@ -1,10 +1,10 @@
 -- When a machine with its disk stands for a world.
-use Rattle.std.specs.Prelude.{◌≡◌, ℕ, ◌≤◌, Bool, true, false, List, Option, Contains, IfSome, IsSomeAnd}
+use Rattle.std.specs.Prelude.{◌≡◌, ℕ, ◌≤◌, Bool, true, false, List, length, Option, Contains, IfSome, IsSomeAnd}
 use Rattle.ktm_base.specs.Disk.{DiskState, DiskStatus, MayLeave, IsSafe}
 use Rattle.ktm_base.specs.Power.{Restored, NotRestored}
 use Rattle.ktm_base.specs.Told.{Goes}
-use Rattle.ktm_journal.specs.Image.{JournalState, IsHeaded}
-use Rattle.ktm_restart.specs.Logs.{JournalFor, StandsFor}
+use Rattle.ktm_journal.specs.Image.{JournalState, IsHeaded, page_count}
+use Rattle.ktm_restart.specs.Logs.{StandsFor}
 use Rattle.ktm_types.specs.declared.command.Line.{Line}
 use Rattle.ktm_types.specs.declared.reply.Reply.{Reply}
 use Rattle.ktm_world.specs.Present.{Present}
@@ -14,23 +14,32 @@ use Rattle.ktm_world.specs.Logs.{Group, is_up}
 use Rattle.ktm_standing.specs.Standing.{IsStanding, IsStandingNow}
 use Rattle.ktm_slots.specs.Owed.{owed_slots}
 use Rattle.ktm_world.specs.Transcript.{Does, Step}
-use Rattle.ktm_memory.specs.Memory.{MemoryState, present_of}
+use Rattle.ktm_memory.specs.Stored.{AreFilesHeld}
+use Rattle.ktm_alike.specs.Alike.{mapped_present}
+use Rattle.ktm_content.specs.Places.{byte_at}
+use Rattle.ktm_core.specs.Core.{AreSoundFiles, CoreState, HoldsPlaces, IsReady as IsReadyCore}
 
--- what a machine is: what is so now, its journal, and how many notifications it can send without memory
+-- what a machine is: what is so now, its journal, how many notifications it can send without memory, and what it holds, over the places of bytes
 pub record KernelState : Type 0 where
   pub now : Present
   pub journal : JournalState
   pub slots : ℕ
+  pub core : CoreState
 
--- the machine whose memory this is
-abbrev pub machine_of : MemoryState → KernelState
-machine_of m = record { now = present_of m; journal = m.journal; slots = m.tm.slots }
+-- the machine that holds this: at each place stands the byte that its pages have there
+abbrev pub machine_of : CoreState → KernelState
+machine_of c = record { now = mapped_present (byte_at c.store.seen) c.now; journal = c.journal; slots = c.slots; core = c }
 
--- a machine that is up stands for the world, and its journal comes to what the world's log comes to
+-- the disk has all that the machine recorded, with the bytes on its pages, and its journal is the machine's
+abbrev pub HoldsRecorded : KernelState → DiskState → Type 0
+HoldsRecorded k s = HoldsPlaces k.core s
+
+-- a machine that is up stands for the world, and its disk has all that it recorded
 pub record Stands (k : KernelState) (told : Option DiskState) (w : World) : Type 0 where
+  pub is : k ≡ machine_of k.core
   pub now : k.now ≡ present w
   pub standing : IsStanding w
-  pub disk : IsSomeAnd told (JournalFor k.journal (stand w.base w.log))
+  pub disk : IsSomeAnd told (HoldsRecorded k)
 
 -- each image that a loss of power may leave stands for the state that one of the possible logs comes to
 abbrev pub LeavesStates : World → DiskState → Type 0
@@ -61,12 +70,21 @@ pub record IsPowered (k : KernelState) (told : Option DiskState) (status : DiskS
   pub settled : k.now.machine.is_up ≡ true → status.pending ≡ 0
   pub image : k.now.machine.is_up ≡ true → IfSome told (λ s. IsHeaded k.journal.units k.journal.image k.journal.selector s.seen)
 
+-- what the machine holds is ready: each place of its files is that of one byte of one file, on a page that is held
+pub record IsCoreReady (k : KernelState) (told : Option DiskState) (status : DiskStatus) : Type 0 where
+  pub is : k ≡ machine_of k.core
+  pub ready : IsReadyCore k.core told status
+  pub count : length k.core.store.marks.held ≡ page_count k.core.journal.units
+  pub sound : AreSoundFiles (page_count k.core.journal.units) k.core.now.files
+  pub held : AreFilesHeld k.core.store k.core.now.files
+
 -- a machine is ready for a line: its disk is as `IsPowered` says, and it keeps what it is to keep of what is so now
 pub record IsReady (k : KernelState) (told : Option DiskState) (status : DiskStatus) : Type 0 where
   pub powered : IsPowered k told status
   pub standing : k.now.machine.is_up ≡ true → IsStandingNow k.now
   -- there is room for all notifications that may come to be sent without a call that makes room
   pub slots : k.now.machine.is_up ≡ true → owed_slots k.now ≤ k.slots
+  pub core : k.now.machine.is_up ≡ true → IsCoreReady k told status
 
 -- a machine that is down, whose disk has the power again, is safe, and stands for the state that one of the possible logs comes to
 pub record FoundAt (k : KernelState) (told : Option DiskState) (w : World) : Type 0 where

@@ -1,35 +1,43 @@
 // The machine over its disk: the one way through.
-ghost use Rattle.std.specs.Prelude.{◌≡◌, true, false, Option, Some, IsOk, OnErr};
+ghost use Rattle.std.specs.Prelude.{◌≡◌, ◌≤◌, true, false, [], Option, IfOk, IsOk, OnErr, length};
+ghost use Rattle.ktm_alike.specs.Alike.{mapped_present};
 ghost use Rattle.ktm_base.specs.Disk.{DiskState};
-ghost use Rattle.ktm_base.specs.declared.refusal.Refusal.TheVariants.{MachineDown};
-ghost use Rattle.ktm_types.specs.declared.command.Line.TheVariants.{Crash, Process, Tick};
-ghost use Rattle.ktm_types.specs.declared.reply.Reply.TheVariants.{Refused, Done};
+ghost use Rattle.ktm_content.specs.Places.{byte_at};
+ghost use Rattle.ktm_core.specs.Core.{IsSoundFor};
+ghost use Rattle.ktm_core.specs.Done.{fallen};
+ghost use Rattle.ktm_journal.specs.Image.{page_count};
+ghost use Rattle.ktm_kernel.specs.Answers.{AnswerLeaves, CallLeaves, IsAsItWas, IsLineAnswered};
+ghost use Rattle.ktm_kernel.specs.Staging.{AreHeldFor, IsStaged, asks};
+ghost use Rattle.ktm_kernel.specs.Stands.{DoesLine, IsReady, KernelAt};
+ghost use Rattle.ktm_laws.specs.Running.{HasEventsLeft};
+ghost use Rattle.ktm_log.specs.OnDisk.{on};
 ghost use Rattle.ktm_route.specs.Completions.{command_of};
+ghost use Rattle.ktm_route.specs.Route.{CanBeAsked, decided};
+ghost use Rattle.ktm_route.specs.Takes.{asked_takes_memory, takes_memory};
+ghost use Rattle.ktm_types.specs.declared.command.Command.TheVariants.{ReadFile, SetEndOfFile, WriteFile};
+ghost use Rattle.ktm_types.specs.declared.command.Line.TheVariants.{Crash, Process, Tick};
+ghost use Rattle.ktm_types.specs.declared.reply.Reply.TheVariants.{Done};
 ghost use Rattle.ktm_types.specs.Values.{IsCommand};
+ghost use Rattle.ktm_units.specs.Units.{IsOfNoBytes, IsSameOutcome};
 ghost use Rattle.ktm_world.specs.Decide.{decide as model_decide};
 ghost use Rattle.ktm_world.specs.Durable.{stand};
 ghost use Rattle.ktm_world.specs.Labels.{is_bound};
+ghost use Rattle.ktm_world.specs.Outcome.{Outcome, only_reply};
+ghost use Rattle.ktm_world.specs.Present.{Present};
 ghost use Rattle.ktm_world.specs.World.{World, decide_tick};
-ghost use Rattle.ktm_kernel.specs.Answers.{AnswerLeaves, CallLeaves, IsAsItWas, IsLineAnswered};
-ghost use Rattle.ktm_kernel.specs.Done.{fallen};
-ghost use Rattle.ktm_log.specs.OnDisk.{on};
-ghost use Rattle.ktm_route.specs.Route.{CanBeAsked, decided};
-ghost use Rattle.ktm_kernel.specs.Stands.{KernelAt, DoesLine, IsReady};
-ghost use Rattle.ktm_laws.specs.Running.{HasEventsLeft};
-ghost use Rattle.ktm_route.specs.Takes.{asked_takes_memory, takes_memory};
 
-use crate::recording::record;
-use ktm_base::{Disk, Down, Label, NoMemory, Pid, Refusal};
-use ktm_event::Events;
+use crate::staging::{Staged, stage_end, stage_write};
+use ktm_alike::law_of_alike_presents;
+use ktm_base::{Bytes, Disk, Label, NoMemory, Pid, Refusal};
+use ktm_core::Core;
+use ktm_journal::law_of_pages;
 use ktm_laws::{law_of_lawful_worlds, law_of_reserved_files};
-use ktm_memory::Memory;
+use ktm_paged::law_of_paged_records;
 use ktm_records::law_of_spelling;
-use ktm_room::law_of_frames;
-use ktm_route::{Asked, command_of, decide, law_of_completions};
-use ktm_slots::law_of_slots;
+use ktm_route::{Asked, command_of, law_of_completions, read_target};
 use ktm_standing::{law_of_kept, law_of_standing};
-use ktm_trace::law_of_contents;
 use ktm_types::{Command, Completion, Reply};
+use ktm_units::law_of_units;
 use std::alloc::Global;
 use std::marker::Model;
 
@@ -37,24 +45,21 @@ use std::marker::Model;
 #[derive(Drop)]
 pub struct Kernel {
     pub(crate) alloc: Global,
-    pub(crate) memory: Memory,
-    // In the buffer that the log was read into.
-    pub(crate) events: Events,
-    // The buffer for a snapshot of all that was recorded.
-    pub(crate) snapshot: Vec<u8>,
+    pub(crate) core: Core,
 }
 
 impl Model for Kernel {
     ghost use Rattle.std.specs.Prelude.{◌≤◌, vec_capacity};
+    ghost use Rattle.ktm_core.specs.Core.{core_of};
     ghost use Rattle.ktm_types.specs.Sizes.{area_len};
     ghost use Rattle.ktm_memory.specs.Memory.{IsRoomy};
     ghost use Rattle.ktm_kernel.specs.Stands.{KernelState, machine_of};
 
     ghost Value = { KernelState };
 
-    ghost view = { λ k. machine_of k.memory };
+    ghost view = { λ k. machine_of (core_of k.core.memory k.core.store) };
 
-    ghost invariant = { λ k. IsRoomy k.memory.journal k.events × (area_len k.memory.journal.units ≤ vec_capacity k.snapshot) };
+    ghost invariant = { λ k. IsRoomy k.core.memory.journal k.core.events × (area_len k.core.memory.journal.units ≤ vec_capacity k.core.snapshot) };
 }
 
 impl Kernel {
@@ -62,14 +67,14 @@ impl Kernel {
     pub fn is_up(&self) -> bool
         ensures { result ≡ self.now.now.machine.is_up }
     {
-        self.memory.is_up()
+        self.core.memory.is_up()
     }
 
     /// Is the label of the process bound.
     pub fn is_bound(&self, process: Pid, label: Label) -> bool
         ensures { result ≡ is_bound self.now.now process label }
     {
-        self.memory.handles().get(process, label).is_some()
+        self.core.memory.handles().get(process, label).is_some()
     }
 
     /// How many events were ever recorded, also of a machine that is down: what was appended when it went down does not count.
@@ -77,22 +82,26 @@ impl Kernel {
         ensures now { result ≡ self.now.now.recorded.events }
         ensures world { (told : Option DiskState) (w : World) → KernelAt self.now told w → result ≡ (stand w.base w.log).events }
     {
-        self.memory.journal().events()
+        self.core.memory.journal().events()
     }
 
     /// The power is gone: the machine is down until it is started again from its disk.
     pub fn crash(&mut self)
         requires { self.old.now.machine.is_up ≡ true }
-        ensures fallen { self.new ≡ record self.old { now = fallen self.old.now } }
+        ensures fallen { self.new ≡ record self.old { now = fallen self.old.now; core = record self.old.core { now = fallen self.old.core.now } } }
         ensures does { (told : Option DiskState) (w : World) → KernelAt self.old told w → DoesLine w (Some Crash) Done self.new told }
     {
         law_of_standing();
-        self.memory.fall();
+        law_of_pages();
+        law_of_paged_records();
+        self.core.memory.fall();
     }
 
     /// Answers a call of a process, with any command of the grammar. After MACHINE_DOWN the machine is down. A call that is
     /// refused, but for MACHINE_DOWN, and one that records nothing make no device call; one that records something makes four,
-    /// and six more where the log has no room for it. Out of memory nothing has changed, in the machine or on its disk.
+    /// six more where the log has no room for it, one for each page of the files that it records, and one more behind each 64 of
+    /// these and behind the last; a plain write may fill, with the gap in front of it, all pages that there are. Out of memory
+    /// nothing has changed, in the machine or on its disk.
     pub fn call<D: Disk>(
         &mut self,
         disk: &mut D,
@@ -113,7 +122,7 @@ impl Kernel {
         if !self.is_up() {
             return Ok(Reply::Refused(Refusal::MachineDown));
         }
-        self.answer(disk, Asked::Call(process, command))
+        self.dispatch(disk, process, command)
     }
 
     /// Answers a call on the way to the end of a transaction, or one that tells of it, as `call` answers its command: CommitTransaction,
@@ -144,6 +153,7 @@ impl Kernel {
         law_of_kept();
         law_of_reserved_files();
         law_of_spelling();
+        law_of_units();
         if !self.is_up() {
             return Reply::Refused(Refusal::MachineDown);
         }
@@ -153,34 +163,143 @@ impl Kernel {
         }
     }
 
-    // Answers what is asked while the machine is up: it is decided, then its events are recorded, and then memory settles.
+    // Answers what is asked of the places while the machine is up: for each outcome of the bytes that comes to the same.
     fn answer<D: Disk>(&mut self, disk: &mut D, asked: Asked) -> Result<Reply, NoMemory>
         requires up { self.old.now.machine.is_up ≡ true }
         requires ready { IsReady self.old (D.told disk.old) (D.status disk.old) }
         requires counts { HasEventsLeft self.old.now }
-        requires asked { CanBeAsked asked }
-        ensures leaves { AnswerLeaves (decided self.old.now asked) (on self.old (D.told disk.old) (D.status disk.old)) (on self.new (D.told disk.new) (D.status disk.new)) result }
+        requires asked { CanBeAsked self.old.core.now asked }
+        requires sound { IsSoundFor (page_count self.old.core.journal.units) self.old.core.now asked }
+        requires held { AreHeldFor self.old.core asked }
+        ensures leaves { (o : Outcome) → IsSameOutcome (byte_at self.old.core.store.seen) self.old.core.now (decided self.old.core.now asked) o
+            → AnswerLeaves o (on self.old (D.told disk.old) (D.status disk.old)) (on self.new (D.told disk.new) (D.status disk.new)) result }
         ensures no_memory { OnErr result (IsAsItWas self.old self.new) }
-        ensures enough { asked_takes_memory self.old.now asked ≡ false → IsOk result }
+        ensures enough { asked_takes_memory self.old.core.now asked ≡ false → IsOk result }
     {
         law_of_standing();
-        law_of_slots();
-        law_of_contents();
-        ktm_trace::law_of_kept();
-        law_of_frames();
-        law_of_lawful_worlds();
-        self.events.clear();
-        let decision = decide(&mut self.memory, self.alloc, asked, &mut self.events)?;
-        match record(disk, &mut self.memory, &self.events, &mut self.snapshot) {
-            Ok(()) => {
-                self.memory.settle(self.alloc, decision.settlement);
-                Ok(decision.reply)
+        law_of_paged_records();
+        self.core.answer(self.alloc, disk, asked)
+    }
+
+    // Reads bytes of an open file, from the pages in memory.
+    fn read(&self, process: Pid, file: Label, offset: u64, length: u64) -> Result<Reply, NoMemory>
+        requires up { self.now.now.machine.is_up ≡ true }
+        requires ready { (told : _) × (status : _) × IsReady self.now told status }
+        ensures reply { IfOk result (λ reply. model_decide self.now.now process (ReadFile file offset length) ≡ only_reply self.now.now reply) }
+        ensures enough { OnErr result (takes_memory self.now.now process (ReadFile file offset length) ≡ true) }
+    {
+        law_of_units();
+        match read_target(&self.core.memory, process, file, length) {
+            Ok(places) => {
+                let mut bytes = Vec::new(self.alloc);
+                self.core.store.read(places, offset, length, &mut bytes)?;
+                Ok(Reply::Contents(Bytes::new(bytes)))
             }
-            Err(Down) => {
-                drop(decision);
-                self.memory.fall();
-                Ok(Reply::Refused(Refusal::MachineDown))
-            }
+            Err(refusal) => Ok(Reply::Refused(refusal)),
+        }
+    }
+
+    // Asks what was staged, which comes to this over the bytes, or answers that it is refused.
+    fn ask<D: Disk>(&mut self, disk: &mut D, staged: Staged) -> Result<Reply, NoMemory>
+        requires up { self.old.now.machine.is_up ≡ true }
+        requires ready { IsReady self.old (D.told disk.old) (D.status disk.old) }
+        requires counts { HasEventsLeft self.old.now }
+        requires staged { (outcome : Present → Outcome) × IsStaged self.old.core.now self.old.core.store staged outcome }
+        ensures leaves { (outcome : Present → Outcome) → IsStaged self.old.core.now self.old.core.store staged outcome
+            → AnswerLeaves (outcome self.old.now) (on self.old (D.told disk.old) (D.status disk.old)) (on self.new (D.told disk.new) (D.status disk.new)) result }
+        ensures no_memory { OnErr result (IsAsItWas self.old self.new) }
+        ensures enough { asks staged ≡ false → IsOk result }
+    {
+        match staged {
+            Staged::Ask(asked) => self.answer(disk, asked),
+            Staged::Refuse(refusal) => Ok(Reply::Refused(refusal)),
+        }
+    }
+
+    // Writes bytes into an open file; none are as any call.
+    fn write<D: Disk>(
+        &mut self,
+        disk: &mut D,
+        process: Pid,
+        file: Label,
+        offset: u64,
+        bytes: Bytes,
+    ) -> Result<Reply, NoMemory>
+        requires up { self.old.now.machine.is_up ≡ true }
+        requires ready { IsReady self.old (D.told disk.old) (D.status disk.old) }
+        requires counts { HasEventsLeft self.old.now }
+        requires command { IsCommand (WriteFile file offset bytes) }
+        ensures leaves { AnswerLeaves (model_decide self.old.now process (WriteFile file offset bytes)) (on self.old (D.told disk.old) (D.status disk.old)) (on self.new (D.told disk.new) (D.status disk.new)) result }
+        ensures no_memory { OnErr result (IsAsItWas self.old self.new) }
+        ensures enough { takes_memory self.old.now process (WriteFile file offset bytes) ≡ false → IsOk result }
+    {
+        law_of_units();
+        if bytes.is_empty() {
+            let command = Command::WriteFile {
+                file,
+                offset,
+                bytes,
+            };
+            return self.answer(disk, Asked::Call(process, command));
+        }
+        let Core { memory, store, .. } = &mut self.core;
+        let staged = stage_write(self.alloc, memory, store, process, file, offset, &bytes)?;
+        self.ask(disk, staged)
+    }
+
+    // Makes an open file so long.
+    fn set_end<D: Disk>(
+        &mut self,
+        disk: &mut D,
+        process: Pid,
+        file: Label,
+        size: u64,
+    ) -> Result<Reply, NoMemory>
+        requires up { self.old.now.machine.is_up ≡ true }
+        requires ready { IsReady self.old (D.told disk.old) (D.status disk.old) }
+        requires counts { HasEventsLeft self.old.now }
+        requires command { IsCommand (SetEndOfFile file size) }
+        ensures leaves { AnswerLeaves (model_decide self.old.now process (SetEndOfFile file size)) (on self.old (D.told disk.old) (D.status disk.old)) (on self.new (D.told disk.new) (D.status disk.new)) result }
+        ensures no_memory { OnErr result (IsAsItWas self.old self.new) }
+        ensures enough { takes_memory self.old.now process (SetEndOfFile file size) ≡ false → IsOk result }
+    {
+        law_of_units();
+        law_of_alike_presents();
+        let Core { memory, store, .. } = &mut self.core;
+        let staged = stage_end(self.alloc, memory, store, process, file, size)?;
+        self.ask(disk, staged)
+    }
+
+    // Answers a command, while the machine is up.
+    fn dispatch<D: Disk>(
+        &mut self,
+        disk: &mut D,
+        process: Pid,
+        command: Command,
+    ) -> Result<Reply, NoMemory>
+        requires up { self.old.now.machine.is_up ≡ true }
+        requires ready { IsReady self.old (D.told disk.old) (D.status disk.old) }
+        requires counts { HasEventsLeft self.old.now }
+        requires command { IsCommand command }
+        ensures leaves { AnswerLeaves (model_decide self.old.now process command) (on self.old (D.told disk.old) (D.status disk.old)) (on self.new (D.told disk.new) (D.status disk.new)) result }
+        ensures no_memory { OnErr result (IsAsItWas self.old self.new) }
+        ensures enough { takes_memory self.old.now process command ≡ false → IsOk result }
+    {
+        law_of_alike_presents();
+        law_of_units();
+        match command {
+            Command::ReadFile {
+                file,
+                offset,
+                length,
+            } => self.read(process, file, offset, length),
+            Command::WriteFile {
+                file,
+                offset,
+                bytes,
+            } => self.write(disk, process, file, offset, bytes),
+            Command::SetEndOfFile { file, size } => self.set_end(disk, process, file, size),
+            command => self.answer(disk, Asked::Call(process, command)),
         }
     }
 }

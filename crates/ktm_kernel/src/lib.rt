@@ -1,12 +1,13 @@
-//! The machine: its memory, and its journal on a disk. A call is decided on what is in memory, its events are recorded as
-//! one group, and only then the memory is changed.
+//! The machine: its memory, its pages, and its journal on a disk. A call is decided on what is in memory, its events are recorded as
+//! one group, and only then the memory is changed. Memory has the places of bytes; here they are bytes again, and the machine stands for
+//! a world.
 #![tactic(auto)]
 
 mod buffers;
 mod kernel;
 mod laws;
-mod recording;
 mod restart;
+mod staging;
 
 pub use buffers::Buffers;
 pub use kernel::Kernel;

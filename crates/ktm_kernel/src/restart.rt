@@ -1,63 +1,41 @@
 // Starting the machine from its disk.
-ghost use Rattle.std.specs.Prelude.{◌≡◌, ◌+◌, ◌*◌, ◌^◌, ◌<◌, ◌≤◌, ℕ, IfOk, OnErr, Some, None, false, [], length, vec_capacity, IfSome, IsSomeAnd};
+ghost use Rattle.std.specs.Prelude.{◌≡◌, ◌+◌, ◌*◌, ◌≤◌, ℕ, IfOk, OnErr, Some, None, false, length, vec_capacity, IfSome, IsSomeAnd};
 ghost use Rattle.ktm_base.specs.declared.limits.TheConstants.{MOST_UNITS};
-ghost use Rattle.ktm_event.specs.Kept.{Holds};
 ghost use Rattle.ktm_base.specs.Disk.{DeviceCalls};
-ghost use Rattle.ktm_standing.specs.Standing.{fresh};
-ghost use Rattle.ktm_journal.specs.Image.{IsHeaded};
-ghost use Rattle.ktm_types.specs.Sizes.{area_len, frame_size};
-ghost use Rattle.ktm_slots.specs.Owed.{owed_slots};
-ghost use Rattle.ktm_states.specs.GoodState.{IsGoodState};
-ghost use Rattle.ktm_world.specs.Durable.{is_worn};
-ghost use Rattle.ktm_world.specs.World.{World, in_doubt as all_in_doubt, own_group};
-ghost use Rattle.ktm_memory.specs.Memory.{IsRoomy, Shows};
-ghost use Rattle.ktm_restart.specs.Loads.{IsJournalOf, MayStart};
-ghost use Rattle.ktm_kernel.specs.Starting.{Begun, IsMachineOf, IsNoMachine, IsStarting, StartLeaves};
-ghost use Rattle.ktm_kernel.specs.Restarts.{ListsStart, RestartLeaves, answer_of, restart_went_down};
+ghost use Rattle.ktm_core.specs.Core.{AreSoundFiles, core_of};
+ghost use Rattle.ktm_core.specs.Starting.{IsStarting};
+ghost use Rattle.ktm_journal.specs.Image.{IsHeaded, page_count};
 ghost use Rattle.ktm_kernel.specs.Answers.{StartAgainLeaves};
-ghost use Rattle.ktm_log.specs.OnDisk.{on};
+ghost use Rattle.ktm_kernel.specs.Begun.{BeginLeaves, IsMachineOf, IsNoMachine};
+ghost use Rattle.ktm_kernel.specs.Restarts.{RestartLeaves, answer_of, restart_went_down};
 ghost use Rattle.ktm_kernel.specs.Stands.{FoundAt, machine_of};
+ghost use Rattle.ktm_log.specs.OnDisk.{on};
+ghost use Rattle.ktm_memory.specs.Memory.{IsRoomy};
+ghost use Rattle.ktm_types.specs.Sizes.{area_len};
+ghost use Rattle.ktm_world.specs.World.{World};
+ghost use Rattle.txf_volume.specs.Held.{files_of};
 
 use crate::buffers::Buffers;
 use crate::kernel::Kernel;
-use crate::recording::append;
-use ktm_back::{Restored, count_in_doubt, law_of_coming_back, law_of_in_doubt, restore, start};
+use ktm_alike::law_of_alike_presents;
 use ktm_base::{Disk, Down, NoMemory, Refusal};
+use ktm_core::{Core, Starting, events_in, in_doubt, is_worn, load_pages, prepare, record_start};
 use ktm_event::Events;
-use ktm_journal::{Journal, LoadFault};
+use ktm_journal::LoadFault;
+use ktm_mapped::law_of_mapped_states;
 use ktm_memory::Memory;
 use ktm_records::law_of_spelling;
-use ktm_restart::{Durable, DurableParts, Loaded, law_of_bad_images, law_of_states, load};
-use ktm_room::law_of_frames;
-use ktm_saving::compact;
-use ktm_slots::law_of_slots;
-use ktm_standing::{law_of_fresh, law_of_kept, law_of_standing};
-use ktm_states::{law_of_good_states, law_of_grammar, law_of_own_groups};
-use ktm_trace::{Trace, law_of_contents};
+use ktm_restart::{law_of_bad_images, law_of_states, load};
+use ktm_standing::{law_of_fresh, law_of_standing};
+use ktm_store::Store;
 use ktm_types::Reply;
+use ktm_units::law_of_units;
 use std::alloc::Global;
 use std::mem::replace;
 use thiserror::Error;
 
-/// A state with so many boots or more is worn.
-const WORN_BOOTS: u32 = u32::MAX - 1;
-
-/// A state with so many events or more is worn.
-const WORN_EVENTS: u64 = 1 << 62;
-
 /// How many bytes a frame has beside its events, which with them fill an area at most.
 const FRAME: usize = 9;
-
-// A list of no events in the buffer of a journal, with the room for whatever an empty log of its image has room for.
-fn events_in(buffer: Vec<u8>, journal: &Journal) -> Events
-    requires most { journal.now.units ≤ MOST_UNITS }
-    requires reserved { area_len journal.now.units ≤ vec_capacity buffer }
-    ensures empty { Holds result [] }
-    ensures room { result.room + frame_size [] ≡ area_len journal.now.units }
-    ensures capacity { vec_capacity buffer ≤ result.capacity }
-{
-    Events::with_buffer(buffer, journal.events_room())
-}
 
 /// A machine that started.
 #[derive(Drop)]
@@ -67,94 +45,6 @@ pub struct Restarted {
     pub events: u64,
     /// How many transactions are in doubt: each waits for its superior, and holds what it changed and set.
     pub in_doubt: u32,
-}
-
-// Is the state worn: does no machine start from it.
-fn is_worn(state: &Durable) -> bool
-    ensures { result ≡ is_worn state.now }
-{
-    state.boots() >= WORN_BOOTS || state.events() >= WORN_EVENTS
-}
-
-// What a start from this state records, in the buffer of the journal.
-fn list_start(alloc: Global, journal: &Journal, state: &Durable, buffer: &mut Vec<u8>) -> Events
-    requires good { IsGoodState state.now }
-    requires boots { state.now.boots + 1 < 2 ^ 32 }
-    requires units { journal.now.units ≡ state.now.units }
-    requires most { journal.now.units ≤ MOST_UNITS }
-    requires reserved { area_len journal.now.units ≤ vec_capacity buffer.old }
-    ensures lists { ListsStart state.now journal.now.units result }
-    ensures capacity { vec_capacity buffer.old ≤ result.capacity }
-{
-    law_of_spelling();
-    law_of_frames();
-    let mut events = events_in(replace(buffer, Vec::new(alloc)), journal);
-    state.own_group(&mut events);
-    events
-}
-
-// How many transactions are in doubt.
-fn in_doubt(state: &Durable) -> u32
-    requires { IsGoodState state.now }
-    ensures { result ≡ length (all_in_doubt state.now) }
-{
-    count_in_doubt(state.transactions()) as u32
-}
-
-// What a machine holds that starts from this state, before that is recorded: what was recorded, with what the transactions in
-// doubt changed and set.
-fn begin(alloc: Global, journal: Journal, state: Durable) -> Result<Memory, NoMemory>
-    requires good { IsGoodState state }
-    requires most { state.units ≤ MOST_UNITS }
-    requires boots { state.boots + 2 < 2 ^ 32 }
-    requires events { state.events + length (own_group state) < 2 ^ 63 }
-    ensures journal { IfOk result (λ memory. memory.journal ≡ journal) }
-    ensures shows { IfOk result (λ memory. Shows memory (fresh state)) }
-    ensures slots { IfOk result (λ memory. owed_slots (fresh state) ≤ memory.tm.slots) }
-{
-    law_of_coming_back();
-    law_of_slots();
-    law_of_in_doubt();
-    law_of_own_groups();
-    law_of_good_states();
-    let mut state = state;
-    let tm = match start(
-        alloc,
-        state.boots() + 1,
-        state.managers(),
-        state.transactions(),
-    ) {
-        Ok(tm) => tm,
-        Err(NoMemory) => {
-            drop(state);
-            return Err(NoMemory);
-        }
-    };
-    state.begin();
-    let trace = match Trace::of(alloc, state.transactions()) {
-        Ok(trace) => trace,
-        Err(NoMemory) => {
-            drop(tm);
-            drop(state);
-            return Err(NoMemory);
-        }
-    };
-    let DurableParts {
-        files,
-        keys,
-        transactions,
-        ..
-    } = state.into_parts();
-    match restore(alloc, files, keys, transactions) {
-        Ok(Restored { files, keys }) => {
-            Ok(Memory::start(alloc, journal, tm, trace, files, keys))
-        }
-        Err(NoMemory) => {
-            drop(tm);
-            drop(trace);
-            Err(NoMemory)
-        }
-    }
 }
 
 /// Why a machine did not start.
@@ -187,55 +77,28 @@ fn answer_of(fault: RestartFault) -> Result<Reply, NoMemory>
     }
 }
 
-// A machine that is to start: what it holds, and the list of what it records.
-#[derive(Drop)]
-struct Starting {
-    memory: Memory,
-    events: Events,
-}
-
-// What starts from what was loaded, whose log was read into the buffer, with the list of what it records. Out of memory the
-// buffer is kept.
-fn prepare(alloc: Global, loaded: Loaded, buffer: &mut Vec<u8>) -> Result<Starting, NoMemory>
-    requires may { MayStart loaded.state }
-    requires unworn { is_worn loaded.state ≡ false }
-    requires journal { IsJournalOf loaded.state loaded.journal }
-    requires reserved { area_len loaded.journal.units ≤ vec_capacity buffer.old }
-    ensures begun { IfOk result (λ starting. Begun loaded starting.events starting.memory) }
-    ensures capacity { IfOk result (λ starting. vec_capacity buffer.old ≤ starting.events.capacity) }
-    ensures err { OnErr result (vec_capacity buffer.old ≤ vec_capacity buffer.new) }
-{
-    law_of_spelling();
-    let Loaded { journal, state } = loaded;
-    let events = list_start(alloc, &journal, &state, buffer);
-    match begin(alloc, journal, state) {
-        Ok(memory) => Ok(Starting { memory, events }),
-        Err(NoMemory) => {
-            *buffer = events.into_buffer();
-            Err(NoMemory)
-        }
-    }
-}
-
 // The machine that holds this, with the list for what it records and the buffer for its snapshots.
-fn machine(alloc: Global, memory: Memory, events: Events, snapshot: Vec<u8>) -> Kernel
+fn machine(alloc: Global, memory: Memory, store: Store, events: Events, snapshot: Vec<u8>) -> Kernel
     requires roomy { IsRoomy memory.journal events }
     requires room { area_len memory.journal.units ≤ vec_capacity snapshot }
-    ensures { result ≡ machine_of memory }
+    ensures { result ≡ machine_of (core_of memory store) }
 {
     Kernel {
         alloc,
-        memory,
-        events,
-        snapshot,
+        core: Core {
+            memory,
+            store,
+            events,
+            snapshot,
+        },
     }
 }
 
-// Records that a machine starts from this state: as a group of the log, or, where the log has no room for it, by a snapshot of what the
-// start makes of the state.
-fn record_group<D: Disk>(
+// Reads the pages of what is to start, and records that it starts.
+fn start<D: Disk>(
     disk: &mut D,
     memory: &mut Memory,
+    store: &mut Store,
     events: &Events,
     snapshot: &mut Vec<u8>,
 ) -> Result<(), Down>
@@ -243,28 +106,25 @@ fn record_group<D: Disk>(
     requires pending { (D.status disk.old).pending ≡ 0 }
     requires headed { IfSome (D.told disk.old) (λ s. IsHeaded memory.old.journal.units memory.old.journal.image memory.old.journal.selector s.seen) }
     requires starts { IsStarting memory.old events.now }
+    requires sound { AreSoundFiles (page_count memory.old.journal.units) (files_of memory.old.files) }
+    requires count { length store.old.marks.held ≡ page_count memory.old.journal.units }
     requires room { area_len memory.old.journal.units ≤ vec_capacity snapshot.old }
-    ensures leaves { StartLeaves events.now (on memory.old (D.told disk.old) (D.status disk.old)) (on memory.new (D.told disk.new) (D.status disk.new)) result }
+    ensures leaves { BeginLeaves events.now (on memory.old (D.told disk.old) (D.status disk.old)) (on memory.new (D.told disk.new) (D.status disk.new)) store.new result }
     ensures kept { vec_capacity snapshot.old ≤ vec_capacity snapshot.new }
 {
-    law_of_fresh();
-    law_of_kept();
-    law_of_contents();
-    law_of_own_groups();
-    law_of_spelling();
-    if memory.has_room(events) {
-        return append(disk, memory, events);
+    if let Err(Down) = load_pages(disk, memory, store) {
+        return Err(Down);
     }
-    memory.count(events);
-    compact(memory, disk, snapshot)
+    record_start(disk, memory, events, snapshot)
 }
 
-// Records that it starts; or the disk went down, and then the buffers are given back. What each part of memory gives back then is
-// proved in `drop`, and not here.
-fn record_start<D: Disk>(
+// Starts what is to start; or the disk went down, and then the buffers are given back. What each part of memory gives back then is proved
+// in `drop`, and not here.
+fn begin<D: Disk>(
     alloc: Global,
     disk: &mut D,
     starting: Starting,
+    mut store: Store,
     buffers: &mut Buffers,
 ) -> Result<Kernel, Down>
     requires up { (D.status disk.old).is_down ≡ false }
@@ -272,19 +132,28 @@ fn record_start<D: Disk>(
     requires headed { IfSome (D.told disk.old) (λ s. IsHeaded starting.memory.journal.units starting.memory.journal.image starting.memory.journal.selector s.seen) }
     requires roomy { IsRoomy starting.memory.journal starting.events }
     requires starts { IsStarting starting.memory starting.events }
+    requires sound { AreSoundFiles (page_count starting.memory.journal.units) (files_of starting.memory.files) }
+    requires count { length store.marks.held ≡ page_count starting.memory.journal.units }
     requires room { area_len starting.memory.journal.units ≤ buffers.old.snapshot }
     ensures ok { IfOk result (IsMachineOf starting.events (on starting.memory (D.told disk.old) (D.status disk.old)) (D.told disk.new) (D.status disk.new)) }
     ensures err { OnErr result (IsNoMachine starting.events (on starting.memory (D.told disk.old) (D.status disk.old)) (D.told disk.new) (D.status disk.new)) }
     ensures kept { OnErr result ((starting.events.capacity ≤ buffers.new.log) × (buffers.old.snapshot ≤ buffers.new.snapshot)) }
 {
     let Starting { mut memory, events } = starting;
-    match record_group(disk, &mut memory, &events, &mut buffers.snapshot) {
+    match start(
+        disk,
+        &mut memory,
+        &mut store,
+        &events,
+        &mut buffers.snapshot,
+    ) {
         Ok(()) => {
             let snapshot = replace(&mut buffers.snapshot, Vec::new(alloc));
-            Ok(machine(alloc, memory, events, snapshot))
+            Ok(machine(alloc, memory, store, events, snapshot))
         }
         Err(Down) => {
             drop(memory);
+            drop(store);
             buffers.log = events.into_buffer();
             Err(Down)
         }
@@ -307,12 +176,11 @@ impl Kernel {
     {
         law_of_fresh();
         law_of_standing();
-        law_of_good_states();
-        law_of_own_groups();
-        law_of_grammar();
-        law_of_contents();
         law_of_states();
         law_of_spelling();
+        law_of_mapped_states();
+        law_of_alike_presents();
+        law_of_units();
         let loaded = match load(alloc, disk, &mut buffers.log) {
             Ok(loaded) => loaded,
             Err(LoadFault::Down) => return Err(RestartFault::Down),
@@ -333,11 +201,18 @@ impl Kernel {
             drop(loaded);
             return Err(RestartFault::NoMemory);
         };
+        let Ok(store) = Store::new(alloc, loaded.journal.units()) else {
+            drop(loaded);
+            return Err(RestartFault::NoMemory);
+        };
         let starting = match prepare(alloc, loaded, &mut buffers.log) {
             Ok(starting) => starting,
-            Err(NoMemory) => return Err(RestartFault::NoMemory),
+            Err(NoMemory) => {
+                drop(store);
+                return Err(RestartFault::NoMemory);
+            }
         };
-        match record_start(alloc, disk, starting, buffers) {
+        match begin(alloc, disk, starting, store, buffers) {
             Ok(kernel) => Ok(Restarted {
                 kernel,
                 events: found,
@@ -365,23 +240,21 @@ impl Kernel {
         law_of_states();
         law_of_bad_images();
         let none = Events::new(self.alloc, 0)?;
-        let log = replace(&mut self.events, none).into_buffer();
-        let snapshot = replace(&mut self.snapshot, Vec::new(self.alloc));
+        let log = replace(&mut self.core.events, none).into_buffer();
+        let snapshot = replace(&mut self.core.snapshot, Vec::new(self.alloc));
         let mut buffers = Buffers { log, snapshot };
         match Kernel::restart(self.alloc, disk, &mut buffers) {
             Ok(restarted) => {
                 let kernel = restarted.kernel;
-                drop(replace(&mut self.memory, kernel.memory));
-                self.events = kernel.events;
-                self.snapshot = kernel.snapshot;
+                drop(replace(&mut self.core, kernel.core));
                 Ok(Reply::Restarted {
                     events: restarted.events,
                     in_doubt: restarted.in_doubt,
                 })
             }
             Err(fault) => {
-                self.events = events_in(buffers.log, self.memory.journal());
-                self.snapshot = buffers.snapshot;
+                self.core.events = events_in(buffers.log, self.core.memory.journal());
+                self.core.snapshot = buffers.snapshot;
                 answer_of(fault)
             }
         }

@@ -15,7 +15,7 @@ use Rattle.ktm_base.specs.declared.refusal.Refusal.TheVariants.{MachineDown, Inv
 use Rattle.ktm_base.specs.Guid.{IsId, guid_of}
 use Rattle.ktm_base.proofs.offered.GuidLemmas.{id_read}
 use Rattle.ktm_types.specs.declared.command.Command.{Command}
-use Rattle.ktm_types.specs.declared.command.Command.TheVariants.{CreateTransaction, OpenTransaction, CommitTransaction, RollbackTransaction, GetTransactionInformation, CreateResourceManager, OpenResourceManager, RecoverResourceManager, GetNotificationResourceManager, CreateEnlistment, OpenEnlistment, RecoverEnlistment, PrePrepareComplete, PrepareComplete, ReadOnlyEnlistment, CommitComplete, RollbackComplete, SinglePhaseReject, RollbackEnlistment, PrePrepareEnlistment, PrepareEnlistment, CommitEnlistment, SetEnlistmentRecoveryInformation, GetEnlistmentRecoveryInformation, CreateFile, CreateFileTransacted, ReadFile, WriteFile, SetEndOfFile, GetFileSizeEx, FlushFileBuffers, DeleteFile, CreateDirectory, RemoveDirectory, MoveFile, DeleteFileTransacted, CreateDirectoryTransacted, RemoveDirectoryTransacted, MoveFileTransacted, FindFiles, FindFilesTransacted, KvSet, KvUnset, KvGet, KvList, CloseHandle, DuplicateHandle, Exit}
+use Rattle.ktm_types.specs.declared.command.Command.TheVariants.{CreateTransaction, OpenTransaction, CommitTransaction, RollbackTransaction, GetTransactionInformation, CreateResourceManager, OpenResourceManager, RecoverResourceManager, GetNotificationResourceManager, CreateEnlistment, OpenEnlistment, RecoverEnlistment, PrePrepareComplete, PrepareComplete, ReadOnlyEnlistment, CommitComplete, RollbackComplete, SinglePhaseReject, RollbackEnlistment, PrePrepareEnlistment, PrepareEnlistment, CommitEnlistment, SetEnlistmentRecoveryInformation, GetEnlistmentRecoveryInformation, CreateFile, CreateFileTransacted, ReadFile, WriteFile, SetEndOfFile, WriteUnits, GetFileSizeEx, FlushFileBuffers, DeleteFile, CreateDirectory, RemoveDirectory, MoveFile, DeleteFileTransacted, CreateDirectoryTransacted, RemoveDirectoryTransacted, MoveFileTransacted, FindFiles, FindFilesTransacted, KvSet, KvUnset, KvGet, KvList, CloseHandle, DuplicateHandle, Exit}
 use Rattle.ktm_types.specs.declared.command.View.{View}
 use Rattle.ktm_types.specs.declared.command.View.TheVariants.{Plain, Transaction as Through}
 use Rattle.ktm_types.specs.declared.input.PhaseInput.{PhaseInput}
@@ -33,7 +33,7 @@ use Rattle.ktm_types.specs.declared.reply.Reply.{Reply}
 use Rattle.ktm_types.specs.declared.reply.Reply.TheVariants.{Refused, Done, Committed, Pending, Notification}
 use Rattle.ktm_world.specs.Decide.{decide, caller, command_tests, command_effect, refusal_of, of_files, opening, on_file, on_file_tests, own_tests, bound_file}
 use Rattle.ktm_world.specs.Enlistments.{Enlistment, Manager, Note, is_ended}
-use Rattle.ktm_world.specs.FileCalls.{create_act, create_at, create_file, create_file_tests, read_file, read_file_tests, write_file, write_file_tests, set_end, set_end_tests, get_size, flush_file, delete_act, drop_at, delete_file, delete_file_tests, make_act, make_at, create_directory, create_directory_tests, remove_act, remove_directory, remove_directory_tests, move_act, move_at, move_file, move_file_tests, find_files, find_files_tests, find_path, conflict_test, write_access_test, Whereabouts, no_path, no_way, free, at_root, at_node}
+use Rattle.ktm_world.specs.FileCalls.{create_act, create_at, create_file, create_file_tests, read_file, read_file_tests, write_file, write_file_tests, write_units_tests, set_end, set_end_tests, get_size, flush_file, delete_act, drop_at, delete_file, delete_file_tests, make_act, make_at, create_directory, create_directory_tests, remove_act, remove_directory, remove_directory_tests, move_act, move_at, move_file, move_file_tests, find_files, find_files_tests, find_path, conflict_test, write_access_test, Whereabouts, no_path, no_way, free, at_root, at_node}
 use Rattle.ktm_world.specs.FileOutcome.{FileOutcome, FileRoom}
 use Rattle.ktm_world.specs.Files.{FilesNow, OpenFile, tree_seen}
 use Rattle.ktm_world.specs.HandleCalls.{close_handle, close_handle_tests, closed_in_turn, labels_of, exit, bind_to, duplicate_handle, duplicate_handle_tests}
@@ -393,7 +393,7 @@ module _ (x : Present) where
   view-alone process (Through label) = outcome-backed (named_id x process (Some label)) ((holds_of (λ t. not (is_active t)) (transaction_named x process label), TransactionNotActive) ∷ []) (λ holds id k is tells. absurd (none-some k tells), tt)
 
   tests-backed : (process : Pid) (command : Command) → S (named_id x process (transaction_label command)) (command_tests x process command)
-  unfolding create_transaction_tests open_transaction_tests create_resource_manager_tests open_resource_manager_tests create_enlistment_tests open_enlistment_tests duplicate_handle_tests read_file_tests write_file_tests set_end_tests
+  unfolding create_transaction_tests open_transaction_tests create_resource_manager_tests open_resource_manager_tests create_enlistment_tests open_enlistment_tests duplicate_handle_tests read_file_tests write_file_tests write_units_tests set_end_tests
   tests-backed process (CreateTransaction label timeout) = silent-backed x None (create_transaction_tests x process label) refl
   tests-backed process (OpenTransaction label guid) = silent-backed x None (open_transaction_tests x process label guid) refl
   tests-backed process (CommitTransaction label) = outcome-backed (named_id x process (Some label)) ((holds_of (λ t. not (is_active t)) (transaction_named x process label), TransactionNotActive) ∷ []) (λ holds id k is tells. absurd (none-some k tells), tt)
@@ -433,6 +433,7 @@ module _ (x : Present) where
   tests-backed process (ReadFile file offset many) = file-backed None process file (λ o. read_file_tests o many) (λ o. refl)
   tests-backed process (WriteFile file offset bytes) = file-backed None process file (λ o. write_file_tests x.files (file_room x) o offset bytes) (λ o. refl)
   tests-backed process (SetEndOfFile file size) = file-backed None process file (λ o. set_end_tests x.files (file_room x) o size) (λ o. refl)
+  tests-backed process (WriteUnits file start contents) = file-backed None process file (λ o. write_units_tests x.files (file_room x) o start contents) (λ o. refl)
   tests-backed process (GetFileSizeEx file) = silent-backed x None (file_tests x process file) refl
   tests-backed process (FlushFileBuffers file) = file-backed None process file (λ o. write_access_test o ∷ []) (λ o. refl)
   tests-backed process (DeleteFile path) = delete-backed None x.files (file_room x) None path
@@ -500,6 +501,7 @@ silent-effect x process (CreateFileTransacted label path access share dispositio
 silent-effect x process (ReadFile file offset many) is = silent-on_file x (file_named x process file) (λ o. read_file x.files o offset many) (λ o. refl) (λ o. refl)
 silent-effect x process (WriteFile file offset bytes) is = silent-on_file x (file_named x process file) (λ o. write_file o offset bytes) (λ o. (says-written o offset bytes).told) (λ o. (says-written o offset bytes).plain)
 silent-effect x process (SetEndOfFile file size) is = silent-on_file x (file_named x process file) (λ o. set_end o size) (λ o. refl) (λ o. refl)
+silent-effect x process (WriteUnits file start contents) is = silent-on_file x (file_named x process file) (λ o. write_file o start contents) (λ o. (says-written o start contents).told) (λ o. (says-written o start contents).plain)
 silent-effect x process (GetFileSizeEx file) is = silent-on_file x (file_named x process file) (λ o. get_size x.files o) (λ o. refl) (λ o. refl)
 silent-effect x process (FlushFileBuffers file) is = silent-on_file x (file_named x process file) (λ o. flush_file) (λ o. refl) (λ o. refl)
 silent-effect x process (DeleteFile path) is = silent-file x None (delete_file x.files None path) (file-delete x.files None path)

@@ -15,7 +15,7 @@ use Rattle.ktm_types.specs.declared.change.Change.TheVariants.{Make, Put, Cut, M
 use Rattle.ktm_types.specs.declared.change.Contents.TheVariants.{Whole}
 use Rattle.ktm_types.specs.declared.change.NodeKind.TheVariants.{File, Directory}
 use Rattle.ktm_types.specs.declared.command.Command.{Command}
-use Rattle.ktm_types.specs.declared.command.Command.TheVariants.{CreateTransaction, OpenTransaction, CommitTransaction, RollbackTransaction, GetTransactionInformation, CreateResourceManager, OpenResourceManager, RecoverResourceManager, GetNotificationResourceManager, CreateEnlistment, OpenEnlistment, RecoverEnlistment, PrePrepareComplete, PrepareComplete, ReadOnlyEnlistment, CommitComplete, RollbackComplete, SinglePhaseReject, RollbackEnlistment, PrePrepareEnlistment, PrepareEnlistment, CommitEnlistment, SetEnlistmentRecoveryInformation, GetEnlistmentRecoveryInformation, CreateFile, CreateFileTransacted, ReadFile, WriteFile, SetEndOfFile, GetFileSizeEx, FlushFileBuffers, DeleteFile, CreateDirectory, RemoveDirectory, MoveFile, DeleteFileTransacted, CreateDirectoryTransacted, RemoveDirectoryTransacted, MoveFileTransacted, FindFiles, FindFilesTransacted, KvSet, KvUnset, KvGet, KvList, CloseHandle, DuplicateHandle, Exit}
+use Rattle.ktm_types.specs.declared.command.Command.TheVariants.{CreateTransaction, OpenTransaction, CommitTransaction, RollbackTransaction, GetTransactionInformation, CreateResourceManager, OpenResourceManager, RecoverResourceManager, GetNotificationResourceManager, CreateEnlistment, OpenEnlistment, RecoverEnlistment, PrePrepareComplete, PrepareComplete, ReadOnlyEnlistment, CommitComplete, RollbackComplete, SinglePhaseReject, RollbackEnlistment, PrePrepareEnlistment, PrepareEnlistment, CommitEnlistment, SetEnlistmentRecoveryInformation, GetEnlistmentRecoveryInformation, CreateFile, CreateFileTransacted, ReadFile, WriteFile, SetEndOfFile, WriteUnits, GetFileSizeEx, FlushFileBuffers, DeleteFile, CreateDirectory, RemoveDirectory, MoveFile, DeleteFileTransacted, CreateDirectoryTransacted, RemoveDirectoryTransacted, MoveFileTransacted, FindFiles, FindFilesTransacted, KvSet, KvUnset, KvGet, KvList, CloseHandle, DuplicateHandle, Exit}
 use Rattle.ktm_types.specs.declared.event.Event.{Event}
 use Rattle.ktm_types.specs.declared.event.Event.TheVariants.{MadeRm, Undo}
 use Rattle.ktm_types.specs.declared.input.PhaseInput.{PhaseInput}
@@ -34,7 +34,7 @@ use Rattle.ktm_world.specs.Committed.{Work}
 use Rattle.ktm_world.specs.Conflicts.{writes}
 use Rattle.ktm_world.specs.Decide.{decide, caller, transacted, command_tests, command_effect, refusal_of, of_files, opening, on_file, on_file_tests, own_tests, bound_file}
 use Rattle.ktm_world.specs.Enlistments.{Enlistment, Manager}
-use Rattle.ktm_world.specs.FileCalls.{Whereabouts, no_path, no_way, free, at_root, at_node, find_path, empties, create_at, create_file, create_file_tests, read_file, write_file, write_file_tests, set_end, set_end_tests, get_size, flush_file, drop_at, delete_file, delete_file_tests, make_at, create_directory, create_directory_tests, remove_directory, remove_directory_tests, move_at, move_file, move_file_tests, find_files}
+use Rattle.ktm_world.specs.FileCalls.{Whereabouts, no_path, no_way, free, at_root, at_node, find_path, empties, create_at, create_file, create_file_tests, read_file, write_file, write_units_tests, set_end, set_end_tests, get_size, flush_file, drop_at, delete_file, delete_file_tests, make_at, create_directory, create_directory_tests, remove_directory, remove_directory_tests, move_at, move_file, move_file_tests, find_files}
 use Rattle.ktm_world.specs.FileOutcome.{FileOutcome, answering, changing}
 use Rattle.ktm_world.specs.Files.{FirstOpen, OpenFile, OwnChanges, own_changes, FilesNow}
 use Rattle.ktm_world.specs.HandleCalls.{close_handle, exit, bind_to, duplicate_handle}
@@ -60,6 +60,7 @@ use Rattle.ktm_records.proofs.offered.AgreementOfRollbacks.{rollback-undone}
 use Rattle.ktm_records.proofs.offered.PlainFacts.{MayLand, lands-none, lands-one, lands-created, may-land}
 use Rattle.txf_laws.proofs.offered.ChangeTests.{applies-from}
 use Rattle.ktm_courses.proofs.offered.Calls.{Passes, passed}
+use Rattle.ktm_courses.proofs.offered.FileSteps.{units-pass}
 use Rattle.txf_laws.proofs.offered.Elements.{IsIn-flat_map, IsIn-kept, list_all-at, list_any-from, not-not}
 use Rattle.ktm_laws.proofs.Notes.{Comes, comes-effect}
 use Rattle.ktm_owned.proofs.offered.OpenCalls.{file-in, own-passes, lands-written}
@@ -255,18 +256,18 @@ module _ (lists : ListsLaw) (formed : FormedLaw) (x : Present) (course : IsSound
       → IsWritten x (of_files x o.transaction (changing c))
   written-bytes o there may c bytes at puts applies = written-open o (changing c) (λ plain. lands-one x c (lands-written lists formed x sound o there may c bytes at applies plain)) (puts-one c puts)
 
-  writes-file : (process : Pid) (label : Label) (offset : ℕ) (bytes : List ℕ) → Passes (on_file_tests x process label (λ o. write_file_tests x.files (file_room x) o offset bytes))
+  writes-file : (process : Pid) (label : Label) (offset : ℕ) (bytes : List ℕ) → Passes (on_file_tests x process label (λ o. write_units_tests x.files (file_room x) o offset bytes))
       → IsWritten x (on_file x (file_named x process label) (λ o. write_file o offset bytes))
-  unfolding write_file write_file_tests
+  unfolding write_file write_units_tests
   writes-file process label offset bytes passes = go (file_named x process label) refl (own-passes lists formed x process label _ passes)
     where
       put : (o : OpenFile) → IsIn o x.files.table.opens → writes o.access ≡ true → (bytes : List ℕ) → IsWritten x (of_files x o.transaction (write_file o offset bytes))
       put o there may [] = written-open o (answering Done) (λ plain. lands-none x) puts-none
       put o there may (b ∷ bs) = written-bytes o there may (Put o.node offset (Whole (b ∷ bs))) refl refl refl (λ tree file. applies-from tree (Put o.node offset (Whole (b ∷ bs))) (file, refl))
 
-      go : (o : Option OpenFile) → file_named x process label ≡ o → Passes (own_tests o (λ o. write_file_tests x.files (file_room x) o offset bytes)) → IsWritten x (on_file x o (λ o. write_file o offset bytes))
+      go : (o : Option OpenFile) → file_named x process label ≡ o → Passes (own_tests o (λ o. write_units_tests x.files (file_room x) o offset bytes)) → IsWritten x (on_file x o (λ o. write_file o offset bytes))
       go None found tests = written-reply x Done
-      go (Some o) found tests = put o (file-in lists formed x process label o found) (not-not (writes o.access) (passed (passed tests).1).0) bytes
+      go (Some o) found tests = put o (file-in lists formed x process label o found) (not-not (writes o.access) (passed tests).0) bytes
 
   sets-end : (process : Pid) (label : Label) (size : ℕ) → Passes (on_file_tests x process label (λ o. set_end_tests x.files (file_room x) o size)) → IsWritten x (on_file x (file_named x process label) (λ o. set_end o size))
   unfolding set_end set_end_tests
@@ -412,8 +413,9 @@ module _ (lists : ListsLaw) (formed : FormedLaw) (x : Present) (course : IsSound
       (up-passes process (CreateFileTransacted label path access share disposition transaction) none)
       (λ id. written-opening process label (Some id) (create_file x.files (Some id) path access share disposition) (written-own id (create_file x.files (Some id) path access share disposition)))
   written-effect process (ReadFile file offset many) none = written-asks (file_named x process file) (λ o. read_file x.files o offset many) (λ o. refl)
-  written-effect process (WriteFile file offset bytes) none = writes-file process file offset bytes (up-passes process (WriteFile file offset bytes) none)
+  written-effect process (WriteFile file offset bytes) none = writes-file process file offset bytes (units-pass x process file offset bytes (up-passes process (WriteFile file offset bytes) none))
   written-effect process (SetEndOfFile file size) none = sets-end process file size (up-passes process (SetEndOfFile file size) none)
+  written-effect process (WriteUnits file start contents) none = writes-file process file start contents (up-passes process (WriteUnits file start contents) none)
   written-effect process (GetFileSizeEx file) none = written-asks (file_named x process file) (λ o. get_size x.files o) (λ o. refl)
   written-effect process (FlushFileBuffers file) none = written-asks (file_named x process file) (λ o. flush_file) (λ o. refl)
   written-effect process (DeleteFile path) none = deletes path _ none

@@ -4,7 +4,7 @@ use Rattle.std.specs.List.{list_any}
 use Rattle.ktm_base.specs.declared.id.Id.{Id}
 use Rattle.ktm_base.specs.declared.id.Pid.{Pid}
 use Rattle.ktm_types.specs.declared.command.Command.{Command}
-use Rattle.ktm_types.specs.declared.command.Command.TheVariants.{CreateFileTransacted, WriteFile, SetEndOfFile, DeleteFileTransacted, CreateDirectoryTransacted, RemoveDirectoryTransacted, MoveFileTransacted, CloseHandle, Exit}
+use Rattle.ktm_types.specs.declared.command.Command.TheVariants.{CreateFileTransacted, WriteFile, SetEndOfFile, WriteUnits, DeleteFileTransacted, CreateDirectoryTransacted, RemoveDirectoryTransacted, MoveFileTransacted, CloseHandle, Exit}
 use Rattle.ktm_types.specs.declared.object.Handle.{Handle}
 use Rattle.ktm_types.specs.declared.object.Object.TheVariants.{File as FileObject}
 use Rattle.ktm_world.specs.Decide.{caller, decide}
@@ -33,6 +33,7 @@ is_by x process (RemoveDirectoryTransacted path transaction) id = is_of id (call
 is_by x process (MoveFileTransacted source target transaction) id = is_of id (caller x process transaction)
 is_by x process (WriteFile file offset bytes) id = name_file_of x id (filter (is_handle process file) x.handles)
 is_by x process (SetEndOfFile file size) id = name_file_of x id (filter (is_handle process file) x.handles)
+is_by x process (WriteUnits file start contents) id = name_file_of x id (filter (is_handle process file) x.handles)
 is_by x process (CloseHandle label) id = name_file_of x id (filter (is_handle process label) x.handles)
 is_by x process Exit id = name_file_of x id (filter (is_of_process process) x.handles)
 is_by x process _ id = false

@@ -9,7 +9,7 @@ use Rattle.ktm_base.specs.declared.refusal.Refusal.{Refusal}
 use Rattle.ktm_base.specs.declared.refusal.Refusal.TheVariants.{MachineDown}
 use Rattle.ktm_types.specs.declared.change.Change.{Change}
 use Rattle.ktm_types.specs.declared.command.Command.{Command}
-use Rattle.ktm_types.specs.declared.command.Command.TheVariants.{CreateTransaction, OpenTransaction, CommitTransaction, RollbackTransaction, GetTransactionInformation, CreateResourceManager, OpenResourceManager, RecoverResourceManager, GetNotificationResourceManager, CreateEnlistment, OpenEnlistment, RecoverEnlistment, PrePrepareComplete, PrepareComplete, ReadOnlyEnlistment, CommitComplete, RollbackComplete, SinglePhaseReject, RollbackEnlistment, PrePrepareEnlistment, PrepareEnlistment, CommitEnlistment, SetEnlistmentRecoveryInformation, GetEnlistmentRecoveryInformation, CreateFile, CreateFileTransacted, ReadFile, WriteFile, SetEndOfFile, GetFileSizeEx, FlushFileBuffers, DeleteFile, CreateDirectory, RemoveDirectory, MoveFile, DeleteFileTransacted, CreateDirectoryTransacted, RemoveDirectoryTransacted, MoveFileTransacted, FindFiles, FindFilesTransacted, KvSet, KvUnset, KvGet, KvList, CloseHandle, DuplicateHandle, Exit}
+use Rattle.ktm_types.specs.declared.command.Command.TheVariants.{CreateTransaction, OpenTransaction, CommitTransaction, RollbackTransaction, GetTransactionInformation, CreateResourceManager, OpenResourceManager, RecoverResourceManager, GetNotificationResourceManager, CreateEnlistment, OpenEnlistment, RecoverEnlistment, PrePrepareComplete, PrepareComplete, ReadOnlyEnlistment, CommitComplete, RollbackComplete, SinglePhaseReject, RollbackEnlistment, PrePrepareEnlistment, PrepareEnlistment, CommitEnlistment, SetEnlistmentRecoveryInformation, GetEnlistmentRecoveryInformation, CreateFile, CreateFileTransacted, ReadFile, WriteFile, SetEndOfFile, WriteUnits, GetFileSizeEx, FlushFileBuffers, DeleteFile, CreateDirectory, RemoveDirectory, MoveFile, DeleteFileTransacted, CreateDirectoryTransacted, RemoveDirectoryTransacted, MoveFileTransacted, FindFiles, FindFilesTransacted, KvSet, KvUnset, KvGet, KvList, CloseHandle, DuplicateHandle, Exit}
 use Rattle.ktm_types.specs.declared.event.Event.{Event}
 use Rattle.ktm_types.specs.declared.event.Event.TheVariants.{MadeRm, Plain, Undo}
 use Rattle.ktm_types.specs.declared.input.PhaseInput.{PhaseInput}
@@ -49,6 +49,7 @@ use Rattle.txf_laws.specs.SoundFiles.{IsSoundFiles}
 use Rattle.ktm_courses.proofs.offered.EnlistmentAnswers.{answer_in, is-committing, is-pre_preparing, is-preparing, owed-commit, owed-pre_prepare, owed-prepare, phase-owing, preparing-parts, takes_part-owing}
 use Rattle.ktm_courses.proofs.offered.Arrivals.{stands-now, brought-now}
 use Rattle.ktm_courses.proofs.offered.Calls.{Passes, passed, active-phase, transaction-named, enlistment-named, enlistment-allowed, superior-allowed, phase-passed, waiting-rolls}
+use Rattle.ktm_courses.proofs.offered.FileSteps.{units-pass}
 use Rattle.ktm_records.proofs.offered.DurableLimits.{limits-from}
 use Rattle.txf_laws.proofs.offered.Elements.{list_all-at, not-not}
 use Rattle.ktm_states.proofs.offered.Limits.{Less-filter, limits-less}
@@ -290,8 +291,9 @@ module _ (agreeing : AgreeingLaw) (keeping : FilesKeptLaw) (lists : ListsLaw) (f
       (subst (λ who. Stays x (opening x process label who (create_file x.files who path access share disposition))) (sym is.1)
       (stays-create_own formed x kept.sound.files fits process label is.0 path access share disposition (subst (λ who. Passes (create_file_tests x.files (file_room x) who path access share disposition)) is.1 (passed is.3).1))).fits
   effect-holds process (ReadFile file offset many) passes after = brief (command_effect x process (ReadFile file offset many)) (brief-on_file x (file_named x process file) (λ o. read_file x.files o offset many)) after (stays-on_file formed x kept.sound.files fits (file_named x process file) (λ o. Bytes (take many (drop offset (bytes_seen x.files o.transaction o.node))))).fits
-  effect-holds process (WriteFile file offset bytes) passes after = brief (command_effect x process (WriteFile file offset bytes)) (brief-on_file x (file_named x process file) (λ o. write_file o offset bytes)) after (stays-write formed x kept.sound.files fits process file offset bytes passes).fits
+  effect-holds process (WriteFile file offset bytes) passes after = brief (command_effect x process (WriteFile file offset bytes)) (brief-on_file x (file_named x process file) (λ o. write_file o offset bytes)) after (stays-write formed x kept.sound.files fits process file offset bytes (units-pass x process file offset bytes passes)).fits
   effect-holds process (SetEndOfFile file size) passes after = brief (command_effect x process (SetEndOfFile file size)) (brief-on_file x (file_named x process file) (λ o. set_end o size)) after (stays-set_end formed x kept.sound.files fits process file size passes).fits
+  effect-holds process (WriteUnits file start contents) passes after = brief (command_effect x process (WriteUnits file start contents)) (brief-on_file x (file_named x process file) (λ o. write_file o start contents)) after (stays-write formed x kept.sound.files fits process file start contents passes).fits
   effect-holds process (GetFileSizeEx file) passes after = brief (command_effect x process (GetFileSizeEx file)) (brief-on_file x (file_named x process file) (λ o. get_size x.files o)) after (stays-on_file formed x kept.sound.files fits (file_named x process file) (λ o. Size (length (bytes_seen x.files o.transaction o.node)))).fits
   effect-holds process (FlushFileBuffers file) passes after = brief (command_effect x process (FlushFileBuffers file)) (brief-on_file x (file_named x process file) (λ o. flush_file)) after (stays-on_file formed x kept.sound.files fits (file_named x process file) (λ o. Done)).fits
   effect-holds process (DeleteFile path) passes after = brief (command_effect x process (DeleteFile path)) (brief-of_files x None (delete_file x.files None path)) after (stays-delete formed x kept.sound.files fits None path passes).fits

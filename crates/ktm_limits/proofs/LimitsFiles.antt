@@ -22,7 +22,7 @@ use Rattle.ktm_types.specs.declared.recorded.Node.{Node}
 use Rattle.ktm_world.specs.Changes.{changes_bytes, has_made, is_make, next_after, nodes_made}
 use Rattle.ktm_world.specs.Committed.{committed_with, version_of}
 use Rattle.ktm_world.specs.Decide.{bound_file, events_of, of_files, on_file, on_file_tests, opening, own_tests}
-use Rattle.ktm_world.specs.FileCalls.{Whereabouts, no_path, no_way, free, at_root, at_node, find_path, is_at_directory, create_at, create_file, create_file_tests, create_directory, create_directory_tests, drop_at, delete_file, delete_file_tests, make_at, remove_directory, remove_directory_tests, move_at, move_file, move_file_tests, write_file, write_file_tests, set_end, set_end_tests}
+use Rattle.ktm_world.specs.FileCalls.{Whereabouts, no_path, no_way, free, at_root, at_node, find_path, is_at_directory, create_at, create_file, create_file_tests, create_directory, create_directory_tests, drop_at, delete_file, delete_file_tests, make_at, remove_directory, remove_directory_tests, move_at, move_file, move_file_tests, write_file, write_units_tests, set_end, set_end_tests}
 use Rattle.ktm_world.specs.FileOutcome.{FileOutcome, answering, changing, files_after, lacks_quota, lacks_disk, openings_of, table_after, works_of}
 use Rattle.ktm_world.specs.Files.{FilesNow, FirstOpen, OpenFile, committed_files, first_open, first_open_of, own_changes, tree_seen}
 use Rattle.ktm_world.specs.FileUses.{own_units, units_used, nodes_used, file_changes_waiting}
@@ -364,17 +364,17 @@ module _ (formed : FormedLaw) (x : Present) (sound : IsSoundFiles x) (fits : Fit
       changes None = let had = fits.changes in omega arith
       changes (Some id) = let less = changes-owned x sound id c bytes in let had = fits.changes in omega arith
 
-  pub stays-write : (process : Pid) (label : Label) (offset : ℕ) (bytes : List ℕ) → Passes (on_file_tests x process label (λ o. write_file_tests x.files (file_room x) o offset bytes)) → Stays x (on_file x (file_named x process label) (λ o. write_file o offset bytes))
-  unfolding write_file write_file_tests
+  pub stays-write : (process : Pid) (label : Label) (offset : ℕ) (bytes : List ℕ) → Passes (on_file_tests x process label (λ o. write_units_tests x.files (file_room x) o offset bytes)) → Stays x (on_file x (file_named x process label) (λ o. write_file o offset bytes))
+  unfolding write_file write_units_tests
   stays-write process label offset bytes passes = go (file_named x process label) (passed (passed (passed passes).1).1).1
     where
       put : (o : OpenFile) (bytes : List ℕ) → lacks_disk x.files (file_room x) o.transaction (write_file o offset bytes) ≡ false → Stays x (of_files x o.transaction (write_file o offset bytes))
       put o [] disk = stays-answers o.transaction Done
       put o (b ∷ bs) disk = bytes-stays o.transaction (Put o.node offset (Whole (b ∷ bs))) refl disk
 
-      go : (o : Option OpenFile) → Passes (own_tests o (λ o. write_file_tests x.files (file_room x) o offset bytes)) → Stays x (on_file x o (λ o. write_file o offset bytes))
+      go : (o : Option OpenFile) → Passes (own_tests o (λ o. write_units_tests x.files (file_room x) o offset bytes)) → Stays x (on_file x o (λ o. write_file o offset bytes))
       go None tests = stays-reply x fits Done
-      go (Some o) tests = put o bytes (passed (passed (passed tests).1).1).0
+      go (Some o) tests = put o bytes (passed (passed tests).1).0
 
   pub stays-set_end : (process : Pid) (label : Label) (size : ℕ) → Passes (on_file_tests x process label (λ o. set_end_tests x.files (file_room x) o size)) → Stays x (on_file x (file_named x process label) (λ o. set_end o size))
   unfolding set_end set_end_tests

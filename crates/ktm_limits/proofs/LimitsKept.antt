@@ -4,7 +4,7 @@ use Rattle.ktm_base.specs.declared.id.Pid.{Pid}
 use Rattle.ktm_base.specs.declared.refusal.Refusal.{Refusal}
 use Rattle.ktm_base.specs.declared.refusal.Refusal.TheVariants.{MachineDown}
 use Rattle.ktm_types.specs.declared.command.Command.{Command}
-use Rattle.ktm_types.specs.declared.command.Command.TheVariants.{CreateTransaction, OpenTransaction, CommitTransaction, RollbackTransaction, GetTransactionInformation, CreateResourceManager, OpenResourceManager, RecoverResourceManager, GetNotificationResourceManager, CreateEnlistment, OpenEnlistment, RecoverEnlistment, PrePrepareComplete, PrepareComplete, ReadOnlyEnlistment, CommitComplete, RollbackComplete, SinglePhaseReject, RollbackEnlistment, PrePrepareEnlistment, PrepareEnlistment, CommitEnlistment, SetEnlistmentRecoveryInformation, GetEnlistmentRecoveryInformation, CreateFile, CreateFileTransacted, ReadFile, WriteFile, SetEndOfFile, GetFileSizeEx, FlushFileBuffers, DeleteFile, CreateDirectory, RemoveDirectory, MoveFile, DeleteFileTransacted, CreateDirectoryTransacted, RemoveDirectoryTransacted, MoveFileTransacted, FindFiles, FindFilesTransacted, KvSet, KvUnset, KvGet, KvList, CloseHandle, DuplicateHandle, Exit}
+use Rattle.ktm_types.specs.declared.command.Command.TheVariants.{CreateTransaction, OpenTransaction, CommitTransaction, RollbackTransaction, GetTransactionInformation, CreateResourceManager, OpenResourceManager, RecoverResourceManager, GetNotificationResourceManager, CreateEnlistment, OpenEnlistment, RecoverEnlistment, PrePrepareComplete, PrepareComplete, ReadOnlyEnlistment, CommitComplete, RollbackComplete, SinglePhaseReject, RollbackEnlistment, PrePrepareEnlistment, PrepareEnlistment, CommitEnlistment, SetEnlistmentRecoveryInformation, GetEnlistmentRecoveryInformation, CreateFile, CreateFileTransacted, ReadFile, WriteFile, SetEndOfFile, WriteUnits, GetFileSizeEx, FlushFileBuffers, DeleteFile, CreateDirectory, RemoveDirectory, MoveFile, DeleteFileTransacted, CreateDirectoryTransacted, RemoveDirectoryTransacted, MoveFileTransacted, FindFiles, FindFilesTransacted, KvSet, KvUnset, KvGet, KvList, CloseHandle, DuplicateHandle, Exit}
 use Rattle.ktm_types.specs.declared.reply.Reply.TheVariants.{Contents as Bytes, Done, Refused, Size}
 use Rattle.ktm_world.specs.Decide.{opening, caller, command_tests, command_effect, decide}
 use Rattle.ktm_world.specs.FileCalls.{create_file, create_file_tests, read_file, get_size, find_files}
@@ -20,6 +20,7 @@ use Rattle.txf_laws.specs.Footprint.{ListsLaw}
 use Rattle.txf_laws.specs.Formed.{FormedLaw}
 use Rattle.ktm_records.specs.SoundWorlds.{IsSound}
 use Rattle.ktm_courses.proofs.offered.Calls.{Passes, passed, transaction-named, enlistment-named}
+use Rattle.ktm_courses.proofs.offered.FileSteps.{units-pass}
 use Rattle.ktm_limits.proofs.LimitsCalls.{Stays, stays-reply, stays-recover_all, stays-take_first, stays-open_transaction, stays-open_manager, stays-open_enlistment, stays-duplicate, stays-information, stays-create_transaction, stays-create_manager, stays-create_enlistment, stays-set, stays-unset, stays-spent, stays-commit, stays-rollback, stays-pre_prepare_complete, stays-prepare_complete, stays-commit_complete, stays-rollback_complete, stays-read_only, stays-single_phase_reject, stays-rollback_enlistment, stays-pre_prepare_enlistment, stays-prepare_enlistment, stays-commit_enlistment, stays-recover_enlistment}
 use Rattle.ktm_limits.proofs.LimitsFiles.{stays-answers, stays-create_file, stays-create_own, stays-delete, stays-remove, stays-move, stays-create_directory, stays-write, stays-set_end, stays-on_file}
 use Rattle.ktm_records.proofs.offered.NoMore.{Fits, no_more-fits}
@@ -64,8 +65,9 @@ module _ (lists : ListsLaw) (formed : FormedLaw) (x : Present) (sound : IsSound 
       subst (λ who. Stays x (opening x process label who (create_file x.files who path access share disposition))) (sym is.1)
       (stays-create_own formed x sound.files fits process label is.0 path access share disposition (subst (λ who. Passes (create_file_tests x.files (file_room x) who path access share disposition)) is.1 (passed is.3).1))
   effect-stays process (ReadFile file offset many) passes = stays-on_file formed x sound.files fits (file_named x process file) (λ o. Bytes (take many (drop offset (bytes_seen x.files o.transaction o.node))))
-  effect-stays process (WriteFile file offset bytes) passes = stays-write formed x sound.files fits process file offset bytes passes
+  effect-stays process (WriteFile file offset bytes) passes = stays-write formed x sound.files fits process file offset bytes (units-pass x process file offset bytes passes)
   effect-stays process (SetEndOfFile file size) passes = stays-set_end formed x sound.files fits process file size passes
+  effect-stays process (WriteUnits file start contents) passes = stays-write formed x sound.files fits process file start contents passes
   effect-stays process (GetFileSizeEx file) passes = stays-on_file formed x sound.files fits (file_named x process file) (λ o. Size (length (bytes_seen x.files o.transaction o.node)))
   effect-stays process (FlushFileBuffers file) passes = stays-on_file formed x sound.files fits (file_named x process file) (λ o. Done)
   effect-stays process (DeleteFile path) passes = stays-delete formed x sound.files fits None path passes

@@ -38,7 +38,7 @@ mapped_tree f tree = map (mapped_node f) tree
 -- contents that are put, where they stand as bytes; pages stay
 abbrev pub mapped_contents : (ℕ → ℕ) → Contents → Contents
 mapped_contents f (Whole bytes) = Whole (map f bytes)
-mapped_contents f (Paged pages) = Paged pages
+mapped_contents f (Paged len pages) = Paged len pages
 
 -- a change, of which what is put has other bytes
 abbrev pub mapped_change : (ℕ → ℕ) → Change → Change

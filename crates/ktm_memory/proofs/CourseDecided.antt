@@ -9,7 +9,7 @@ use Rattle.ktm_standing.proofs.offered.Rows.{row_leads}
 use Rattle.ktm_standing.specs.Courses.{LeadsOn}
 use Rattle.ktm_standing.specs.Files.{MayCommitNow}
 use Rattle.ktm_course.specs.Moved.{is_commit}
-use Rattle.ktm_event.specs.Kept.{EventsState, Holds}
+use Rattle.ktm_event.specs.Kept.{EventsState}
 use Rattle.ktm_event.specs.Spelling.{IsSpellableEvent}
 use Rattle.ktm_records.proofs.offered.AgreementOfCourses.{arrival}
 use Rattle.ktm_steps.proofs.offered.Ways.{if_cases}
@@ -31,12 +31,16 @@ use Rattle.ktm_world.specs.Outcome.{Outcome, apply}
 use Rattle.ktm_world.specs.Phases.{Course as Going}
 use Rattle.ktm_world.specs.Present.{Present}
 use Rattle.ktm_world.specs.Rows.{row}
-use Rattle.ktm_world.specs.Steps.{led, run, seen}
+use Rattle.ktm_world.specs.Steps.{basis, led, run, seen}
 use Rattle.ktm_world.specs.TransactionCalls.{arrived, course_of}
 use Rattle.ktm_world.specs.Transactions.{is_undecided}
 use Rattle.txf_volume.specs.Commit.{MayCommit}
 use Rattle.txf_volume.specs.Held.{files_of}
-use Rattle.ktm_memory.specs.Decided.{Decides}
+use Rattle.ktm_each.specs.Each.{EachOfGroup}
+use Rattle.ktm_steps.specs.Laws.{EventsAheadLaw}
+use Rattle.ktm_memory.proofs.offered.Following.{ahead-each}
+use Rattle.ktm_memory.specs.Decided.{Decides, HoldsRecordOf}
+use Rattle.ktm_memory.specs.Rules.{Follows, PutsAlone}
 use Rattle.ktm_memory.specs.Memory.{CanGoOn, MemoryState, Shows, course_then, held, present_of}
 use Rattle.ktm_memory.specs.Routed.{IsReadyCourse, course_to, reply_to}
 use Rattle.ktm_memory.specs.declared.settlement.Settlement.TheVariants.{Course}
@@ -103,6 +107,14 @@ may_commit x t may = record { applies = may.applies; left = may.left; unopened =
 pub few_traces : KeptLaw → FewLaw → (m : MemoryState) → IsGoodState (present_of m).recorded → AreFew m.trace
 few_traces kept few m good = subst AreFew (sym (shows_present kept m).traces) (few (present_of m).recorded good)
 
+-- what steps record of contents is what is left to be put
+course_puts : EventsAheadLaw → (x : Present) (t : Transaction) (caller : Option Id) (steps : ArrayVec Step) → PutsAlone x (Course t caller steps)
+course_puts ahead x t caller steps rule each =
+    let c = course_of x t (caller_of x.transactions.enlistments caller) in
+    let d = course_then x t caller steps.items in
+    subst (EachOfGroup (Follows rule)) (sym ((arrival x d Done).events ∙ ahead steps.items c))
+    (ahead-each (Follows rule) steps.items (basis c) (λ records. rw records at each))
+
 module _ (kept : KeptLaw) (m : MemoryState) (t : Transaction) (caller : Option Id) (input : PhaseInput) (steps : ArrayVec Step) (s : Seen) (sees : IsSeenIn m t s) (is : steps.items ≡ row s input) where
   same : course_then (present_of m) t caller steps.items ≡ course_to (present_of m) t caller input
   same = comes_to (present_of m) t caller input steps.items s (sees (present_of m) (caller_of m.tm.now.enlistments caller) (shows_present kept m)) is
@@ -118,22 +130,23 @@ module _ (kept : KeptLaw) (m : MemoryState) (t : Transaction) (caller : Option I
   }
 
   -- what is left to do comes to what the call comes to
-  pub course_decided : (reply : Reply) (events : EventsState) → reply ≡ reply_to input (course_to (present_of m) t caller input) → Holds events (course_then (present_of m) t caller steps.items).events
+  pub course_decided : EventsAheadLaw → (reply : Reply) (events : EventsState) → reply ≡ reply_to input (course_to (present_of m) t caller input) → HoldsRecordOf (present_of m).recorded events (course_then (present_of m) t caller steps.items).events
       → IsReadyCourse (present_of m) t caller input → AreFew m.trace → steps_room steps.items ≤ MOST_NOTED
       → (let c = course_to (present_of m) t caller input in Decides (held m) (arrived (present_of m) c (reply_to input c)) reply (Course t caller steps) events m)
-  course_decided reply events says holds ready few noted =
+  course_decided ahead reply events says holds ready few noted =
       let x = present_of m in
       let c = course_to x t caller input in
       let d = course_then x t caller steps.items in
       let are : (arrived x c (reply_to input c)).events ≡ d.events = (arrival x c (reply_to input c)).events ∙ ap (λ (g : Going). g.events) (sym same) in
       record {
         says = says ∙ sym (arrived-reply x c (reply_to input c));
-        records = subst (Holds events) (sym are) holds;
+        records = subst (HoldsRecordOf x.recorded events) (sym are) holds;
         journal = refl;
         group = (arrival x d Done).events ∙ sym are;
         tells = arrived-sent x d Done ∙ ap (λ (g : Going). g.sent) same ∙ sym (arrived-sent x c (reply_to input c));
         comes_to = ap (λ (g : Going). apply x (arrived x g Done)) same ∙ arrived-apply x c Done (reply_to input c);
         may = can_go_on ready few noted;
+        puts = course_puts ahead x t caller steps;
         waits = λ some. refl;
         answers = λ some refusal. subst (λ (r : Reply). r ≢ Refused refusal) (sym says) (answers input c refusal);
       }

@@ -22,11 +22,15 @@ use Rattle.ktm_standing.proofs.offered.Applied.{apply-reply}
 use Rattle.ktm_standing.proofs.offered.Decided.{done_tick}
 use Rattle.ktm_memory.specs.declared.settlement.Labels.{Labels}
 use Rattle.ktm_memory.specs.declared.settlement.Settlement.TheVariants.{Nothing, Begin, Handles, Pass}
-use Rattle.ktm_memory.proofs.offered.Decided.{decided, quiet_decided}
-use Rattle.ktm_memory.specs.Decided.{Decides, IsDone}
+use Rattle.ktm_memory.proofs.offered.Decided.{decided, puts_none, quiet_decided}
+use Rattle.ktm_memory.proofs.UndoneLive.{tick_bare}
+use Rattle.ktm_memory.proofs.offered.Following.{bare-each}
+use Rattle.ktm_memory.proofs.offered.Records.{no_record}
+use Rattle.ktm_memory.specs.Rules.{Follows}
+use Rattle.ktm_memory.specs.Decided.{Decides, HoldsRecordOf, IsDone}
 use Rattle.ktm_records.proofs.offered.NoMore.{fits-within}
 use Rattle.ktm_memory.proofs.offered.Standing.{kept}
-use Rattle.ktm_memory.specs.Memory.{LayersNow, MayHandle, MaySettle, MemoryState, held, now_of, present_of}
+use Rattle.ktm_memory.specs.Memory.{LayersNow, MayHandle, MaySettle, MemoryState, held, now_of, present_of, recorded_of}
 use Rattle.ktm_memory.specs.Settled.{labels_outcome}
 
 -- ---- calls on keys
@@ -42,12 +46,13 @@ pub keys_decided : (h : LayersNow) (n : MemoryState) (o : KeyOutcome) (reply : R
     → Decides h (of_keys (now_of h) o) reply Nothing events n
 keys_decided h n o reply events says same recorded holds = record {
   says = says;
-  records = holds;
+  records = no_record (recorded_of h) events holds;
   journal = ap (λ (k : LayersNow). k.journal) same;
   group = refl;
   tells = refl;
   comes_to = apply-reply (present_of n) Done ∙ ap now_of same ∙ recorded ∙ sym (ap (λ (x : Present). record x { keys = record x.keys { own = o.own } }) (apply-reply (now_of h) o.reply));
   may = tt;
+  puts = puts_none (present_of n) Nothing refl;
   waits = λ some. absurd (some refl);
   answers = λ some. absurd (some refl);
 }
@@ -61,12 +66,13 @@ information_is x t reply is = ap (only_reply x) (sym is)
 -- ---- time
 
 -- what is to be for the passing of time
-pub tick_decided : (m : MemoryState) (ms : ℕ) (events : EventsState) → IsStandingNow (present_of m) → Holds events (tick (present_of m) ms).events
+pub tick_decided : (m : MemoryState) (ms : ℕ) (events : EventsState) → IsStandingNow (present_of m) → HoldsRecordOf (present_of m).recorded events (tick (present_of m) ms).events
     → Decides (held m) (tick (present_of m) ms) Done (Pass ms) events m
 tick_decided m ms events standing holds =
     let x = present_of m in
     decided (held m) m (tick x ms) Done (Pass ms) events (sym (done_tick x ms).says) holds refl refl refl refl
-    ((kept x standing).sound.course.transactions.rise, (fits-within x (kept x standing).within).live) (λ some refusal e. absurd (cc))
+    ((kept x standing).sound.course.transactions.rise, (fits-within x (kept x standing).within).live)
+    (λ rule each. bare-each (Follows rule) (tick x ms).events (tick_bare x ms (kept x standing).sound.course)) (λ some refusal e. absurd (cc))
 
 -- ---- CreateTransaction
 

@@ -2,6 +2,7 @@
 use Rattle.std.proofs.Common.{◌≡◌, ◌≢◌, ℕ, ◌-◌, ◌≤◌, ◌&&◌, true, false, List, [], ◌∷◌, length, Option, Some, None, is_none, is_some, refl, sym, ◌∙◌, ap, subst}
 use Rattle.std.proofs.lemmas.Bool.{and_parts}
 use Rattle.std.specs.Option.{option_map}
+use Rattle.std.specs.Prelude.{IfSome}
 use Rattle.ktm_base.specs.declared.limits.TheConstants.{MOST_HANDLES}
 use Rattle.ktm_base.specs.declared.id.Id.{Id}
 use Rattle.ktm_base.specs.declared.id.Label.{Label}
@@ -18,7 +19,7 @@ use Rattle.ktm_types.specs.declared.reply.Reply.TheVariants.{Done, Refused}
 use Rattle.ktm_world.specs.Decide.{events_of}
 use Rattle.ktm_world.specs.FileOutcome.{FileOutcome, FileRoom, files_after}
 use Rattle.ktm_world.specs.Files.{FilesNow, OpenFile, changes_with, own_changes, tree_seen}
-use Rattle.ktm_world.specs.FileCalls.{Whereabouts, no_path, no_way, free, at_root, at_node, create_at, create_directory, create_file, delete_file, drop_at, find_files, find_path, get_size, make_at, move_at, move_file, read_file, remove_directory, set_end, write_file}
+use Rattle.ktm_world.specs.FileCalls.{Whereabouts, no_path, no_way, free, at_root, at_node, create_at, create_directory, create_file, delete_file, drop_at, find_files, find_path, get_size, make_at, move_at, move_file, remove_directory, set_end, write_file}
 use Rattle.ktm_world.specs.Outcome.{apply, first_refusal, only_reply}
 use Rattle.ktm_world.specs.Keys.{changes_pending as keys_unset}
 use Rattle.ktm_world.specs.Present.{Present}
@@ -26,8 +27,10 @@ use Rattle.ktm_world.specs.Uses.{file_room}
 use Rattle.ktm_standing.specs.Files.{MayMake, MayMakePlain}
 use Rattle.ktm_standing.proofs.offered.Applied.{apply-reply}
 use Rattle.ktm_memory.specs.declared.settlement.Settlement.TheVariants.{Change as PlainChange}
-use Rattle.ktm_memory.specs.Decided.{CanAnswer, Decides, bind_opened}
-use Rattle.ktm_memory.specs.Memory.{CanMakePlain, LayersNow, MayBind, MaySettle, MemoryState, held, now_of, present_of}
+use Rattle.ktm_memory.proofs.offered.Records.{none_recorded}
+use Rattle.ktm_memory.specs.declared.extent.Extent.{Extent}
+use Rattle.ktm_memory.specs.Decided.{CanAnswer, Decides, HoldsRecordOf, bind_opened}
+use Rattle.ktm_memory.specs.Memory.{CanMakePlain, LayersNow, MayBind, MaySettle, MemoryState, held, now_of, present_of, recorded_of}
 use Rattle.ktm_memory.specs.Routed.{IsActiveCaller, IsFreeLabel, IsReadyCall}
 use Rattle.ktm_memory.proofs.Unlogged.{unlogged}
 use Rattle.ktm_world.specs.Durable.{Recorded}
@@ -36,7 +39,10 @@ use Rattle.ktm_standing.specs.Standing.{IsStandingNow}
 use Rattle.txf_laws.proofs.offered.OwnChange.{with-other}
 use Rattle.ktm_memory.specs.Opening.{files_outcome}
 use Rattle.ktm_memory.specs.Takes.{is_quiet}
-use Rattle.ktm_memory.proofs.offered.Decided.{decided}
+use Rattle.ktm_memory.proofs.offered.Decided.{decided, puts_none}
+use Rattle.ktm_memory.proofs.FilesFollow.{put_event}
+use Rattle.ktm_memory.specs.Rules.{Follows}
+use Rattle.ktm_each.specs.Each.{EachOfGroup}
 use Rattle.ktm_memory.proofs.Bound.{bound_leaves, left_by, no_group}
 use Rattle.ktm_memory.proofs.offered.Opening.{events_in, reply_of}
 use Rattle.ktm_memory.specs.Settled.{handles_then, left_to_do}
@@ -44,8 +50,9 @@ use Rattle.ktm_types.specs.declared.object.Object.TheVariants.{File as FileObjec
 use Rattle.txf_calls.specs.Calls.{file_effect, file_outcome, file_tests, unless_refused}
 use Rattle.txf_opens.specs.Acts.{open_of}
 use Rattle.txf_calls.specs.declared.call.FileCall.{FileCall}
-use Rattle.txf_calls.specs.declared.call.FileCall.TheVariants.{Create, Read, Write, SetEnd, Size, Flush, Delete, MakeDirectory, RemoveDirectory, Move, Find}
+use Rattle.txf_calls.specs.declared.call.FileCall.TheVariants.{Create, Write, WriteUnits, SetEnd, Size, Flush, Delete, MakeDirectory, RemoveDirectory, Move, Find}
 use Rattle.txf_opens.specs.declared.file.OpenFile.{OpenFile as Kept}
+use Rattle.txf_tree.specs.UnitChanges.{CanBeMade}
 use Rattle.txf_volume.specs.Plain.{IsReady}
 
 -- ---- the room that the files have
@@ -83,24 +90,25 @@ sends_none x process who (Some l) o = go o.opened
 
 -- the call can be made, whatever it answers
 pub may_settle : (h : LayersNow) (n : MemoryState) (process : Pid) (label : Option Label) (o : FileOutcome) (opened : Option Kept) (copy : Option (List ℕ)) → held n ≡ h → MayMakePlain (now_of h) o
-    → IsReady n.files o copy → option_map open_of opened ≡ o.opened → (is_some opened ≡ true → 1 ≤ n.handles.spare) → IsFreeLabel (now_of h) process label → MaySettle n (PlainChange process label (record o { reply = Done }) copy)
-may_settle h n process label o opened copy same may ready is room unbound = (
-  subst (λ (files : FilesNow). CanMakePlain files (record o { reply = Done })) (ap (λ g. g.files) (sym same)) (record { plain = record { change = may.plain.change; opened = may.plain.opened }; left = may.left; counted = may.counted }),
+    → IfSome o.change (CanBeMade h.files.tree) → IsReady n.files o copy → option_map open_of opened ≡ o.opened → (is_some opened ≡ true → 1 ≤ n.handles.spare) → IsFreeLabel (now_of h) process label → MaySettle n (PlainChange process label (record o { reply = Done }) copy)
+may_settle h n process label o opened copy same may units ready is room unbound = (
+  subst (λ (files : FilesNow). CanMakePlain files (record o { reply = Done })) (ap (λ g. g.files) (sym same)) (record { plain = record { change = may.plain.change; opened = may.plain.opened }; units = units; left = may.left; counted = may.counted }),
   record { change = ready.change; room = ready.room; opened = ready.opened; copy_is = ready.copy_is },
   subst (λ (file : Option OpenFile). MayBind n process label file) is (may_bind_plain n process label opened room (subst (λ (g : LayersNow). IsFreeLabel (now_of g) process label) (sym same) unbound)),
 )
 
 pub plain_decided : (h : LayersNow) (n : MemoryState) (process : Pid) (label : Option Label) (o : FileOutcome) (reply : Reply) (plan : FileOutcome) (copy : Option (List ℕ)) (events : EventsState)
-    → reply ≡ o.reply → plan ≡ record o { reply = Done } → held n ≡ h → MaySettle n (PlainChange process label (record o { reply = Done }) copy) → Holds events (events_of None o.change)
+    → reply ≡ o.reply → plan ≡ record o { reply = Done } → held n ≡ h → MaySettle n (PlainChange process label (record o { reply = Done }) copy) → HoldsRecordOf (recorded_of h) events (events_of None o.change)
     → CanAnswer None o → Decides h (files_outcome (now_of h) process None label o) reply (PlainChange process label plan copy) events n
 plain_decided h n process label o reply plan copy events says is same may holds answers =
     let x = now_of h in
     let are = events_in x process None label o in
-    decided h n (files_outcome x process None label o) reply (PlainChange process label plan copy) events (says ∙ sym (reply_of x process None label o)) (subst (Holds events) (sym are) holds) same
+    decided h n (files_outcome x process None label o) reply (PlainChange process label plan copy) events (says ∙ sym (reply_of x process None label o)) (subst (HoldsRecordOf (recorded_of h) events) (sym are) holds) same
     (ap (λ (p : FileOutcome). (files_outcome x process None label p).events) is ∙ events_in x process None label (record o { reply = Done }) ∙ sym are)
     (sends_none x process None label plan ∙ sym (sends_none x process None label o))
     (ap (λ (p : FileOutcome). apply x (files_outcome x process None label p)) is ∙ left_by x process None label (record o { reply = Done }) ∙ sym (left_by x process None label o))
     (subst (λ (p : FileOutcome). MaySettle n (PlainChange process label p copy)) (sym is) may)
+    (λ rule each. subst (EachOfGroup (Follows rule)) (sym (events_in x process None label plan)) (put_event rule plan.change each))
     (λ some refusal e. answers (λ none. some (are ∙ none)) refusal (sym says ∙ e))
 
 -- ---- a call in a transaction
@@ -149,7 +157,7 @@ own_decided h n process id label o opened events standing active same opens may 
     let y = record x { files = files_after h.files (Some id) o } in
     record {
       says = sym (reply_of x process (Some id) label o);
-      records = subst (λ (es : List Event). Holds events es) (sym are) holds;
+      records = none_recorded (recorded_of h) events (files_outcome x process (Some id) label o).events are holds;
       journal = ap (λ (g : LayersNow). g.journal) same;
       group = bound_quiet (present_of n) process label opened ∙ sym are;
       tells = bound_sends (present_of n) process label opened ∙ sym (sends_none x process (Some id) label o);
@@ -161,6 +169,7 @@ own_decided h n process id label o opened events standing active same opens may 
           ∙ sym (ap (λ (z : Present). record z { handles = handles_then x.handles process label o.opened }) (no_group y))
           ∙ sym (left_by x process (Some id) label o);
       may = may;
+      puts = puts_none (present_of n) (bind_opened process label opened) (bound_quiet (present_of n) process label opened);
       waits = λ some. absurd (some are);
       answers = λ some. absurd (some are);
     }
@@ -222,11 +231,12 @@ moved (at_node node) (at_node other) refusal e = absurd (cc)
 
 -- what a call does where it is not refused is no refusal
 effect_answers : (files : FilesNow) (who : Option Id) (call : FileCall) (refusal : Refusal) → (file_effect files who call).reply ≢ Refused refusal
-unfolding create_file read_file write_file set_end get_size delete_file create_directory remove_directory move_file find_files
+unfolding create_file write_file set_end get_size delete_file create_directory remove_directory move_file find_files
 effect_answers files who (Create path access share d) refusal e = created files who (find_path (tree_seen files who) path) access share d refusal e
-effect_answers files who (Read file offset many) refusal e = absurd (cc)
 effect_answers files who (Write file offset []) refusal e = absurd (cc)
 effect_answers files who (Write file offset (b ∷ bs)) refusal e = absurd (cc)
+effect_answers files who (WriteUnits file start []) refusal e = absurd (cc)
+effect_answers files who (WriteUnits file start (c ∷ cs)) refusal e = absurd (cc)
 effect_answers files who (SetEnd file size) refusal e = absurd (cc)
 effect_answers files who (Size file) refusal e = absurd (cc)
 effect_answers files who (Flush file) refusal e = absurd (cc)
@@ -251,9 +261,9 @@ goes_through files room who call o is changes = go (first_refusal (file_tests fi
     go (Some refusal) refused = let quiet = ap is_quiet (is ∙ ap (λ r. unless_refused r (file_effect files who call)) refused) in absurd (cc)
 
 -- a call that changes something can be made, and is no refusal
-pub may_make : (x : Present) (process : Pid) (who : Option Id) (label : Option Label) (call : FileCall) (o : FileOutcome) → IsReadyCall x process who label call → o ≡ file_outcome x.files (file_room x) who call → is_quiet o ≡ false
+pub may_make : (x : Present) (process : Pid) (who : Option Id) (label : Option Label) (call : FileCall) (extent : Option Extent) (o : FileOutcome) → IsReadyCall x process who label call extent → o ≡ file_outcome x.files (file_room x) who call → is_quiet o ≡ false
     → MayMake x who o × CanAnswer who o
-may_make x process who label call o ready is changes =
+may_make x process who label call extent o ready is changes =
     let (passed, comes) = goes_through x.files (file_room x) who call o is changes in
     (subst (MayMake x who) (sym comes) (ready.may passed), λ some refusal e. effect_answers x.files who call refusal (ap (λ (p : FileOutcome). p.reply) (sym comes) ∙ e))
 

@@ -7,14 +7,20 @@ mod KeysDecided
 mod ObjectsDecided
 mod Decides
 mod FilesDecided
+mod FilesFollow
 mod Records
 mod Closings
 mod Ticks
 mod UndoneLive
+mod WorkRecords
+mod PlainRecords
 mod CourseRecords
 mod CourseDecided
 mod Showing
 mod Carried
 mod Finished
+mod RulesRouted
+mod Wanting
+mod FewWanted
 mod Making
 pub mod offered

@@ -1,6 +1,7 @@
 -- Decisions of the calls on resource managers and enlistments.
-use Rattle.std.proofs.Common.{◌≡◌, ℕ, ◌≤◌, ◌==◌, suc, true, false, Bool, List, [], ◌∷◌, length, Option, Some, None, is_some, option_map, refl, sym, ◌∙◌, ap, subst, arith, length-append}
+use Rattle.std.proofs.Common.{◌≡◌, All, ℕ, ◌≤◌, ◌==◌, suc, true, false, Bool, List, [], ◌∷◌, length, Option, Some, None, is_some, option_map, refl, sym, ◌∙◌, ap, subst, arith, length-append}
 use Rattle.std.proofs.lemmas.Bool.{eqb-true, false_from_ne_true}
+use Rattle.std.proofs.lemmas.List.Elements.{All-cons, All-nil}
 use Rattle.ktm_base.specs.declared.id.Id.{Id}
 use Rattle.ktm_base.specs.declared.id.Label.{Label}
 use Rattle.ktm_base.specs.declared.id.ObjectKind.{ObjectKind}
@@ -11,7 +12,10 @@ use Rattle.ktm_event.specs.Kept.{EventsState, Holds}
 use Rattle.ktm_manager.specs.Managers.{first_of}
 use Rattle.ktm_tm.specs.TmState.{id_after}
 use Rattle.ktm_types.specs.declared.object.Transaction.{Transaction}
+use Rattle.ktm_states.specs.Grammatical.{changes_of_event}
+use Rattle.ktm_types.specs.declared.event.Event.TheVariants.{MadeRm}
 use Rattle.ktm_types.specs.declared.options.Durability.{Durability}
+use Rattle.ktm_types.specs.declared.options.Durability.TheVariants.{Durable, Volatile}
 use Rattle.ktm_types.specs.declared.options.EnlistmentKind.{EnlistmentKind}
 use Rattle.ktm_types.specs.declared.reply.Reply.{Reply}
 use Rattle.ktm_types.specs.declared.reply.Reply.TheVariants.{Contents, Done, Guid, Notification}
@@ -24,8 +28,11 @@ use Rattle.ktm_world.specs.Transactions.{transaction_at}
 use Rattle.ktm_slots.specs.Slots.{granted_in}
 use Rattle.ktm_memory.specs.declared.settlement.Settlement.TheVariants.{Enlist, Inform, MakeManager, Recover, Take}
 use Rattle.ktm_memory.specs.Decided.{Decides, IsDone, manager_events}
-use Rattle.ktm_memory.specs.Memory.{LayersNow, MaySettle, MemoryState, held, now_of, present_of}
+use Rattle.ktm_memory.specs.Memory.{LayersNow, MaySettle, MemoryState, held, now_of, present_of, recorded_of}
 use Rattle.ktm_memory.proofs.offered.Decided.{decided, quiet_decided}
+use Rattle.ktm_memory.proofs.offered.Following.{bare-each}
+use Rattle.ktm_memory.proofs.offered.Records.{bare_record}
+use Rattle.ktm_memory.specs.Rules.{Follows}
 
 -- ---- CreateResourceManager
 
@@ -41,6 +48,11 @@ manager_says : (h : LayersNow) (process : Pid) (label : Label) (durability : Dur
 unfolding create_resource_manager
 manager_says h process label durability guid image id is image_is id_is = rw (is, image_is, id_is) refl
 
+-- that is no change of files
+pub manager_bare : (id : Id) (durability : Durability) → All (λ event. changes_of_event event ≡ []) (manager_events id durability)
+manager_bare id Volatile = All-nil (λ event. changes_of_event event ≡ [])
+manager_bare id Durable = All-cons (λ event. changes_of_event event ≡ []) (MadeRm id) [] refl (All-nil (λ event. changes_of_event event ≡ []))
+
 pub manager_decided : (h : LayersNow) (n : MemoryState) (process : Pid) (label : Label) (durability : Durability) (guid : List ℕ) (image : ℕ) (id : Id) (events : EventsState)
     → guid ≡ guid_of ObjectKind.Manager image id → image ≡ h.journal.image → id ≡ id_after h.boot h.transactions.last_manager
     → held n ≡ h → MaySettle n (MakeManager process label durability) → Holds events (manager_events id durability)
@@ -49,8 +61,8 @@ manager_decided h n process label durability guid image id events is image_is id
     let made = create_resource_manager (now_of h) process label durability in
     let are = manager_records h process label durability id id_is in
     subst (λ o. Decides h o (Guid guid) (MakeManager process label durability) events n) (sym comes)
-    (decided h n made (Guid guid) (MakeManager process label durability) events (manager_says h process label durability guid image id is image_is id_is) (subst (Holds events) are holds)
-    same refl refl refl may (λ some refusal e. absurd (cc)))
+    (decided h n made (Guid guid) (MakeManager process label durability) events (manager_says h process label durability guid image id is image_is id_is) (bare_record (recorded_of h) events made.events (subst (All (λ event. changes_of_event event ≡ [])) are (manager_bare id durability)) (subst (Holds events) are holds))
+    same refl refl refl may (λ rule each. bare-each (Follows rule) made.events (subst (All (λ event. changes_of_event event ≡ [])) are (manager_bare id durability))) (λ some refusal e. absurd (cc)))
 
 -- ---- RecoverResourceManager
 

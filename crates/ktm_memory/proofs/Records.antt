@@ -1,12 +1,14 @@
 -- What the recording of a list of events leaves.
-use Rattle.std.proofs.Common.{◌≡◌, ℕ, ◌+◌, ◌≤◌, Bool, true, false, List, [], ◌∷◌, ◌++◌, length, Option, Result, Ok, Err, refl, sym, ◌∙◌, ap, subst, arith, inl, inr}
+use Rattle.std.proofs.Common.{◌≡◌, ℕ, ◌+◌, ◌≤◌, Bool, true, false, List, [], ◌∷◌, ◌++◌, length, Option, Some, None, Result, Ok, Err, refl, sym, ◌∙◌, ap, subst, arith, inl, inr}
 use Rattle.std.proofs.lemmas.Bool.{cases_eq, both_ways}
 use Rattle.std.proofs.lemmas.List.{append-nil}
 use Rattle.std.specs.Prelude.{IsTrue, IfSome, IsSomeAnd}
 use Rattle.ktm_base.specs.Disk.{DiskState, DiskStatus}
+use Rattle.ktm_base.specs.Told.{Goes}
 use Rattle.ktm_event.specs.Kept.{EventsState, Holds}
 use Rattle.ktm_journal.specs.Append.{RecordLeaves, has_no_room, with_group}
 use Rattle.ktm_journal.specs.Image.{IsHeaded, JournalState, JournalAt}
+use Rattle.ktm_journal.specs.Pages.{KeepsPages}
 use Rattle.ktm_log.specs.declared.fault.AppendFault.{AppendFault}
 use Rattle.ktm_log.specs.declared.fault.AppendFault.TheVariants.{Down, Full}
 use Rattle.ktm_log.specs.OnDisk.{AllSynced, OnDisk, on}
@@ -33,6 +35,10 @@ no_calls status up pending = record {
   up = up;
 }
 
+pages_stay : (units : ℕ) (told : Option DiskState) → Goes (KeepsPages units) told told
+pages_stay units None = tt
+pages_stay units (Some s) = refl
+
 -- nothing is done for it
 pub nothing_recorded : (events : EventsState) (m : MemoryState) (told : Option DiskState) (status : DiskStatus) (empty : Bool) → empty ≡ true → (IsTrue empty → events.count ≡ 0)
     → IfSome told (λ s. IsHeaded m.journal.units m.journal.image m.journal.selector s.seen) → status.is_down ≡ false → status.pending ≡ 0 → AreRecorded events (on m told status) (on m told status)
@@ -44,6 +50,7 @@ nothing_recorded events m told status empty is tells headed up pending =
       adds = λ snapshot log group holds at. subst (λ (g : Group). IsSomeAnd told (JournalAt m.journal snapshot (log ++ as_groups g))) (none_held events group none holds)
           (subst (λ (l : List Group). IsSomeAnd told (JournalAt m.journal snapshot l)) (sym (append-nil log)) at);
       none = λ holds. record { told = refl; status = refl };
+      pages = pages_stay m.journal.units told;
       headed = headed;
       synced = no_calls status up pending;
     }
@@ -77,6 +84,7 @@ recorded events m k o n s t (Ok done) some leaves = record {
   grows = λ group holds. ap (λ (j : JournalState). record m { journal = j }) (leaves.grows group holds ∙ appended_one events group m.journal some holds);
   adds = λ snapshot log group holds at. as_one (λ gs. IsSomeAnd n (JournalAt k snapshot (log ++ gs))) events group some holds (leaves.adds snapshot log group holds at);
   none = λ holds. absurd (not_none events some holds);
+  pages = leaves.pages;
   headed = leaves.headed;
   synced = leaves.synced;
 }
@@ -85,6 +93,7 @@ recorded events m k o n s t (Err Down) some leaves = record {
   some = not_none events some;
   room = leaves.room;
   either = λ snapshot log group holds at. as_one (λ gs. IsSomeAnd n (LeavesWithOr m.journal snapshot log gs)) events group some holds (leaves.either snapshot log group holds at);
+  pages = leaves.pages;
   calls = leaves.calls;
 }
 recorded events m k o n s t (Err Full) some leaves = record {

@@ -1,13 +1,15 @@
 -- What the passing of time records, over the live transactions alone.
-use Rattle.std.proofs.Common.{◌≡◌, ℕ, ◌+◌, ◌≤◌, ◌++◌, ◌&&◌, ◌||◌, zero, suc, true, false, List, [], ◌∷◌, All, count_by, drop, filter, nat_le, nat_lt, Some, None, refl, sym, ◌∙◌, ap, inl, inr, arith}
+use Rattle.std.proofs.Common.{◌≡◌, ℕ, ◌+◌, ◌≤◌, ◌++◌, ◌&&◌, ◌||◌, zero, suc, true, false, List, [], ◌∷◌, All, count_by, drop, filter, nat_le, nat_lt, Some, None, refl, sym, ◌∙◌, ap, subst, inl, inr, arith}
 use Rattle.std.proofs.lemmas.List.{drop_all}
 use Rattle.std.proofs.lemmas.List.Sums.{length-filter}
 use Rattle.std.specs.List.{AllByRecursion, flat_map, list_all, slice_get}
 use Rattle.std.proofs.lemmas.Bool.{and_parts, both_ways, cases_Bool, false_from_ne_true, leb-true}
-use Rattle.std.proofs.lemmas.List.Elements.{All-from_recursion}
+use Rattle.std.proofs.lemmas.List.Elements.{All-append, All-cons, All-from_recursion, All-nil}
 use Rattle.ktm_base.specs.declared.limits.TheConstants.{MOST_NUMBER}
 use Rattle.ktm_base.specs.declared.id.Id.{Id}
 use Rattle.ktm_event.specs.Spelling.{IsSpellableEvent, IsSpellableId}
+use Rattle.ktm_states.specs.Grammatical.{changes_of_event}
+use Rattle.ktm_types.specs.declared.event.Event.TheVariants.{Undo}
 use Rattle.ktm_types.specs.declared.object.Phase.{Phase}
 use Rattle.ktm_types.specs.declared.object.Phase.TheVariants.{Ended}
 use Rattle.ktm_types.specs.declared.object.Transaction.{Transaction}
@@ -75,6 +77,21 @@ undone_all clock ts i behind = ap (flat_map (undo_of clock)) (drop_all i (filter
 -- it is what the passing of time records
 pub tick_undoes : (x : Present) (ms : ℕ) → IsSoundCourse x → flat_map (undo_of (later x.transactions.clock ms)) (filter is_live x.transactions.items) ≡ (tick x ms).events
 tick_undoes x ms course = undone_live (later x.transactions.clock ms) x.transactions.items ∙ sym (tick_records x ms course)
+
+-- it is no change of files
+undo_bare : (clock : ℕ) (t : Transaction) → All (λ event. changes_of_event event ≡ []) (undo_of clock t)
+undo_bare clock t = elim (cases_Bool (is_due clock t && t.is_recorded)) [
+  | inl undone ↦ rw undone (All-cons (λ event. changes_of_event event ≡ []) (Undo t.id) [] refl (All-nil (λ event. changes_of_event event ≡ [])))
+  | inr stays ↦ rw stays (All-nil (λ event. changes_of_event event ≡ []))
+]
+
+pub undone_bare : (clock : ℕ) (ts : List Transaction) → All (λ event. changes_of_event event ≡ []) (flat_map (undo_of clock) ts)
+undone_bare clock [] = All-nil (λ event. changes_of_event event ≡ [])
+undone_bare clock (t ∷ ts) = All-append (λ event. changes_of_event event ≡ []) (undo_of clock t) (flat_map (undo_of clock) ts) (undo_bare clock t) (undone_bare clock ts)
+
+-- what the passing of time records is no change of files
+pub tick_bare : (x : Present) (ms : ℕ) → IsSoundCourse x → All (λ event. changes_of_event event ≡ []) (tick x ms).events
+tick_bare x ms course = subst (All (λ event. changes_of_event event ≡ [])) (tick_undoes x ms course) (undone_bare (later x.transactions.clock ms) (filter is_live x.transactions.items))
 
 -- ---- it can be written
 

@@ -2,6 +2,9 @@ pub mod Memory
 pub mod Opening
 pub mod Settled
 pub mod Recorded
+pub mod Units
 pub mod Takes
 pub mod Routed
+pub mod Rules
+pub mod Stored
 pub mod Decided

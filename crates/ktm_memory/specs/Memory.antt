@@ -1,5 +1,5 @@
 -- What the machine holds in memory, what that is of what is so now, and how a settlement changes that.
-use Rattle.std.specs.Prelude.{◌≡◌, ℕ, ◌+◌, ◌≤◌, ◌||◌, not, if◌then◌else◌, Bool, true, false, List, [], filter, length, map, Option, Some, None, is_some, count_by}
+use Rattle.std.specs.Prelude.{◌≡◌, ℕ, ◌+◌, ◌≤◌, ◌||◌, not, if◌then◌else◌, Bool, true, false, List, [], filter, length, map, Option, Some, None, is_some, IfSome, count_by}
 use Rattle.ktm_base.specs.declared.limits.TheConstants.{MOST_UNITS, MOST_LIVE}
 use Rattle.ktm_base.specs.declared.id.Label.{Label}
 use Rattle.ktm_base.specs.declared.id.Pid.{Pid}
@@ -39,6 +39,7 @@ use Rattle.ktm_world.specs.Present.{Present, Transactions}
 use Rattle.ktm_world.specs.TransactionCalls.{course_of, no_enlistment_left, no_manager_left, no_transaction_left}
 use Rattle.ktm_world.specs.Transactions.{is_live, is_undecided, transaction_at}
 use Rattle.txf_laws.specs.FileEffects.{forgotten, IsPlain, LeavesOwn, CanBeCounted}
+use Rattle.txf_tree.specs.UnitChanges.{CanBeMade}
 use Rattle.txf_volume.specs.Commit.{MayCommit}
 use Rattle.txf_volume.specs.Held.{FilesHeld, files_of}
 use Rattle.txf_volume.specs.Plain.{IsReady}
@@ -161,9 +162,10 @@ appended j events = record j { events = j.events + length events; log = record j
 abbrev pub logged : LayersNow → List Event → LayersNow
 logged h events = record h { journal = appended h.journal events }
 
--- the files can be changed and opened as a plain call comes to
+-- the files can be changed, unit by unit, and opened as a plain call comes to
 pub record CanMakePlain (files : FilesNow) (o : FileOutcome) : Type 0 where
   pub plain : IsPlain files o
+  pub units : IfSome o.change (CanBeMade files.tree)
   pub left : LeavesOwn files (files_after files None o)
   pub counted : CanBeCounted (files_after files None o)
 

@@ -29,10 +29,13 @@ use Rattle.ktm_tm.specs.Courses.{caller_of}
 use Rattle.txf_calls.specs.Calls.{file_effect, file_outcome, file_tests}
 use Rattle.txf_calls.specs.Fits.{MayBeUsed}
 use Rattle.txf_calls.specs.declared.call.FileCall.{FileCall}
+use Rattle.txf_calls.specs.declared.call.FileCall.TheVariants.{WriteUnits}
 use Rattle.ktm_memory.specs.Opening.{files_outcome}
 use Rattle.ktm_memory.specs.Settled.{labels_outcome, labels_tests}
+use Rattle.ktm_memory.specs.Units.{SuitsCall}
+use Rattle.ktm_memory.specs.declared.extent.Extent.{Extent}
 use Rattle.ktm_memory.specs.declared.routed.Routed.{Routed}
-use Rattle.ktm_memory.specs.declared.routed.Routed.TheVariants.{Create, Course, Information, MakeManager, Recover, Take, Enlist, Inform, Tell, Handles, Keys, Files}
+use Rattle.ktm_memory.specs.declared.routed.Routed.TheVariants.{Create, Course, Information, MakeManager, Recover, Take, Enlist, Inform, Tell, Handles, Keys, Files, Units}
 use Rattle.ktm_memory.specs.declared.settlement.Labels.{Labels}
 use Rattle.ktm_memory.specs.declared.settlement.Labels.TheVariants.{Bind, Duplicate, Unbind, UnbindAll}
 
@@ -61,6 +64,7 @@ outcome_of x process (Tell enlistment) = get_information x (enlistment_at x.tran
 outcome_of x process (Handles labels) = refuse_or x (first_refusal (labels_tests x labels)) (labels_outcome x process labels)
 outcome_of x process (Keys who call) = of_keys x (key_outcome x.keys (key_room x) who call)
 outcome_of x process (Files who label call) = files_outcome x process who label (file_outcome x.files (file_room x) who call)
+outcome_of x process (Units who file start contents extent) = files_outcome x process who None (file_outcome x.files (file_room x) who (WriteUnits file start contents))
 
 -- the label is free, if there is one
 abbrev pub IsFreeLabel : Present → Pid → Option Label → Type 0
@@ -72,12 +76,13 @@ abbrev pub IsActiveCaller : Present → Option Id → Type 0
 IsActiveCaller x None = Unit {0}
 IsActiveCaller x (Some id) = holds_of (λ t. not (is_active t)) (transaction_at x.transactions.items id) ≡ false
 
--- the open file that is used may be used so, a label is free, the transaction of the call is active, and what the call comes to where it is not refused can be made
-pub record IsReadyCall (x : Present) (process : Pid) (who : Option Id) (label : Option Label) (call : FileCall) : Type 0 where
+-- the open file that is used may be used so, a label is free, the transaction of the call is active, what the call comes to where it is not refused can be made, and it can be recorded, by the extent if there is one
+pub record IsReadyCall (x : Present) (process : Pid) (who : Option Id) (label : Option Label) (call : FileCall) (extent : Option Extent) : Type 0 where
   pub usable : MayBeUsed x.files call
   pub free : IsFreeLabel x process label
   pub active : IsActiveCaller x who
   pub may : first_refusal (file_tests x.files (file_room x) who call) ≡ None → MayMake x who (file_effect x.files who call)
+  pub suits : SuitsCall x.files who call extent
 
 -- the transaction is there, and is the caller's, if there is one; what it commits can be committed, what it records has bytes, and it is active
 -- where it is to commit
@@ -110,4 +115,5 @@ IsReadyFor x process (Inform enlistment information) = is_some (enlistment_at x.
 IsReadyFor x process (Tell enlistment) = is_some (enlistment_at x.transactions.enlistments enlistment) ≡ true
 IsReadyFor x process (Handles labels) = AreReady x process labels
 IsReadyFor x process (Keys who call) = IsActiveCaller x who
-IsReadyFor x process (Files who label call) = IsReadyCall x process who label call
+IsReadyFor x process (Files who label call) = IsReadyCall x process who label call None
+IsReadyFor x process (Units who file start contents extent) = IsReadyCall x process who None (WriteUnits file start contents) (Some extent)

@@ -1,12 +1,14 @@
 -- What is left to do, in the model's own words, and what each part of it makes of what is so now.
-use Rattle.std.specs.Prelude.{Bool, List, [], ◌∷◌, Option, Some, None}
+use Rattle.std.specs.Prelude.{Bool, List, [], ◌∷◌, Option, Some, None, option_to_list, if◌then◌else◌}
 use Rattle.ktm_base.specs.declared.refusal.Refusal.{Refusal}
 use Rattle.ktm_base.specs.declared.id.Label.{Label}
 use Rattle.ktm_base.specs.declared.id.Pid.{Pid}
+use Rattle.ktm_course.specs.Moved.{records_files}
 use Rattle.ktm_standing.specs.Effects.{handles_with}
+use Rattle.ktm_types.specs.declared.change.Change.{Change as OfFile}
 use Rattle.ktm_types.specs.declared.object.Handle.{Handle}
 use Rattle.ktm_types.specs.declared.reply.Reply.TheVariants.{Done}
-use Rattle.ktm_world.specs.Files.{OpenFile}
+use Rattle.ktm_world.specs.Files.{OpenFile, own_changes}
 use Rattle.ktm_world.specs.HandleCalls.{close_handle, duplicate_handle, exit}
 use Rattle.ktm_world.specs.Outcome.{Outcome, only_reply}
 use Rattle.ktm_world.specs.Present.{Present}
@@ -47,6 +49,12 @@ left_to_do x (Recover manager) = recover_resource_manager x (manager_at x.manage
 left_to_do x (Take manager) = get_notification x (manager_at x.managers manager)
 left_to_do x (Enlist process label manager transaction kind) = create_enlistment x process label (manager_at x.managers manager) (transaction_at x.transactions.items transaction) kind
 left_to_do x (Inform enlistment information) = set_information x (enlistment_at x.transactions.enlistments enlistment) information
+
+-- the changes of files that are left to be recorded: that of a plain call, and those of a transaction whose steps record them
+abbrev pub changes_put : Present → Settlement → List OfFile
+changes_put x (Change process label plan ready) = option_to_list plan.change
+changes_put x (Course t caller steps) = if records_files steps.items then own_changes x.files.table.own t.id else []
+changes_put x _ = []
 
 -- ---- the same within the machine, which no public clause cites
 

@@ -9,8 +9,9 @@ use Rattle.ktm_world.specs.Uses.{file_room, key_room}
 use Rattle.kv_rm.specs.Calls.{is_refused, key_outcome}
 use Rattle.txf_calls.specs.Calls.{file_outcome, takes_memory as decision_takes_memory}
 use Rattle.txf_calls.specs.declared.call.FileCall.{FileCall}
+use Rattle.txf_calls.specs.declared.call.FileCall.TheVariants.{WriteUnits}
 use Rattle.ktm_memory.specs.declared.routed.Routed.{Routed}
-use Rattle.ktm_memory.specs.declared.routed.Routed.TheVariants.{Create, Course, Information, MakeManager, Recover, Take, Enlist, Inform, Tell, Handles, Keys, Files}
+use Rattle.ktm_memory.specs.declared.routed.Routed.TheVariants.{Create, Course, Information, MakeManager, Recover, Take, Enlist, Inform, Tell, Handles, Keys, Files, Units}
 use Rattle.ktm_memory.specs.declared.settlement.Labels.{Labels}
 use Rattle.ktm_memory.specs.declared.settlement.Labels.TheVariants.{Bind, Duplicate, Unbind, UnbindAll}
 
@@ -43,3 +44,4 @@ routed_takes_memory x (Tell enlistment) = true
 routed_takes_memory x (Handles labels) = labels_take_memory x labels
 routed_takes_memory x (Keys who call) = not (is_refused (key_outcome x.keys (key_room x) who call).reply)
 routed_takes_memory x (Files who label call) = files_take_memory x who call
+routed_takes_memory x (Units who file start contents extent) = files_take_memory x who (WriteUnits file start contents)

@@ -2,6 +2,7 @@
 ghost use Rattle.std.specs.Prelude.{◌≡◌, true, None, Some, Option, if◌then◌else◌};
 ghost use Rattle.ktm_standing.specs.Courses.{LogsNext};
 ghost use Rattle.ktm_memory.specs.Memory.{CanGoOn, IsReleased, Settles, SettlesWhere, Shows, TellsWithin, course_then, is_known};
+ghost use Rattle.ktm_memory.specs.Rules.{KeepRules};
 ghost use Rattle.ktm_tm.specs.Courses.{caller_of};
 ghost use Rattle.ktm_trace.specs.Recordings.{durable_caller, recording_of};
 ghost use Rattle.ktm_types.specs.declared.reply.Reply.TheVariants.{Done};
@@ -121,6 +122,7 @@ impl Memory {
         ensures settles { SettlesWhere self.old (λ x. LogsNext x t (caller_of x.transactions.enlistments caller) steps.now) (λ x. arrived x (course_then x t caller steps.now) Done) self.new }
         ensures journal { self.new.journal ≡ self.old.journal }
         ensures handles { self.new.handles ≡ self.old.handles }
+        ensures rules { KeepRules (files_of self.old.files) (files_of self.new.files) }
     {
         let recording = self.recording(&t, caller);
         if records_files(steps) {
@@ -139,6 +141,7 @@ impl Memory {
         ensures settles { Settles self.old (λ x. aborted_by x t None Done) self.new }
         ensures journal { self.new.journal ≡ self.old.journal }
         ensures handles { self.new.handles ≡ self.old.handles }
+        ensures rules { KeepRules (files_of self.old.files) (files_of self.new.files) }
     {
         let steps = step(&self.seen(&t), PhaseInput::Rollback);
         self.carry_out(t, None, steps.as_slice());

@@ -5,6 +5,7 @@ ghost use Rattle.ktm_event.specs.Kept.{EventsState, Holds};
 ghost use Rattle.ktm_memory.specs.Decided.{Decides, IsDone};
 ghost use Rattle.ktm_memory.specs.Settled.{labels_outcome};
 ghost use Rattle.ktm_memory.specs.Memory.{MayHandle, MemoryState, held, present_of};
+ghost use Rattle.ktm_memory.specs.Rules.{KeepsRules, PutsBy};
 ghost use Rattle.ktm_memory.specs.Routed.{outcome_of, AreReady, IsActiveCaller, IsReadyFor};
 ghost use Rattle.ktm_slots.specs.Slots.{granted_in};
 ghost use Rattle.ktm_memory.specs.Takes.{labels_take_memory, routed_takes_memory};
@@ -16,6 +17,7 @@ ghost use Rattle.ktm_world.specs.Outcome.{first_refusal, refuse_or};
 ghost use Rattle.ktm_world.specs.TransactionCalls.{handle_test, information_of, tick};
 ghost use Rattle.ktm_world.specs.Uses.{key_room};
 ghost use Rattle.kv_rm.specs.Calls.{is_refused, key_outcome};
+ghost use Rattle.txf_volume.specs.Held.{files_of};
 
 use crate::memory::Memory;
 use crate::routed::Routed;
@@ -27,6 +29,7 @@ use ktm_tm::state_of;
 use ktm_types::{Reply, Transaction};
 use kv_rm::KvCall;
 use std::alloc::Global;
+use txf_calls::FileCall;
 
 impl Memory {
     // How a transaction stands.
@@ -54,6 +57,7 @@ impl Memory {
         ensures no_memory { OnErr result (held self.new ≡ held self.old) }
         ensures spare { 1 ≤ self.old.tm.room → 1 ≤ self.old.handles.spare → IsOk result }
         ensures enough { routed_takes_memory (present_of self.old) (Create label timeout) ≡ false → IsOk result }
+        ensures files { self.new.files ≡ self.old.files }
     {
         if self.handles.is_full() || self.tm.is_full() {
             return Ok(Decision::only(Reply::Refused(Refusal::NotEnoughQuota)));
@@ -81,6 +85,7 @@ impl Memory {
         ensures no_memory { OnErr result (held self.new ≡ held self.old) }
         ensures enough { is_none (first_refusal (handle_test (present_of self.old) ∷ [])) ≡ false → IsOk result }
         ensures spare { 1 ≤ self.old.handles.spare → IsOk result }
+        ensures files { self.new.files ≡ self.old.files }
     {
         if self.handles.is_full() {
             return Ok(Decision::only(Reply::Refused(Refusal::NotEnoughQuota)));
@@ -97,6 +102,7 @@ impl Memory {
         ensures slots { self.old.tm.slots ≤ self.new.tm.slots }
         ensures no_memory { OnErr result (held self.new ≡ held self.old) }
         ensures enough { labels_take_memory (present_of self.old) labels ≡ false → IsOk result }
+        ensures files { self.new.files ≡ self.old.files }
     {
         match labels {
             Labels::Bind { .. } | Labels::Duplicate { .. } => self.decide_handle(process, labels),
@@ -114,6 +120,7 @@ impl Memory {
         ensures slots { self.old.tm.slots ≤ self.new.tm.slots }
         ensures no_memory { OnErr result (held self.new ≡ held self.old) }
         ensures enough { is_refused (key_outcome self.old.keys (key_room (present_of self.old)) who call).reply ≡ true → IsOk result }
+        ensures files { self.new.files ≡ self.old.files }
     {
         let room = self.key_room();
         Ok(Decision::only(self.keys.call(who, call, room)?))
@@ -139,6 +146,7 @@ impl Memory {
         ensures room { events.new.room ≡ events.old.room }
         ensures no_memory { OnErr result (held self.new ≡ held self.old) }
         ensures enough { routed_takes_memory (present_of self.old) routed ≡ false → IsOk result }
+        ensures rules { IfOk result (λ d. KeepsRules (λ rule. PutsBy rule routed) (files_of self.old.files) (outcome_of (present_of self.old) process routed).events (files_of self.new.files)) }
     {
         match routed {
             Routed::Create { label, timeout } => self.decide_create(process, label, timeout),
@@ -170,7 +178,21 @@ impl Memory {
             Routed::Handles(labels) => self.decide_labels(process, labels),
             Routed::Keys { who, call } => self.decide_keys(who, call),
             Routed::Files { who, label, call } => {
-                self.decide_files(alloc, process, who, label, call, events)
+                self.decide_files(alloc, process, who, label, call, None, events)
+            }
+            Routed::Units {
+                who,
+                file,
+                start,
+                contents,
+                extent,
+            } => {
+                let call = FileCall::WriteUnits {
+                    file,
+                    start,
+                    contents,
+                };
+                self.decide_files(alloc, process, who, None, call, Some(extent), events)
             }
         }
     }
@@ -182,6 +204,7 @@ impl Memory {
         requires fits { sum_by event_size (tick (present_of self.now) ms).events ≤ events.old.spare }
         ensures decided { Decides (held self.now) (tick (present_of self.now) ms) result.reply result.settlement events.new self.now }
         ensures room { events.new.room ≡ events.old.room }
+        ensures rules { KeepsRules (λ rule. Unit {0}) (files_of self.now.files) (tick (present_of self.now) ms).events (files_of self.now.files) }
     {
         record_undone(&self.tm, ms, events);
         Decision::done(Settlement::Pass(ms))

@@ -4,21 +4,24 @@ ghost use Rattle.ktm_standing.specs.Courses.{commits_at_once};
 ghost use Rattle.ktm_standing.specs.Standing.{IsStandingNow};
 ghost use Rattle.ktm_course.specs.Recorded.{IsCaller, IsEnlisted, IsSuperior};
 ghost use Rattle.ktm_event.specs.Kept.{Holds};
-ghost use Rattle.ktm_event.specs.Spelling.{IsSpellableEvent};
-ghost use Rattle.ktm_memory.specs.Decided.{Decides};
+ghost use Rattle.ktm_event.specs.Spelling.{IsSpellableChange, IsSpellableEvent};
+ghost use Rattle.ktm_memory.specs.Decided.{Decides, HoldsRecordOf};
 ghost use Rattle.ktm_memory.specs.Memory.{course_then, held, present_of};
+ghost use Rattle.ktm_memory.specs.Rules.{KeepsRules};
 ghost use Rattle.ktm_memory.specs.Routed.{IsReadyCourse, course_to, outcome_of, reply_to};
 ghost use Rattle.ktm_memory.specs.declared.routed.Routed.TheVariants.{Course as OfCourse};
 ghost use Rattle.ktm_tm.specs.Courses.{caller_of};
 ghost use Rattle.ktm_types.specs.Sizes.{event_size};
 ghost use Rattle.ktm_world.specs.Enlistments.{is_durable_at, superior_of};
+ghost use Rattle.ktm_world.specs.Files.{own_changes};
 ghost use Rattle.ktm_world.specs.Phases.{Course};
 ghost use Rattle.ktm_world.specs.Steps.{led, seen as seen_of};
+ghost use Rattle.txf_volume.specs.Held.{files_of};
 
 use crate::memory::Memory;
 use crate::settlement::{Decision, Settlement};
 use ktm_base::Id;
-use ktm_course::{Enlisted, Parts};
+use ktm_course::{Enlisted, Parts, law_of_pages};
 use ktm_event::Events;
 use ktm_phase::{Enlistment, step};
 use ktm_standing::law_of_kept as law_of_kept_worlds;
@@ -83,7 +86,7 @@ impl Memory {
         }
     }
 
-    // What the steps record is put into the list. No byte of the files that the transaction wrote is copied.
+    // What the steps record is put into the list, with the pages of the files that the transaction wrote.
     fn record_course(
         &self,
         t: &Transaction,
@@ -91,13 +94,15 @@ impl Memory {
         steps: &[Step],
         events: &mut Events,
     )
+        requires own { All IsSpellableChange (own_changes (files_of self.now.files).table.own t.now.id) }
         requires empty { Holds events.old [] }
         requires spelled { All IsSpellableEvent (course_then (present_of self.now) t.now caller steps.now).events }
         requires fits { sum_by event_size (course_then (present_of self.now) t.now caller steps.now).events ≤ events.old.spare }
-        ensures holds { Holds events.new (course_then (present_of self.now) t.now caller steps.now).events }
+        ensures records { HoldsRecordOf (present_of self.now).recorded events.new (course_then (present_of self.now) t.now caller steps.now).events }
         ensures room { events.new.room ≡ events.old.room }
     {
         law_of_events_ahead();
+        law_of_pages();
         let files = self.files.written(t.id);
         let parts = Parts {
             names: self.files.names(t.id),
@@ -125,10 +130,12 @@ impl Memory {
         requires fits { sum_by event_size (course_to (present_of self.now) t caller input).events ≤ events.old.spare }
         ensures decided { (process : _) → Decides (held self.now) (outcome_of (present_of self.now) process (OfCourse t caller input)) result.reply result.settlement events.new self.now }
         ensures room { events.new.room ≡ events.old.room }
+        ensures rules { KeepsRules (λ rule. Unit {0}) (files_of self.now.files) (course_to (present_of self.now) t caller input).events (files_of self.now.files) }
     {
         law_of_kept();
         law_of_few();
         law_of_kept_worlds();
+        law_of_events_ahead();
         let seen = self.seen(&t);
         let steps = step(&seen, input);
         self.record_course(&t, caller, steps.as_slice(), events);

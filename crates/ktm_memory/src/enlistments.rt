@@ -37,6 +37,7 @@ impl Memory {
         ensures grows { self.old.tm.slots ≤ self.new.tm.slots }
         ensures no_memory { OnErr result (held self.new ≡ held self.old) }
         ensures enough { routed_takes_memory (present_of self.old) (Enlist label manager transaction kind) ≡ false → IsOk result }
+        ensures files { self.new.files ≡ self.old.files }
     {
         if self.handles.is_full() || self.tm.is_full_of_enlistments() {
             return Ok(Decision::only(Reply::Refused(Refusal::NotEnoughQuota)));

@@ -1,5 +1,5 @@
 // Deciding the calls on files, and the room that files and keys have.
-ghost use Rattle.std.specs.Prelude.{◌≡◌, ◌-◌, ◌≤◌, true, false, None, Some, [], IfOk, IsOk, OnErr, OnOk, is_some, sum_by};
+ghost use Rattle.std.specs.Prelude.{◌≡◌, ◌-◌, ◌≤◌, true, false, None, Some, [], IfOk, IfSome, IsOk, OnErr, OnOk, is_some, sum_by};
 ghost use Rattle.ktm_standing.specs.Files.{MayMake};
 ghost use Rattle.ktm_standing.specs.Standing.{IsStandingNow};
 ghost use Rattle.ktm_event.specs.Kept.{EventsState, Holds};
@@ -12,10 +12,17 @@ ghost use Rattle.ktm_memory.specs.Takes.{files_take_memory, is_quiet};
 ghost use Rattle.ktm_types.specs.Sizes.{event_size};
 ghost use Rattle.ktm_world.specs.Decide.{events_of};
 ghost use Rattle.ktm_world.specs.Uses.{file_room, key_room};
+ghost use Rattle.ktm_memory.specs.Rules.{CallPutsBy, KeepsRules};
+ghost use Rattle.ktm_memory.specs.Units.{CanBeRecordedIf};
+ghost use Rattle.ktm_world.specs.FileOutcome.{files_after};
+ghost use Rattle.ktm_world.specs.Files.{bytes_seen};
+ghost use Rattle.txf_tree.specs.UnitChanges.{CanBeMade, CanBeMadeOver};
+ghost use Rattle.txf_volume.specs.Held.{files_of};
 ghost use Rattle.txf_volume.specs.Plain.{IsReady};
 ghost use Rattle.txf_volume.specs.Transacted.{HasRoom};
 
 use crate::commit::record_plan;
+use crate::extent::Extent;
 use crate::memory::Memory;
 use crate::settlement::{Decision, Labels, Settlement};
 use ktm_base::{Id, Label, NoMemory, Pid};
@@ -62,8 +69,8 @@ impl Memory {
         }
     }
 
-    // The room that the files have.
-    fn file_room(&self) -> Room
+    /// The room that the files have.
+    pub fn file_room(&self) -> Room
         ensures { result ≡ file_room (present_of self.now) }
     {
         Room {
@@ -93,10 +100,13 @@ impl Memory {
         process: Pid,
         label: Option<Label>,
         plan: Plan,
+        extent: Option<Extent>,
         events: &mut Events,
     ) -> Result<Decision, NoMemory>
         requires free { IsFreeLabel (present_of self.old) process label }
         requires may { MayMake (present_of self.old) None plan }
+        requires units { IfSome plan.change (CanBeMade (files_of self.old.files).tree) }
+        requires can { CanBeRecordedIf (files_of self.old.files).tree plan.change extent }
         requires answers { CanAnswer None plan }
         requires empty { Holds events.old [] }
         requires fits { sum_by event_size (events_of None plan.change) ≤ events.old.spare }
@@ -105,8 +115,9 @@ impl Memory {
         ensures room { events.new.room ≡ events.old.room }
         ensures no_memory { OnErr result (held self.new ≡ held self.old) }
         ensures enough { IsReady self.old.files plan None → (is_some plan.opened ≡ true → 1 ≤ self.old.handles.spare) → IsOk result }
+        ensures files { files_of self.new.files ≡ files_of self.old.files }
     {
-        let mut plan = record_plan(events, plan);
+        let mut plan = record_plan(events, plan, extent);
         self.reserve_for(plan.opened)?;
         let ready = self.files.prepare(&plan)?;
         let reply = replace(&mut plan.reply, Reply::Done);
@@ -133,10 +144,12 @@ impl Memory {
         requires active { IsActiveCaller (present_of self.old) (Some id) }
         requires free { IsFreeLabel (present_of self.old) process label }
         requires may { MayMake (present_of self.old) (Some id) plan }
+        requires units { IfSome plan.change (CanBeMadeOver (bytes_seen (files_of self.old.files) (Some id))) }
         ensures ok { IfOk result (λ d. (events : EventsState) → Holds events [] → Decides (held self.old) (files_outcome (present_of self.old) process (Some id) label plan) d.reply d.settlement events self.new) }
         ensures slots { self.old.tm.slots ≤ self.new.tm.slots }
         ensures no_memory { OnErr result (held self.new ≡ held self.old) }
         ensures enough { HasRoom self.old.files → plan.change ≡ None → (is_some plan.opened ≡ true → 1 ≤ self.old.handles.spare) → IsOk result }
+        ensures files { IfOk result (λ d. files_of self.new.files ≡ files_after (files_of self.old.files) (Some id) plan) }
     {
         let mut plan = plan;
         let opened = plan.opened;
@@ -149,7 +162,7 @@ impl Memory {
         })
     }
 
-    /// A call on files is decided.
+    /// A call on files is decided. It is recorded by the extent, if there is one, of the units that it puts.
     pub(crate) fn decide_files(
         &mut self,
         alloc: Global,
@@ -157,10 +170,11 @@ impl Memory {
         who: Option<Id>,
         label: Option<Label>,
         call: FileCall,
+        extent: Option<Extent>,
         events: &mut Events,
     ) -> Result<Decision, NoMemory>
         requires standing { IsStandingNow (present_of self.old) }
-        requires ready { IsReadyCall (present_of self.old) process who label call }
+        requires ready { IsReadyCall (present_of self.old) process who label call extent }
         requires empty { Holds events.old [] }
         requires fits { sum_by event_size (outcome_of (present_of self.old) process (OfFiles who label call)).events ≤ events.old.spare }
         ensures ok { IfOk result (λ d. Decides (held self.old) (outcome_of (present_of self.old) process (OfFiles who label call)) d.reply d.settlement events.new self.new) }
@@ -168,6 +182,7 @@ impl Memory {
         ensures room { events.new.room ≡ events.old.room }
         ensures no_memory { OnErr result (held self.new ≡ held self.old) }
         ensures enough { files_take_memory (present_of self.old) who call ≡ false → IsOk result }
+        ensures rules { IfOk result (λ d. KeepsRules (λ rule. CallPutsBy rule call) (files_of self.old.files) (outcome_of (present_of self.old) process (OfFiles who label call)).events (files_of self.new.files)) }
     {
         law_of_files();
         let room = self.file_room();
@@ -177,7 +192,7 @@ impl Memory {
         }
         match who {
             Some(id) => self.decide_own(process, id, label, plan),
-            None => self.decide_plain(process, label, plan, events),
+            None => self.decide_plain(process, label, plan, extent, events),
         }
     }
 }

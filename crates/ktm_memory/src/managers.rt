@@ -73,6 +73,7 @@ impl Memory {
         ensures room { events.new.room ≡ events.old.room }
         ensures no_memory { OnErr result (held self.new ≡ held self.old) }
         ensures enough { routed_takes_memory (present_of self.old) (MakeManager label durability) ≡ false → IsOk result }
+        ensures files { self.new.files ≡ self.old.files }
     {
         if self.handles.is_full() || self.tm.is_full_of_managers() {
             return Ok(Decision::only(Reply::Refused(Refusal::NotEnoughQuota)));
@@ -99,6 +100,7 @@ impl Memory {
         ensures slots { IfOk result (λ d. self.old.tm.slots + length (recover_notes (present_of self.old) manager) ≤ self.new.tm.slots) }
         ensures grows { self.old.tm.slots ≤ self.new.tm.slots }
         ensures no_memory { OnErr result (held self.new ≡ held self.old) }
+        ensures files { self.new.files ≡ self.old.files }
     {
         self.tm.reserve_recovery(manager)?;
         Ok(Decision::done(Settlement::Recover(manager)))

@@ -1,9 +1,12 @@
 // A call whose labels are known.
+use crate::extent::Extent;
 use crate::settlement::Labels;
 use ktm_base::{Bytes, Id, Label};
+use ktm_content::Placed;
 use ktm_types::{Durability, EnlistmentKind, PhaseInput, Transaction};
 use kv_rm::KvCall;
 use txf_calls::FileCall;
+use txf_opens::OpenFile;
 
 /// A call whose labels have become objects, which passed the tests of their handles.
 #[derive(Drop)]
@@ -50,5 +53,13 @@ pub enum Routed {
         // What the file that is opened is to be called.
         label: Option<Label>,
         call: FileCall,
+    },
+    /// Whole units are put into an open file, from the begin of one on, and recorded by their extent.
+    Units {
+        who: Option<Id>,
+        file: OpenFile,
+        start: u64,
+        contents: Placed,
+        extent: Extent,
     },
 }

@@ -1,16 +1,19 @@
 // Doing what is left to do once the events of a command are recorded. It takes no memory.
-ghost use Rattle.std.specs.Prelude.{◌≡◌, ◌+◌, ◌<◌, ◌≤◌, ◌^◌, not, true, Some, length};
+ghost use Rattle.std.specs.Prelude.{◌≡◌, ◌+◌, ◌<◌, ◌≤◌, ◌^◌, not, true, None, Some, length};
 ghost use Rattle.std.specs.Option.{option_map};
 ghost use Rattle.ktm_memory.specs.declared.settlement.Settlement.TheVariants.{Begin, Change as PlainChange, Enlist, Handles as OfHandles, Inform, MakeManager, Pass, Recover, Take};
-ghost use Rattle.ktm_memory.specs.Memory.{MayBind, MaySettle, Settles, SettlesGood, TellsWithin};
+ghost use Rattle.ktm_memory.specs.Memory.{MayBind, MaySettle, Settles, SettlesGood, TellsWithin, present_of};
 ghost use Rattle.ktm_memory.specs.Settled.{handles_then, labels_outcome, left_to_do};
 ghost use Rattle.ktm_types.specs.declared.change.Change.{Change as Made};
 ghost use Rattle.ktm_world.specs.Changes.{is_make, node_of};
+ghost use Rattle.ktm_world.specs.Decide.{events_of};
 ghost use Rattle.ktm_world.specs.FileOutcome.{next_node_after};
 ghost use Rattle.ktm_world.specs.HandleCalls.{abort_active, close_handle, exit, handle_gone, has_handle};
 ghost use Rattle.ktm_world.specs.TransactionCalls.{is_durable, tick};
 ghost use Rattle.ktm_world.specs.Transactions.{transaction_at};
 ghost use Rattle.txf_opens.specs.Acts.{open_of};
+ghost use Rattle.txf_volume.specs.Held.{files_of};
+ghost use Rattle.ktm_memory.specs.Rules.{KeepRules, SettlesByRules};
 
 use crate::memory::Memory;
 use crate::settlement::{Labels, Settlement};
@@ -53,6 +56,7 @@ impl Memory {
         ensures settles { Settles self.old (λ x. abort_active x (transaction_at x.transactions.items id)) self.new }
         ensures journal { self.new.journal ≡ self.old.journal }
         ensures handles { self.new.handles ≡ self.old.handles }
+        ensures rules { KeepRules (files_of self.old.files) (files_of self.new.files) }
     {
         let Some(t) = self.tm.find(id) else {
             return;
@@ -71,6 +75,7 @@ impl Memory {
         ensures settles { Settles self.old (λ x. handle_gone (Some closed.object) x) self.new }
         ensures journal { self.new.journal ≡ self.old.journal }
         ensures handles { self.new.handles ≡ self.old.handles }
+        ensures rules { KeepRules (files_of self.old.files) (files_of self.new.files) }
     {
         if !closed.is_last {
             return;
@@ -87,6 +92,7 @@ impl Memory {
         requires told { TellsWithin self.old (λ x. close_handle x process label) }
         ensures settles { Settles self.old (λ x. close_handle x process label) self.new }
         ensures journal { self.new.journal ≡ self.old.journal }
+        ensures rules { KeepRules (files_of self.old.files) (files_of self.new.files) }
     {
         law_of_kept();
         if let Some(closed) = self.handles.close(process, label) {
@@ -99,6 +105,7 @@ impl Memory {
         requires told { TellsWithin self.old (λ x. exit x process) }
         ensures settles { Settles self.old (λ x. exit x process) self.new }
         ensures journal { self.new.journal ≡ self.old.journal }
+        ensures rules { KeepRules (files_of self.old.files) (files_of self.new.files) }
     {
         law_of_kept();
         while let Some(closed) = self.handles.exit_next(process) {
@@ -112,6 +119,7 @@ impl Memory {
         requires told { TellsWithin self.old (λ x. tick x ms) }
         ensures settles { Settles self.old (λ x. tick x ms) self.new }
         ensures journal { self.new.journal ≡ self.old.journal }
+        ensures rules { KeepRules (files_of self.old.files) (files_of self.new.files) }
     {
         law_of_kept();
         self.tm.advance(ms as u64);
@@ -142,6 +150,7 @@ impl Memory {
         requires { MaySettle self.old (PlainChange process label plan ready) }
         ensures settles { Settles self.old (λ x. left_to_do x (PlainChange process label plan ready)) self.new }
         ensures journal { self.new.journal ≡ self.old.journal }
+        ensures rules { SettlesByRules (files_of self.old.files) (events_of None plan.change) (files_of self.new.files) }
     {
         let opened = plan.opened;
         self.next_node = next_after(self.next_node, &plan.change);
@@ -154,6 +163,7 @@ impl Memory {
         requires may { MaySettle self.old (Begin process label timeout) }
         ensures settles { Settles self.old (λ x. left_to_do x (Begin process label timeout)) self.new }
         ensures journal { self.new.journal ≡ self.old.journal }
+        ensures files { self.new.files ≡ self.old.files }
     {
         let id = self.tm.create(timeout);
         self.handles.insert(process, label, Object::Transaction(id));
@@ -164,6 +174,7 @@ impl Memory {
         requires may { MaySettle self.old (MakeManager process label durability) }
         ensures settles { Settles self.old (λ x. left_to_do x (MakeManager process label durability)) self.new }
         ensures journal { self.new.journal ≡ self.old.journal }
+        ensures files { self.new.files ≡ self.old.files }
     {
         let id = self.tm.create_manager(is_durable(durability));
         self.handles.insert(process, label, Object::Manager(id));
@@ -182,6 +193,7 @@ impl Memory {
         requires may { MaySettle self.old (Enlist process label manager transaction kind) }
         ensures settles { Settles self.old (λ x. left_to_do x (Enlist process label manager transaction kind)) self.new }
         ensures journal { self.new.journal ≡ self.old.journal }
+        ensures files { self.new.files ≡ self.old.files }
     {
         let id = self.tm.create_enlistment(alloc, manager, transaction, kind);
         self.handles.insert(process, label, Object::Enlistment(id));
@@ -193,6 +205,7 @@ impl Memory {
         requires told { TellsWithin self.old (λ x. labels_outcome x process labels) }
         ensures settles { Settles self.old (λ x. labels_outcome x process labels) self.new }
         ensures journal { self.new.journal ≡ self.old.journal }
+        ensures rules { KeepRules (files_of self.old.files) (files_of self.new.files) }
     {
         match labels {
             Labels::Bind { label, object } => self.handles.insert(process, label, object),
@@ -212,6 +225,7 @@ impl Memory {
         requires told { TellsWithin self.old (λ x. left_to_do x settlement) }
         ensures settles { SettlesGood self.old (λ x. left_to_do x settlement) self.new }
         ensures journal { self.new.journal ≡ self.old.journal }
+        ensures rules { SettlesByRules (files_of self.old.files) (left_to_do (present_of self.old) settlement).events (files_of self.new.files) }
     {
         law_of_kept();
         match settlement {

@@ -24,7 +24,6 @@ use Rattle.ktm_open.specs.Opened.{IsFoundBad, IsFoundDown, IsFoundWorn, IsNotRec
 use Rattle.ktm_open.specs.Opening.{OpeningCounts, Prepared, open_fault_of}
 use Rattle.ktm_types.specs.Groups.{Group}
 use Rattle.ktm_world.specs.Durable.{Durable, empty_state, is_worn, stand}
-use Rattle.ktm_world.specs.World.{in_doubt, opened}
 
 -- bytes stand for one state at most
 abbrev pub StatesLaw : Type 0
@@ -74,7 +73,7 @@ begins_new base bytes none begins = subst (λ (l : List ℕ). BeginsAs base l) n
 
 -- no image is without a byte
 begins_as : (base : Durable) (bytes : List ℕ) → StandsFor base bytes → BeginsAs base bytes
-begins_as base [] stands = absurd (omega (arith, stands.is.formatted.headed.long))
+begins_as base [] stands = absurd (omega (arith, stands.paged.is.formatted.headed.long))
 begins_as base (byte ∷ bytes) stands = stands
 
 -- a disk that was prepared is safe, and stands for what the run begins from
@@ -107,22 +106,25 @@ module _ (base : Durable) where
   pub safe_begins : (told : Option DiskState) → IsSomeAnd told (Begins base) → IsSomeAnd told (λ s. (image : List ℕ) → MayLeave s image → BeginsAs base image)
   safe_begins told tells = IsSomeAnd-map told (Begins base) _ tells (λ s begins image left. subst (λ (l : List ℕ). BeginsAs base l) (sym ((safe_law s image begins.0).0 left)) begins.1)
 
-  few_calls : (old new : DiskState) (a b c : DiskStatus) (x y : Bool) → Begins base old → Prepared old new → DeviceCalls (8 * MOST_UNITS + 65) a b x → DeviceCalls (8 * MOST_UNITS + 70) b c y
+  few_calls : (old new : DiskState) (a b c : DiskStatus) (x y : Bool) → Begins base old → Prepared old new → DeviceCalls (8 * NEW_UNITS + 65) a b x → DeviceCalls (8 * MOST_UNITS + 70) b c y
       → (0 < length old.seen → b.calls ≤ a.calls + 1) → ((units image selector : ℕ) → IsHeaded units image selector new.seen → c.calls ≤ b.calls + (8 * units + 70))
       → c.calls ≤ a.calls + (16 * base.units + 135)
-  few_calls old new a b c x y begins prepared first second one few = elim prepared [
-    | inl (none, all, stands) ↦
-        let is = begins_new base old.seen none begins.1 in
-        let units : base.units ≡ NEW_UNITS = ap (λ (d : Durable). d.units) is in
-        omega (arith, first.few, second.few)
-    | inr (some, same) ↦
-        let is = prepared_base base old new begins (inr (some, same)) in
-        let calls : c.calls ≤ b.calls + (8 * base.units + 70) = few base.units base.image is.1.is.selector is.1.is.formatted.headed in
-        let before : b.calls ≤ a.calls + 1 = one some in
-        omega arith
-  ]
+  few_calls old new a b c x y begins prepared first second one few =
+      let is = prepared_base base old new begins prepared in
+      let stands = is.1 in
+      let units : base.units ≡ stands.places.units = ap (λ (d : Durable). d.units) stands.is in
+      let calls : c.calls ≤ b.calls + (8 * base.units + 70) =
+      subst (λ n. c.calls ≤ b.calls + (8 * n + 70)) (sym units) (few stands.places.units stands.places.image stands.paged.is.selector stands.paged.is.formatted.headed) in
+      elim prepared [
+        | inl (none, all, made) ↦
+            let new_units : base.units ≡ NEW_UNITS = ap (λ (d : Durable). d.units) (begins_new base old.seen none begins.1) in
+            omega (arith, first.few, calls, new_units)
+        | inr (some, same) ↦
+            let before : b.calls ≤ a.calls + 1 = one some in
+            omega (arith, before, calls)
+      ]
 
-  opening_counts : (old new : Option DiskState) (a b c : DiskStatus) (x y : Bool) → IsSomeAnd old (Begins base) → Goes Prepared old new → DeviceCalls (8 * MOST_UNITS + 65) a b x → DeviceCalls (8 * MOST_UNITS + 70) b c y
+  opening_counts : (old new : Option DiskState) (a b c : DiskStatus) (x y : Bool) → IsSomeAnd old (Begins base) → Goes Prepared old new → DeviceCalls (8 * NEW_UNITS + 65) a b x → DeviceCalls (8 * MOST_UNITS + 70) b c y
       → (IsSomeAnd old (λ s. 0 < length s.seen) → b.calls ≤ a.calls + 1) → ((units image selector : ℕ) → IsSomeAnd new (λ s. IsHeaded units image selector s.seen) → c.calls ≤ b.calls + (8 * units + 70))
       → OpeningCounts base.units a c
   opening_counts None new a b c x y tells goes first second one few = absurd tells
@@ -181,7 +183,7 @@ cut_before base (Some old) (Some new) tells goes = elim goes [
 
 -- ---- an opening, by what the restart says
 
-module _ (states : StatesLaw) (bad_images : BadImagesLaw) (old mid new : Option DiskState) (s u t : DiskStatus) (b d : BuffersState) (goes : Goes Prepared old mid) (prepared : DeviceCalls (8 * MOST_UNITS + 65) s u false) where
+module _ (states : StatesLaw) (bad_images : BadImagesLaw) (old mid new : Option DiskState) (s u t : DiskStatus) (b d : BuffersState) (goes : Goes Prepared old mid) (prepared : DeviceCalls (8 * NEW_UNITS + 65) s u false) where
   pub opens : (r : Restarted) → IsStarted (on b mid u) (on d new t) r → DeviceCalls (8 * MOST_UNITS + 70) u t false → (IsSomeAnd old (λ s. 0 < length s.seen) → u.calls ≤ s.calls + 1)
       → ((units image selector : ℕ) → IsSomeAnd mid (λ s. IsHeaded units image selector s.seen) → t.calls ≤ u.calls + (8 * units + 70)) → IsOpened r old new s t
   opens r is calls one few = record {
@@ -199,7 +201,7 @@ module _ (states : StatesLaw) (bad_images : BadImagesLaw) (old mid new : Option 
 
   pub not_opened : (most : ℕ) (fault : RestartFault) → NoStartLeaves (on b mid u) (on d new t) fault → (let r : Result ℕ RestartFault = Err fault in DeviceCalls most u t (restart_went_down r)) → NotOpenedLeaves old new s t (open_fault_of fault)
   not_opened most kernel.Down is calls = record {
-    went_down = (calls_law s u t (8 * MOST_UNITS + 65) most true prepared calls).cause refl;
+    went_down = (calls_law s u t (8 * NEW_UNITS + 65) most true prepared calls).cause refl;
     leaves = λ base tells. inr (is.leaves base (tells_base base old mid tells goes));
   }
   not_opened most (kernel.Bad offset) is calls =

@@ -1,6 +1,6 @@
 // The machine of an image.
 ghost use Rattle.std.specs.Prelude.{◌≡◌, ◌⊎◌, ◌+◌, ◌*◌, ◌<◌, ◌≤◌, [], length, false, is_err, OnOk, OnErr, IsSomeAnd, IsTrue};
-ghost use Rattle.ktm_base.specs.declared.limits.TheConstants.{MOST_UNITS};
+ghost use Rattle.ktm_base.specs.declared.limits.TheConstants.{NEW_UNITS};
 ghost use Rattle.ktm_base.specs.Disk.{DeviceCalls};
 ghost use Rattle.ktm_base.specs.Told.{Goes};
 ghost use Rattle.ktm_open.specs.Opened.{OpenLeaves};
@@ -23,7 +23,7 @@ fn prepare<D: Disk>(disk: &mut D) -> Result<(), Down>
     ensures err { OnErr result (Goes (λ old new. (old.seen ≡ []) ⊎ (new ≡ old)) (D.told disk.old) (D.told disk.new)) }
     ensures pending { OnOk result ((D.status disk.new).pending ≡ 0) }
     ensures up { OnOk result ((D.status disk.new).is_down ≡ false) }
-    ensures calls { DeviceCalls (8 * MOST_UNITS + 65) (D.status disk.old) (D.status disk.new) (is_err result) }
+    ensures calls { DeviceCalls (8 * NEW_UNITS + 65) (D.status disk.old) (D.status disk.new) (is_err result) }
     ensures few { IsSomeAnd (D.told disk.old) (λ s. 0 < length s.seen) → (D.status disk.new).calls ≤ (D.status disk.old).calls + 1 }
 {
     law_of_new_images();

@@ -9,11 +9,11 @@ use Rattle.ktm_base.specs.declared.refusal.Refusal.TheVariants.{MachineDown}
 use Rattle.ktm_types.specs.declared.change.Change.TheVariants.{Put, Cut}
 use Rattle.ktm_types.specs.declared.change.Contents.TheVariants.{Whole}
 use Rattle.ktm_types.specs.declared.command.Command.{Command}
-use Rattle.ktm_types.specs.declared.command.Command.TheVariants.{CreateFile, CreateFileTransacted, ReadFile, WriteFile, SetEndOfFile, GetFileSizeEx, FlushFileBuffers, DeleteFile, CreateDirectory, RemoveDirectory, MoveFile, DeleteFileTransacted, CreateDirectoryTransacted, RemoveDirectoryTransacted, MoveFileTransacted, FindFiles, FindFilesTransacted}
+use Rattle.ktm_types.specs.declared.command.Command.TheVariants.{CreateFile, CreateFileTransacted, ReadFile, WriteFile, SetEndOfFile, WriteUnits, GetFileSizeEx, FlushFileBuffers, DeleteFile, CreateDirectory, RemoveDirectory, MoveFile, DeleteFileTransacted, CreateDirectoryTransacted, RemoveDirectoryTransacted, MoveFileTransacted, FindFiles, FindFilesTransacted}
 use Rattle.ktm_types.specs.declared.reply.Reply.TheVariants.{Done}
 use Rattle.ktm_world.specs.Conflicts.{writes}
 use Rattle.ktm_world.specs.Decide.{caller, on_file_tests, own_tests, refusal_of, transacted}
-use Rattle.ktm_world.specs.FileCalls.{create_file, create_file_tests, read_file, write_file, write_file_tests, set_end, set_end_tests, get_size, flush_file, delete_file, delete_file_tests, create_directory, create_directory_tests, remove_directory, remove_directory_tests, move_file, move_file_tests, find_files}
+use Rattle.ktm_world.specs.FileCalls.{create_file, create_file_tests, read_file, write_file, write_units_tests, set_end, set_end_tests, get_size, flush_file, delete_file, delete_file_tests, create_directory, create_directory_tests, remove_directory, remove_directory_tests, move_file, move_file_tests, find_files}
 use Rattle.ktm_world.specs.FileOutcome.{FileOutcome}
 use Rattle.ktm_world.specs.Files.{OpenFile}
 use Rattle.ktm_world.specs.Labels.{file_named}
@@ -29,6 +29,7 @@ use Rattle.txf_laws.specs.SoundFiles.{IsSoundFiles}
 use Rattle.txf_laws.proofs.offered.ChangeTests.{applies-from}
 use Rattle.txf_laws.proofs.offered.Elements.{not-not}
 use Rattle.ktm_courses.proofs.offered.Calls.{Passes, passed}
+use Rattle.ktm_courses.proofs.offered.FileSteps.{units-pass}
 use Rattle.ktm_records.proofs.CallsMade.{right-answer, right-kept, right-landed, right-written}
 use Rattle.ktm_owned.proofs.offered.FilesKept.{up-passes}
 use Rattle.ktm_owned.proofs.offered.OpenCalls.{file-in, own-passes}
@@ -71,10 +72,10 @@ module _ (lists : ListsLaw) (formed : FormedLaw) (x : Present) (course : IsSound
       let may = caller-may x process label (tests (caller x process label)) course passes in
       subst (λ who. IsRight x (in_caller who call)) (sym may.1) (right-some x (Some may.0) (call (Some may.0)) (right may.0 may.2 (subst (λ who. Passes (tests who)) may.1 may.3)))
 
-  written : (offset : ℕ) (bytes : List ℕ) (o : OpenFile) → IsIn o x.files.table.opens → Passes (write_file_tests x.files (file_room x) o offset bytes) → IsRightCall x o.transaction (write_file o offset bytes)
-  unfolding write_file write_file_tests
+  written : (offset : ℕ) (bytes : List ℕ) (o : OpenFile) → IsIn o x.files.table.opens → Passes (write_units_tests x.files (file_room x) o offset bytes) → IsRightCall x o.transaction (write_file o offset bytes)
+  unfolding write_file write_units_tests
   written offset [] o there tests = right-answer x o.transaction Done
-  written offset (b ∷ bs) o there tests = let c = Put o.node offset (Whole (b ∷ bs)) in right-written lists x sound formed o there (not-not (writes o.access) (passed (passed tests).1).0) c refl refl (λ tree file. applies-from tree c (file, refl))
+  written offset (b ∷ bs) o there tests = let c = Put o.node offset (Whole (b ∷ bs)) in right-written lists x sound formed o there (not-not (writes o.access) (passed tests).0) c refl refl (λ tree file. applies-from tree c (file, refl))
 
   end-set : (size : ℕ) (o : OpenFile) → IsIn o x.files.table.opens → Passes (set_end_tests x.files (file_room x) o size) → IsRightCall x o.transaction (set_end o size)
   unfolding set_end set_end_tests
@@ -103,9 +104,11 @@ module _ (lists : ListsLaw) (formed : FormedLaw) (x : Present) (course : IsSound
       (λ id may passes. right-created-own lists formed x sound id may.who path access share disposition (passed passes).1)
   right (ReadFile file offset many) none = answered file (λ o. read_file x.files o offset many) (read offset many)
   right (WriteFile file offset bytes) none =
-      on-open file (λ o. write_file_tests x.files (file_room x) o offset bytes) (λ o. write_file o offset bytes) (up-passes lists formed x process (WriteFile file offset bytes) none) (written offset bytes)
+      on-open file (λ o. write_units_tests x.files (file_room x) o offset bytes) (λ o. write_file o offset bytes) (units-pass x process file offset bytes (up-passes lists formed x process (WriteFile file offset bytes) none)) (written offset bytes)
   right (SetEndOfFile file size) none =
       on-open file (λ o. set_end_tests x.files (file_room x) o size) (λ o. set_end o size) (up-passes lists formed x process (SetEndOfFile file size) none) (end-set size)
+  right (WriteUnits file start contents) none =
+      on-open file (λ o. write_units_tests x.files (file_room x) o start contents) (λ o. write_file o start contents) (up-passes lists formed x process (WriteUnits file start contents) none) (written start contents)
   right (GetFileSizeEx file) none = answered file (λ o. get_size x.files o) sized
   right (FlushFileBuffers file) none = answered file (λ o. flush_file) (λ o. right-answer x o.transaction Done)
   right (DeleteFile path) none = right-some x None _ (right-landed lists x sound _ (plain-deleted lists formed x path (not x.machine.is_up, MachineDown) none sound))

@@ -26,16 +26,16 @@ abbrev pub IsSpelledPut : Change → Type 0
 IsSpelledPut (Put node offset contents) = IsSpellableContents contents
 IsSpelledPut _ = ⊤
 
-module _ (Files : List Change → Type 0) (Keys : OwnSettings → Type 0) where
+module _ (Files : List Change → Type 0) (Keys : OwnSettings → Type 0) (Asked : Type 0) where
   -- a part has changes that are so, or settings that are so, or is an enlistment
   abbrev pub IsOwnPart : Part → Type 0
   IsOwnPart (EnlistmentPart enlistment manager information) = ⊤
   IsOwnPart (Changes changes) = Files changes
   IsOwnPart (Settings settings) = Keys settings
 
-  -- the part of an event is so
+  -- the part of an event is so, and the contents of a plain change have bytes where this is asked
   abbrev pub IsOwnEvent : Event → Type 0
-  IsOwnEvent (Plain change) = IsSpelledPut change
+  IsOwnEvent (Plain change) = Asked → IsSpelledPut change
   IsOwnEvent (Ready transaction part) = IsOwnPart part
   IsOwnEvent (Single transaction part) = IsOwnPart part
   IsOwnEvent _ = ⊤

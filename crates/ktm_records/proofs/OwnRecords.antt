@@ -1,7 +1,7 @@
 -- What each command records: at most six events of what it changes or of what one transaction has to commit, or rollbacks alone; and the keys that
 -- transactions have set and commit stay texts.
 use Rattle.std.specs.Prelude.{⊤}
-use Rattle.std.proofs.Common.{◌≡◌, ℕ, ◌≤◌, not, Bool, true, List, [], ◌∷◌, ◌++◌, length, Option, Some, None, refl, sym, subst, arith, inl, inr, ◌⊎◌, ap}
+use Rattle.std.proofs.Common.{◌≡◌, ℕ, ◌≤◌, ◌<◌, ◌^◌, not, Bool, true, List, [], ◌∷◌, length, Option, Some, None, refl, sym, subst, arith, inl, inr, ◌⊎◌, ap}
 use Rattle.std.proofs.lemmas.Bool.{ltb-false}
 use Rattle.std.specs.List.{AllByRecursion, list_all}
 use Rattle.ktm_base.specs.declared.id.Id.{Id}
@@ -12,7 +12,7 @@ use Rattle.ktm_base.specs.declared.refusal.Refusal.TheVariants.{MachineDown}
 use Rattle.ktm_types.specs.declared.change.Change.{Change}
 use Rattle.ktm_types.specs.declared.change.Change.TheVariants.{Cut}
 use Rattle.ktm_types.specs.declared.command.Command.{Command}
-use Rattle.ktm_types.specs.declared.command.Command.TheVariants.{CreateTransaction, OpenTransaction, CommitTransaction, RollbackTransaction, GetTransactionInformation, CreateResourceManager, OpenResourceManager, RecoverResourceManager, GetNotificationResourceManager, CreateEnlistment, OpenEnlistment, RecoverEnlistment, PrePrepareComplete, PrepareComplete, ReadOnlyEnlistment, CommitComplete, RollbackComplete, SinglePhaseReject, RollbackEnlistment, PrePrepareEnlistment, PrepareEnlistment, CommitEnlistment, SetEnlistmentRecoveryInformation, GetEnlistmentRecoveryInformation, CreateFile, CreateFileTransacted, ReadFile, WriteFile, SetEndOfFile, GetFileSizeEx, FlushFileBuffers, DeleteFile, CreateDirectory, RemoveDirectory, MoveFile, DeleteFileTransacted, CreateDirectoryTransacted, RemoveDirectoryTransacted, MoveFileTransacted, FindFiles, FindFilesTransacted, KvSet, KvUnset, KvGet, KvList, CloseHandle, DuplicateHandle, Exit}
+use Rattle.ktm_types.specs.declared.command.Command.TheVariants.{CreateTransaction, OpenTransaction, CommitTransaction, RollbackTransaction, GetTransactionInformation, CreateResourceManager, OpenResourceManager, RecoverResourceManager, GetNotificationResourceManager, CreateEnlistment, OpenEnlistment, RecoverEnlistment, PrePrepareComplete, PrepareComplete, ReadOnlyEnlistment, CommitComplete, RollbackComplete, SinglePhaseReject, RollbackEnlistment, PrePrepareEnlistment, PrepareEnlistment, CommitEnlistment, SetEnlistmentRecoveryInformation, GetEnlistmentRecoveryInformation, CreateFile, CreateFileTransacted, ReadFile, WriteFile, SetEndOfFile, WriteUnits, GetFileSizeEx, FlushFileBuffers, DeleteFile, CreateDirectory, RemoveDirectory, MoveFile, DeleteFileTransacted, CreateDirectoryTransacted, RemoveDirectoryTransacted, MoveFileTransacted, FindFiles, FindFilesTransacted, KvSet, KvUnset, KvGet, KvList, CloseHandle, DuplicateHandle, Exit}
 use Rattle.ktm_types.specs.declared.event.Event.{Event}
 use Rattle.ktm_types.specs.declared.object.Object.{Object}
 use Rattle.ktm_types.specs.declared.object.Transaction.{Transaction}
@@ -23,7 +23,7 @@ use Rattle.ktm_types.specs.declared.options.EnlistmentKind.{EnlistmentKind}
 use Rattle.ktm_types.specs.declared.options.ShareMode.{ShareMode}
 use Rattle.ktm_types.specs.declared.reply.Reply.{Reply}
 use Rattle.ktm_types.specs.declared.reply.Reply.TheVariants.{Done, Refused}
-use Rattle.ktm_types.specs.Values.{IsCommand, IsText}
+use Rattle.ktm_types.specs.Values.{IsGiven, IsText}
 use Rattle.ktm_types.specs.declared.input.PhaseInput.{PhaseInput}
 use Rattle.ktm_world.specs.Decide.{bound_file, caller, command_effect, command_tests, decide, events_of, of_files, of_keys, on_file, on_file_tests, opening, own_tests}
 use Rattle.ktm_world.specs.Committed.{Work}
@@ -46,6 +46,7 @@ use Rattle.ktm_world.specs.Uses.{file_room}
 use Rattle.ktm_world.specs.World.{decide_tick}
 use Rattle.ktm_steps.proofs.offered.Recorded.{all-append}
 use Rattle.ktm_courses.proofs.offered.Calls.{Passes, passed, of-answering}
+use Rattle.ktm_courses.proofs.offered.FileSteps.{passes-right}
 use Rattle.ktm_records.specs.Spelling.{HaveTextKeys}
 use Rattle.ktm_records.proofs.offered.AgreementOfCourses.{arrival}
 use Rattle.ktm_records.proofs.OwnEvents.{IsOwnEvent, IsSpelledPut, few-led, own-led}
@@ -129,27 +130,22 @@ abbrev IsPut : Option Change → Type 0
 IsPut None = ⊤
 IsPut (Some change) = IsSpelledPut change
 
--- of tests in a row the last ones
-passes-right : (a b : List (Bool × Refusal)) → Passes (a ++ b) → Passes b
-passes-right [] b passes = passes
-passes-right (test ∷ a) b passes = passes-right a b (passed passes).1
-
 module _ (Files : List Change → Type 0) (Keys : OwnSettings → Type 0) where
   -- what each transaction has to commit is so
   pub record Owned (x : Present) : Type 0 where
     pub files : (id : Id) → Files (own_changes x.files.table.own id)
     pub keys : (id : Id) → Keys (own_settings x.keys.own id)
 
+-- the keys stay texts where this is so, by which a command has texts, and few enough bytes
+module _ (Files : List Change → Type 0) (Keys : OwnSettings → Type 0) (Asked : Type 0) where
   -- rollbacks alone, or at most six events that are so
   abbrev pub IsShortGroup : List Event → Type 0
-  IsShortGroup events = (list_all is_undo events ≡ true) ⊎ (AllByRecursion (IsOwnEvent Files Keys) events × (length events ≤ 6))
+  IsShortGroup events = (list_all is_undo events ≡ true) ⊎ (AllByRecursion (IsOwnEvent Files Keys Asked) events × (length events ≤ 6))
 
--- the keys stay texts where this is so, by which a command has texts
-module _ (Files : List Change → Type 0) (Keys : OwnSettings → Type 0) (Asked : Type 0) where
   -- an outcome records such a group, and leaves the keys texts
   pub record Does (x : Present) (o : Outcome) : Type 0 where
     pub texts : Asked → KeepsTexts x o
-    pub group : IsShortGroup Files Keys o.events
+    pub group : IsShortGroup o.events
 
   does-rolled : (x : Present) (o : Outcome) → Rolls x o → Does x o
   does-rolled x o rolls = record { texts = λ asked. rolls.texts; group = inl rolls.undos }
@@ -167,7 +163,7 @@ module _ (Files : List Change → Type 0) (Keys : OwnSettings → Type 0) (Asked
         let c = course_of x t caller in
         record {
           texts = λ asked. texts-arrived x input t caller reply;
-          group = subst (IsShortGroup Files Keys) (sym (arrival x (led input c) reply).events) (inr (own-led Files Keys input c refl (owned.files t.id) (owned.keys t.id), few-led input c refl));
+          group = subst IsShortGroup (sym (arrival x (led input c) reply).events) (inr (own-led Files Keys Asked input c refl (owned.files t.id) (owned.keys t.id), few-led input c refl));
         }
 
     does-commit : (o : Option Transaction) → Does x (commit_of x o)
@@ -223,20 +219,20 @@ module _ (Files : List Change → Type 0) (Keys : OwnSettings → Type 0) (Asked
 
     -- ---- files
 
-    does-of_files : (who : Option Id) (o : FileOutcome) → (who ≡ None → IsPut o.change) → Does x (of_files x who o)
+    does-of_files : (who : Option Id) (o : FileOutcome) → (Asked → IsPut o.change) → Does x (of_files x who o)
     does-of_files (Some id) o put = does-same x _ refl refl refl
-    does-of_files None o put = record { texts = λ asked texts. record { own = texts; works = works o.change }; group = go o.change (put refl) }
+    does-of_files None o put = record { texts = λ asked texts. record { own = texts; works = works o.change }; group = go o.change put }
       where
         works : (change : Option Change) → TextWorks (works_of None change)
         works None = tt
         works (Some change) = (texts-none, tt)
 
-        go : (change : Option Change) → IsPut change → IsShortGroup Files Keys (events_of None change)
+        go : (change : Option Change) → (Asked → IsPut change) → IsShortGroup (events_of None change)
         go None put' = inl refl
         go (Some change) put' = inr ((put', tt), omega arith)
 
     does-files : (who : Option Id) (o : FileOutcome) → IsPut o.change → Does x (of_files x who o)
-    does-files who o put = does-of_files who o (λ plain. put)
+    does-files who o put = does-of_files who o (λ asked. put)
 
     does-opening : (process : Pid) (label : Label) (who : Option Id) (o : FileOutcome) → IsPut o.change → Does x (opening x process label who o)
     does-opening process label who o put = go o.opened
@@ -320,18 +316,23 @@ module _ (Files : List Change → Type 0) (Keys : OwnSettings → Type 0) (Asked
     unfolding set_end
     put-cut o size = tt
 
-    put-written : (o : OpenFile) (offset : ℕ) (bytes : List ℕ) → length bytes ≤ 65536 → IsPut (write_file o offset bytes).change
+    put-written : (o : OpenFile) (offset : ℕ) (bytes : List ℕ) → length bytes < 2 ^ 32 → IsPut (write_file o offset bytes).change
     unfolding write_file
     put-written o offset [] few = tt
-    put-written o offset (b ∷ bs) few = (omega arith, omega (arith, few))
+    put-written o offset (b ∷ bs) few = (omega arith, few)
 
-    does-write : (process : Pid) (label : Label) (offset : ℕ) (bytes : List ℕ) → Passes (on_file_tests x process label (λ o. write_file_tests x.files (file_room x) o offset bytes)) → Does x (on_file x (file_named x process label) (λ o. write_file o offset bytes))
+    does-write : (o : Option OpenFile) (offset : ℕ) (bytes : List ℕ) → ((f : OpenFile) → o ≡ Some f → Asked → length bytes < 2 ^ 32) → Does x (on_file x o (λ f. write_file f offset bytes))
+    does-write None offset bytes few = does-reply x Done
+    does-write (Some f) offset bytes few = does-of_files f.transaction (write_file f offset bytes) (λ asked. put-written f offset bytes (few f refl asked))
+
+    -- what WriteFile writes at once
+    few-written : (process : Pid) (label : Label) (offset : ℕ) (bytes : List ℕ) → Passes (on_file_tests x process label (λ o. write_file_tests x.files (file_room x) o offset bytes))
+        → (o : OpenFile) → file_named x process label ≡ Some o → length bytes < 2 ^ 32
     unfolding write_file_tests
-    does-write process label offset bytes passes = go (file_named x process label) (passes-right (file_tests x process label) _ passes)
-      where
-        go : (o : Option OpenFile) → Passes (own_tests o (λ o. write_file_tests x.files (file_room x) o offset bytes)) → Does x (on_file x o (λ o. write_file o offset bytes))
-        go None tests = does-reply x Done
-        go (Some o) tests = does-files o.transaction (write_file o offset bytes) (put-written o offset bytes (ltb-false 65536 (length bytes) (passed tests).0))
+    few-written process label offset bytes passes o named =
+        let tests : Passes (own_tests (Some o) (λ o. write_file_tests x.files (file_room x) o offset bytes)) = rw named at (passes-right (file_tests x process label) _ passes) in
+        let few = ltb-false 65536 (length bytes) (passed tests).0 in
+        omega (arith, few)
 
     -- ---- keys
 
@@ -340,7 +341,7 @@ module _ (Files : List Change → Type 0) (Keys : OwnSettings → Type 0) (Asked
 
     -- ---- every call
 
-    does-command : (process : Pid) (command : Command) → (Asked → IsCommand command) → Passes (command_tests x process command) → Does x (command_effect x process command)
+    does-command : (process : Pid) (command : Command) → (Asked → IsGiven command) → Passes (command_tests x process command) → Does x (command_effect x process command)
     unfolding create_transaction open_transaction commit_transaction rollback_transaction get_transaction_information open_resource_manager recover_resource_manager get_notification create_enlistment open_enlistment recover_enlistment pre_prepare_complete prepare_complete read_only_enlistment commit_complete rollback_complete single_phase_reject rollback_enlistment pre_prepare_enlistment prepare_enlistment commit_enlistment set_information get_information duplicate_handle
     does-command process (CreateTransaction label timeout) is passes = does-same x _ refl refl refl
     does-command process (OpenTransaction label guid) is passes = opened-transaction process label (transaction_with x guid)
@@ -370,8 +371,9 @@ module _ (Files : List Change → Type 0) (Keys : OwnSettings → Type 0) (Asked
     does-command process (CreateFileTransacted label path access share disposition transaction) is passes =
         let who = caller x process transaction in does-opening process label who (create_file x.files who path access share disposition) (put-created who path access share disposition)
     does-command process (ReadFile file offset many) is passes = does-on_file (file_named x process file) (λ o. read_file x.files o offset many) (λ o found. put-read o offset many)
-    does-command process (WriteFile file offset bytes) is passes = does-write process file offset bytes passes
+    does-command process (WriteFile file offset bytes) is passes = does-write (file_named x process file) offset bytes (λ o named asked. few-written process file offset bytes passes o named)
     does-command process (SetEndOfFile file size) is passes = does-on_file (file_named x process file) (λ o. set_end o size) (λ o found. put-cut o size)
+    does-command process (WriteUnits file start contents) is passes = does-write (file_named x process file) start contents (λ o named asked. (is asked).2)
     does-command process (GetFileSizeEx file) is passes = does-on_file (file_named x process file) (λ o. get_size x.files o) (λ o found. put-sized o)
     does-command process (FlushFileBuffers file) is passes = does-on_file (file_named x process file) (λ o. flush_file) (λ o found. tt)
     does-command process (DeleteFile path) is passes = does-files None (delete_file x.files None path) (put-deleted None path)
@@ -400,7 +402,7 @@ module _ (Files : List Change → Type 0) (Keys : OwnSettings → Type 0) (Asked
         go (Some refusal) refused = does-reply x (Refused refusal)
         go None none = is (record { none = none })
 
-    pub does-decided : (process : Pid) (command : Command) → (Asked → IsCommand command) → Does x (decide x process command)
+    pub does-decided : (process : Pid) (command : Command) → (Asked → IsGiven command) → Does x (decide x process command)
     does-decided process command is = does-refuse_or ((not x.machine.is_up, MachineDown) ∷ command_tests x process command) (command_effect x process command) (λ passes. does-command process command is (passed passes).1)
 
     pub does-tick : (ms : ℕ) → Does x (decide_tick x ms)

@@ -8,7 +8,7 @@ use Rattle.ktm_base.specs.declared.id.Pid.{Pid}
 use Rattle.ktm_base.specs.declared.refusal.Refusal.{Refusal}
 use Rattle.ktm_base.specs.declared.refusal.Refusal.TheVariants.{MachineDown}
 use Rattle.ktm_types.specs.declared.command.Command.{Command}
-use Rattle.ktm_types.specs.declared.command.Command.TheVariants.{CreateTransaction, OpenTransaction, CommitTransaction, RollbackTransaction, GetTransactionInformation, CreateResourceManager, OpenResourceManager, RecoverResourceManager, GetNotificationResourceManager, CreateEnlistment, OpenEnlistment, RecoverEnlistment, PrePrepareComplete, PrepareComplete, ReadOnlyEnlistment, CommitComplete, RollbackComplete, SinglePhaseReject, RollbackEnlistment, PrePrepareEnlistment, PrepareEnlistment, CommitEnlistment, SetEnlistmentRecoveryInformation, GetEnlistmentRecoveryInformation, CreateFile, CreateFileTransacted, ReadFile, WriteFile, SetEndOfFile, GetFileSizeEx, FlushFileBuffers, DeleteFile, CreateDirectory, RemoveDirectory, MoveFile, DeleteFileTransacted, CreateDirectoryTransacted, RemoveDirectoryTransacted, MoveFileTransacted, FindFiles, FindFilesTransacted, KvSet, KvUnset, KvGet, KvList, CloseHandle, DuplicateHandle, Exit}
+use Rattle.ktm_types.specs.declared.command.Command.TheVariants.{CreateTransaction, OpenTransaction, CommitTransaction, RollbackTransaction, GetTransactionInformation, CreateResourceManager, OpenResourceManager, RecoverResourceManager, GetNotificationResourceManager, CreateEnlistment, OpenEnlistment, RecoverEnlistment, PrePrepareComplete, PrepareComplete, ReadOnlyEnlistment, CommitComplete, RollbackComplete, SinglePhaseReject, RollbackEnlistment, PrePrepareEnlistment, PrepareEnlistment, CommitEnlistment, SetEnlistmentRecoveryInformation, GetEnlistmentRecoveryInformation, CreateFile, CreateFileTransacted, ReadFile, WriteFile, SetEndOfFile, WriteUnits, GetFileSizeEx, FlushFileBuffers, DeleteFile, CreateDirectory, RemoveDirectory, MoveFile, DeleteFileTransacted, CreateDirectoryTransacted, RemoveDirectoryTransacted, MoveFileTransacted, FindFiles, FindFilesTransacted, KvSet, KvUnset, KvGet, KvList, CloseHandle, DuplicateHandle, Exit}
 use Rattle.ktm_types.specs.declared.event.Event.TheVariants.{MadeRm}
 use Rattle.ktm_types.specs.declared.object.Object.{Object}
 use Rattle.ktm_types.specs.declared.object.Transaction.{Transaction}
@@ -36,6 +36,7 @@ use Rattle.ktm_courses.specs.SoundCourse.{is_counted}
 use Rattle.ktm_records.proofs.offered.Agreement.{Agreed}
 use Rattle.ktm_records.proofs.offered.Agreement.{durable_ids}
 use Rattle.ktm_courses.proofs.offered.Calls.{Passes, enlistment-named, passed, transaction-named}
+use Rattle.ktm_courses.proofs.offered.FileSteps.{units-pass}
 use Rattle.ktm_records.proofs.CourseFacts.{facts-commit_complete, facts-commit_enlistment, facts-commit_of, facts-pre_prepare_complete, facts-pre_prepare_enlistment, facts-prepare_complete, facts-prepare_enlistment, facts-read_only, facts-recover, facts-rollback_complete, facts-rollback_enlistment, facts-rollback_of, facts-single_phase_reject}
 use Rattle.txf_laws.proofs.offered.Diamonds.{none-from}
 use Rattle.txf_laws.proofs.offered.Elements.{IsIn-filter, list_all-at}
@@ -171,8 +172,9 @@ module _ (lists : ListsLaw) (formed : FormedLaw) (x : Present) (kept : IsKept x)
       let o = create_file x.files (caller x process transaction) path access share disposition in
       facts-opening x process label (caller x process transaction) o (own process transaction _ o passes)
   facts-command process (ReadFile file offset many) none passes = answered-file (file_named x process file) (λ o. read_file x.files o offset many) (λ o. reads-nothing o offset many)
-  facts-command process (WriteFile file offset bytes) none passes = facts-write lists formed x kept.sound.files kept.agrees process file offset bytes passes
+  facts-command process (WriteFile file offset bytes) none passes = facts-write lists formed x kept.sound.files kept.agrees process file offset bytes (units-pass x process file offset bytes passes)
   facts-command process (SetEndOfFile file size) none passes = facts-set_end lists formed x kept.sound.files kept.agrees process file size passes
+  facts-command process (WriteUnits file start contents) none passes = facts-write lists formed x kept.sound.files kept.agrees process file start contents passes
   facts-command process (GetFileSizeEx file) none passes = answered-file (file_named x process file) (λ o. get_size x.files o) sizes-nothing
   facts-command process (FlushFileBuffers file) none passes = answered-file (file_named x process file) (λ o. flush_file) (λ o. refl)
   facts-command process (DeleteFile path) none passes = facts-plain lists formed x kept.sound.files kept.agrees (delete_file x.files None path) (plain-deleted lists formed x path (not x.machine.is_up, MachineDown) none kept.sound.files)

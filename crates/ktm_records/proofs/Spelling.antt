@@ -1,12 +1,12 @@
 -- What a machine records has bytes.
 use Rattle.std.specs.Prelude.{⊤}
-use Rattle.std.proofs.Common.{◌≡◌, ℕ, ◌+◌, ◌≤◌, ◌==◌, ◌&&◌, not, Bool, true, false, is_none, nat_le, List, [], ◌∷◌, filter, length, refl, sym, ◌∙◌, ap, arith, inl, inr, ◌++◌, length-append}
+use Rattle.std.proofs.Common.{◌≡◌, ℕ, ◌+◌, ◌≤◌, ◌==◌, ◌&&◌, not, Bool, true, false, is_none, nat_le, List, [], ◌∷◌, filter, length, refl, sym, subst, ◌∙◌, ap, arith, inl, inr, ◌++◌, length-append}
 use Rattle.std.proofs.lemmas.Bool.{cases_Bool, and_parts, leb-true, true≢false}
 use Rattle.std.proofs.lemmas.List.Elements.{All-from_recursion, recursion_from_All}
 use Rattle.std.specs.List.{AllByRecursion, flat_map, list_all}
 use Rattle.ktm_base.specs.declared.limits.TheConstants.{MOST_NUMBER, MOST_INFORMATION_BYTES}
 use Rattle.ktm_base.specs.declared.id.Id.{Id}
-use Rattle.ktm_event.specs.Spelling.{AreSpellableChanges, AreSpellableSettings, IsSpellableChange, IsSpellableDone, IsSpellableEvent, IsSpellableId, IsSpellablePart, IsSpellableRecord, IsSpellableSole}
+use Rattle.ktm_event.specs.Spelling.{AreSpellableChanges, AreSpellablePages, AreSpellableSettings, IsSpellableChange, IsSpellableDone, IsSpellableEvent, IsSpellableId, IsSpellablePart, IsSpellableRecord, IsSpellableSole}
 use Rattle.ktm_types.specs.declared.change.Change.{Change}
 use Rattle.ktm_types.specs.declared.change.Change.TheVariants.{Make, Put, Cut, Move, Drop}
 use Rattle.ktm_types.specs.declared.event.DonePart.{DonePart}
@@ -36,7 +36,7 @@ use Rattle.ktm_records.proofs.offered.DurableLimits.{limits-kept}
 use Rattle.txf_laws.proofs.offered.Elements.{list_all-at, list_any-at, length-filter-less}
 use Rattle.ktm_records.proofs.OwnEvents.{IsOwnEvent, IsSpelledPut}
 use Rattle.ktm_records.proofs.OwnRecords.{IsShortGroup, KeepsTexts, Owned, does-decided, does-tick}
-use Rattle.ktm_records.proofs.offered.OwnSizes.{spelled-name, spelled-owned}
+use Rattle.ktm_records.proofs.offered.OwnSizes.{no-pages, spelled-name, spelled-owned}
 use Rattle.ktm_records.proofs.OwnTexts.{grouped-texts, recorded-texts, restarted-texts, spelled-texts}
 use Rattle.ktm_records.proofs.offered.AgreementOfRollbacks.{is_undo}
 
@@ -60,7 +60,7 @@ none-in (p ∷ ps) is = absurd (true≢false (sym is))
 spelled-plain : (tree : Tree) (c : Change) → applies tree c ≡ true → IsSpelledPut c → IsSpellableChange c
 spelled-plain tree (Make node parent kind name) is put = spelled-name tree (Make node parent kind name) is refl
 spelled-plain tree (Put node offset contents) is put = put
-spelled-plain tree (Cut node size pages) is put = none-in pages (and_parts (is_file tree node) (is_empty_list pages) is).1
+spelled-plain tree (Cut node size pages) is put = subst AreSpellablePages (sym (none-in pages (and_parts (is_file tree node) (is_empty_list pages) is).1)) no-pages
 spelled-plain tree (Move node parent name) is put = spelled-name tree (Move node parent name) is refl
 spelled-plain tree (Drop node) is put = tt
 
@@ -75,7 +75,7 @@ spelled-record s enlistment manager information new named =
 
 -- what an event records of what a transaction has to commit, or puts, has bytes
 abbrev IsOwn : Event → Type 0
-IsOwn event = IsOwnEvent AreSpellableChanges AreSpellableSettings event
+IsOwn event = IsOwnEvent AreSpellableChanges AreSpellableSettings ⊤ event
 
 spelled-part : (s : Durable) (id : Id) (part : Part) → part_applies s id part ≡ true → list_all is_of_object (ids_in part) ≡ true → IsOwn (Ready id part) → IsSpellablePart part
 spelled-part s id (Enlistment enlistment manager information) is named own = spelled-record s enlistment manager information is named
@@ -96,7 +96,7 @@ spelled-done DonePart.Keys named = tt
 spelled-event : (s : Durable) (event : Event) → fact_applies s event ≡ true → names_objects event ≡ true → IsOwn event → IsSpellableEvent event
 spelled-event s (Boot boot) is named own = tt
 spelled-event s (MadeRm manager) is named own = (spelled-first manager [] named).0
-spelled-event s (Plain change) is named own = spelled-plain s.tree change (applied is) own
+spelled-event s (Plain change) is named own = spelled-plain s.tree change (applied is) (own tt)
   where
     applied : fact_applies s (Plain change) ≡ true → applies s.tree change ≡ true
     applied facts =
@@ -195,18 +195,18 @@ spelled-restart s good =
 
 -- ---- all of it
 
-module _ (Files : List Change → Type 0) (Keys : OwnSettings → Type 0) where
-  few-group : (s : Durable) (events : List Event) → is_within_limits s ≡ true → facts_apply s events ≡ true → IsShortGroup Files Keys events → length events ≤ most_at_once
+module _ (Files : List Change → Type 0) (Keys : OwnSettings → Type 0) (Asked : Type 0) where
+  few-group : (s : Durable) (events : List Event) → is_within_limits s ≡ true → facts_apply s events ≡ true → IsShortGroup Files Keys Asked events → length events ≤ most_at_once
   few-group s events limits is (inl undos) = let few = few-undos events s is undos in let most = (limits-kept s limits).transactions in omega (arith, few, most)
   few-group s events limits is (inr short) = omega (arith, short.1)
 
-own-group : (events : List Event) → IsShortGroup AreSpellableChanges AreSpellableSettings events → AllByRecursion IsOwn events
+own-group : (events : List Event) → IsShortGroup AreSpellableChanges AreSpellableSettings ⊤ events → AllByRecursion IsOwn events
 own-group events (inl undos) = own-undos events undos
 own-group events (inr short) = short.0
 
-spelled-group : (s : Durable) (events : List Event) → is_within_limits s ≡ true → facts_apply s events ≡ true → list_all names_objects events ≡ true → IsShortGroup AreSpellableChanges AreSpellableSettings events → AreSpelled events
+spelled-group : (s : Durable) (events : List Event) → is_within_limits s ≡ true → facts_apply s events ≡ true → list_all names_objects events ≡ true → IsShortGroup AreSpellableChanges AreSpellableSettings ⊤ events → AreSpelled events
 spelled-group s events limits is named group =
-    (All-from_recursion IsSpellableEvent events (spelled-events events s is named (own-group events group)), few-group AreSpellableChanges AreSpellableSettings s events limits is group)
+    (All-from_recursion IsSpellableEvent events (spelled-events events s is named (own-group events group)), few-group AreSpellableChanges AreSpellableSettings ⊤ s events limits is group)
 
 -- of a transaction nothing is asked
 free : (x : Present) → Owned (λ changes. ⊤) (λ settings. ⊤) x
@@ -227,10 +227,10 @@ spelling_law named facts = record {
       spelled-group x.recorded (decide_tick x ms).events kept.good.limits (facts.ticks x ms kept) (named.ticks x ms kept.sound.course)
       (does-tick AreSpellableChanges AreSpellableSettings ⊤ x (spelled-owned x kept texts units) ms).group;
   few = λ x process command kept.
-      few-group (λ changes. ⊤) (λ settings. ⊤) x.recorded (decide x process command).events kept.good.limits (facts.commands x process command kept)
+      few-group (λ changes. ⊤) (λ settings. ⊤) ⊥ x.recorded (decide x process command).events kept.good.limits (facts.commands x process command kept)
       (does-decided (λ changes. ⊤) (λ settings. ⊤) ⊥ x (free x) process command (λ none. absurd none)).group;
   few_later = λ x ms kept.
-      few-group (λ changes. ⊤) (λ settings. ⊤) x.recorded (decide_tick x ms).events kept.good.limits (facts.ticks x ms kept) (does-tick (λ changes. ⊤) (λ settings. ⊤) ⊥ x (free x) ms).group;
+      few-group (λ changes. ⊤) (λ settings. ⊤) ⊥ x.recorded (decide_tick x ms).events kept.good.limits (facts.ticks x ms kept) (does-tick (λ changes. ⊤) (λ settings. ⊤) ⊥ x (free x) ms).group;
   stay = λ x process command is. kept-texts x (decide x process command) ((does-decided (λ changes. ⊤) (λ settings. ⊤) ⊤ x (free x) process command (λ asked. is)).texts tt);
   stay_later = λ x ms. kept-texts x (decide_tick x ms) ((does-tick (λ changes. ⊤) (λ settings. ⊤) ⊤ x (free x) ms).texts tt);
   restarts = restarted-texts;

@@ -4,7 +4,7 @@ use Rattle.ktm_base.specs.declared.id.Id.{Id}
 use Rattle.ktm_base.specs.declared.id.Pid.{Pid}
 use Rattle.ktm_types.specs.declared.change.Change.{Change}
 use Rattle.ktm_types.specs.declared.command.Command.{Command}
-use Rattle.ktm_types.specs.declared.command.Command.TheVariants.{CreateFile, CreateFileTransacted, ReadFile, WriteFile, SetEndOfFile, GetFileSizeEx, FlushFileBuffers, DeleteFile, CreateDirectory, RemoveDirectory, MoveFile, DeleteFileTransacted, CreateDirectoryTransacted, RemoveDirectoryTransacted, MoveFileTransacted, FindFiles, FindFilesTransacted}
+use Rattle.ktm_types.specs.declared.command.Command.TheVariants.{CreateFile, CreateFileTransacted, ReadFile, WriteFile, SetEndOfFile, WriteUnits, GetFileSizeEx, FlushFileBuffers, DeleteFile, CreateDirectory, RemoveDirectory, MoveFile, DeleteFileTransacted, CreateDirectoryTransacted, RemoveDirectoryTransacted, MoveFileTransacted, FindFiles, FindFilesTransacted}
 use Rattle.ktm_types.specs.declared.object.Transaction.{Transaction}
 use Rattle.ktm_world.specs.Changes.{applies, is_make, node_of}
 use Rattle.ktm_world.specs.Decide.{caller, refusal_of}
@@ -35,6 +35,7 @@ file_call x process (CreateFileTransacted label path access share disposition tr
 file_call x process (ReadFile file offset many) = on_open (file_named x process file) (λ o. read_file x.files o offset many)
 file_call x process (WriteFile file offset bytes) = on_open (file_named x process file) (λ o. write_file o offset bytes)
 file_call x process (SetEndOfFile file size) = on_open (file_named x process file) (λ o. set_end o size)
+file_call x process (WriteUnits file start contents) = on_open (file_named x process file) (λ o. write_file o start contents)
 file_call x process (GetFileSizeEx file) = on_open (file_named x process file) (λ o. get_size x.files o)
 file_call x process (FlushFileBuffers file) = on_open (file_named x process file) (λ o. flush_file)
 file_call x process (DeleteFile path) = Some (None, delete_file x.files None path)

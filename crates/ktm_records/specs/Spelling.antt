@@ -8,7 +8,7 @@ use Rattle.ktm_types.specs.declared.command.Command.{Command}
 use Rattle.ktm_types.specs.declared.event.Event.{Event}
 use Rattle.ktm_types.specs.declared.event.Event.TheVariants.{Ready, Single}
 use Rattle.ktm_types.specs.EventGrammar.{IsEventOf, IsGroupOf}
-use Rattle.ktm_types.specs.Values.{IsCommand, IsText}
+use Rattle.ktm_types.specs.Values.{IsGiven, IsText}
 use Rattle.ktm_world.specs.Decide.{decide}
 use Rattle.ktm_world.specs.Durable.{Durable, Recorded, after_event, after_events, settings_in, settings_of, stand}
 use Rattle.ktm_world.specs.Keys.{Own, OwnSettings, Store}
@@ -55,7 +55,7 @@ AreSpelled events = All IsSpellableEvent events × (length events ≤ most_at_on
 -- restart, for each event that stands in bytes leaves those of a log texts
 pub record SpellingLaw : Type 0 where
   -- by a command
-  pub commands : (x : Present) (process : Pid) (command : Command) → IsKept x → AreTexts x → x.recorded.units ≤ MOST_UNITS → IsCommand command → AreSpelled (decide x process command).events
+  pub commands : (x : Present) (process : Pid) (command : Command) → IsKept x → AreTexts x → x.recorded.units ≤ MOST_UNITS → IsGiven command → AreSpelled (decide x process command).events
   -- by the passing of time
   pub ticks : (x : Present) (ms : ℕ) → IsKept x → AreTexts x → x.recorded.units ≤ MOST_UNITS → AreSpelled (decide_tick x ms).events
   -- whatever its keys are, a command records few events
@@ -63,7 +63,7 @@ pub record SpellingLaw : Type 0 where
   -- the passing of time records few events
   pub few_later : (x : Present) (ms : ℕ) → IsKept x → length (decide_tick x ms).events ≤ most_at_once
   -- the keys stay texts by a command
-  pub stay : (x : Present) (process : Pid) (command : Command) → IsCommand command → AreTexts x → AreTexts (apply x (decide x process command))
+  pub stay : (x : Present) (process : Pid) (command : Command) → IsGiven command → AreTexts x → AreTexts (apply x (decide x process command))
   -- the keys stay texts by the passing of time
   pub stay_later : (x : Present) (ms : ℕ) → AreTexts x → AreTexts (apply x (decide_tick x ms))
   -- the keys are texts after a restart

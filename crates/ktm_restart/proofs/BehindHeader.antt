@@ -1,6 +1,6 @@
 -- What the loading of a log says of a load, which reads the header and the snapshot before it.
-use Rattle.std.specs.Prelude.{IfSome}
-use Rattle.std.proofs.Common.{◌≡◌, ℕ, ◌+◌, ◌≤◌, Bool, false, true, Result, Ok, Err, Option, Vec, refl, sym, ◌∙◌, subst, arith}
+use Rattle.std.specs.Prelude.{IfOk, IfSome}
+use Rattle.std.proofs.Common.{◌≡◌, ℕ, ◌+◌, ◌≤◌, Bool, false, true, List, Result, Ok, Err, Option, None, Some, Vec, refl, sym, ◌∙◌, ap, subst, arith}
 use Rattle.ktm_base.specs.Disk.{DiskState, DiskStatus, OnlyReads}
 use Rattle.ktm_base.proofs.offered.Images.{calls_law}
 use Rattle.ktm_journal.specs.Bad.{HasNoHeader, load_went_down}
@@ -15,11 +15,16 @@ use Rattle.ktm_world.specs.Durable.{Durable}
 use Rattle.ktm_restart.specs.declared.replay.Loaded.{Loaded}
 use Rattle.ktm_restart.specs.Loads.{FaultLeaves, IsLoaded, KnowsState, LoadLeaves}
 use Rattle.ktm_restart.specs.Bad.{IsBadAt, IsBadSnapshot}
-use Rattle.ktm_restart.specs.Starts.{IsAtStart}
-use Rattle.ktm_restart.specs.Logs.{StandsFor}
+use Rattle.ktm_restart.specs.Starts.{IsAtStart, IsReadingOf, ReadsReading}
+use Rattle.ktm_restart.specs.Logs.{IsOnPages, PagedFor}
 use Rattle.ktm_restart.proofs.LogLoads.{bad_snapshot, good_snapshot, headless_told, no_snapshot}
-use Rattle.ktm_saved.specs.Saved.{IsSaved, state_of}
+use Rattle.ktm_restart.specs.Reading.{IsReadWell, ReadingState, ReadsOn}
+use Rattle.ktm_restart.proofs.offered.OneState.{one_first}
+use Rattle.ktm_records.specs.Spelling.{AreRecordedTexts}
+use Rattle.ktm_saved.specs.Saved.{IsSaved, ReadsSaved, state_of}
 use Rattle.ktm_saved.specs.declared.saved.Saved.{Saved}
+use Rattle.ktm_snapshot.specs.Laws.{OneStateAtMost}
+use Rattle.ktm_snapshot.specs.StateGrammar.{IsStateOf}
 
 -- something was read before, and the disk is still up
 module _ {Z : Type 0} (old mid new : OnDisk (Vec ℕ Z)) (first then most : ℕ) (before : WasRead first old mid) (few : first + then ≤ most) where
@@ -41,7 +46,7 @@ module _ {Z : Type 0} (old mid new : OnDisk (Vec ℕ Z)) (first then most : ℕ)
     state = is.state;
     journal = is.journal;
     room = is.room;
-    stands = subst (λ x. IfSome x (λ s. StandsFor loaded.state s.seen)) before.reads.reads.same is.stands;
+    stands = subst (λ x. IfSome x (λ s. PagedFor loaded.state s.seen)) before.reads.reads.same is.stands;
     headed = is.headed;
     knows = subst (λ x. KnowsState x new.told loaded.journal) before.reads.reads.same is.knows;
     read = read_behind is.read;
@@ -77,12 +82,15 @@ module _ {Z : Type 0} (buffer : Vec ℕ Z) (o m : Option DiskState) (s t : DiskS
 
 -- the snapshot was read behind this header, or was not
 module _ {Z : Type 0} (header : Header) (old new : OnDisk (Vec ℕ Z)) (headed : IfSome old.told (λ s. IsHeaded header.units header.image header.selector s.seen)) where
-  pub started : IsSnapshotRead header old new → (saved : Saved) → IsSaved header.units header.image new.it.items saved → (state : Durable) → state ≡ state_of header.units header.image saved → IsAtStart header old new state
-  started is saved good state same = subst (λ (s : Durable). IsAtStart header old new s) (sym same) (record {
-    of_header = record { units = refl; image = refl; good = good.good; texts = good.texts };
-    begins = good_snapshot header old.told headed (state_of header.units header.image saved) new.it.items refl refl good.spelled good.good is.snapshot;
+  pub started : IsSnapshotRead header old new → (r : ReadingState) → IsReadingOf header.units header.image new.it.items r → IsAtStart header old new r
+  started is r of = record {
+    reading = record {
+      of_header = record { units = of.units_are; image = of.number; good = of.well.good; on_pages = of.on_pages; texts = of.texts };
+      well = of.well;
+    };
+    begins = good_snapshot header old.told headed r.state new.it.items of.units_are of.number of.spelled of.well.good of.on_pages is.snapshot;
     read = is.read;
-  })
+  }
 
   pub not_started : (offset : ℕ) → IsSnapshotRead header old new → IsBadSnapshot header.units header.image new.it.items → offset ≡ (snapshot_area header.units (half_of header.selector)).at → FaultLeaves 2 old new (Bad offset)
   not_started offset is bad at = record { bad = bad_snapshot header old.told headed offset new.it.items bad is.snapshot at; read = is.read }
@@ -91,3 +99,28 @@ module _ {Z : Type 0} (header : Header) (old new : OnDisk (Vec ℕ Z)) (headed :
   unread Down read = read
   unread (Bad offset) is = record { bad = no_snapshot header old.told headed offset is.none is.at; read = is.read }
   unread NoMemory short = reads_most 0 2 old new (omega arith) false short.reads
+
+-- a good state that was saved is read, if it is on pages
+module _ (units image : ℕ) (bytes : List ℕ) (saved : Saved) (is : IsSaved units image bytes saved) where
+  read_on : (r : ReadingState) → r.state ≡ state_of units image saved → IsOnPages r.state → IsReadWell r → IsReadingOf units image bytes r
+  read_on r same on_pages well = record {
+    units_are = ap (λ (s : Durable). s.units) same;
+    number = ap (λ (s : Durable). s.image) same;
+    spelled = subst (λ (s : Durable). IsStateOf s bytes) (sym same) is.spelled;
+    on_pages = on_pages;
+    texts = subst AreRecordedTexts (sym same) is.texts;
+    well = well;
+  }
+
+  read_off : OneStateAtMost → ¬ IsOnPages (state_of units image saved) → IsBadSnapshot units image bytes
+  read_off law off s units_are image_is spelled good on_pages =
+      off (subst IsOnPages (one_first law s (state_of units image saved) bytes units_are image_is spelled is.spelled) on_pages)
+
+  pub reads_reading : {E : Type 0} → OneStateAtMost → (r : Result (Option ReadingState) E) → IfOk r (ReadsOn (state_of units image saved)) → IfOk r (λ read. ReadsReading units image bytes read)
+  reads_reading law (Ok (Some reading)) on = read_on reading on.0 on.1 on.2
+  reads_reading law (Ok None) off = read_off law off
+  reads_reading law (Err e) none = tt
+
+-- where no good state stands there, no good state on pages does
+pub none_saved : (units image : ℕ) (bytes : List ℕ) → ReadsSaved units image bytes None → IsBadSnapshot units image bytes
+none_saved units image bytes none s units_are image_is spelled good on_pages = none s units_are image_is spelled good

@@ -1,16 +1,17 @@
 -- Payloads that are read as groups, one after another.
-use Rattle.std.proofs.Common.{◌≡◌, ℕ, ◌+◌, ◌≤◌, IsTrue, None, Some, List, [], ◌∷◌, ◌++◌, length, drop, refl, sym, ◌∙◌, ap, subst, arith, append_assoc, length-drop}
+use Rattle.std.proofs.Common.{◌≡◌, ℕ, ◌+◌, ◌≤◌, None, Some, List, [], ◌∷◌, ◌++◌, length, drop, refl, sym, ◌∙◌, ap, subst, arith, append_assoc, length-drop}
 use Rattle.std.proofs.lemmas.List.{append-nil, drop-drop}
-use Rattle.std.proofs.lemmas.Bool.{and_from}
 use Rattle.ktm_log.specs.Log.{end_of, first_payload, payloads_in}
 use Rattle.ktm_log.proofs.Frames.{end_of-push}
 use Rattle.ktm_log.proofs.Payloads.{payloads_first, payloads_none}
 use Rattle.ktm_world.specs.Logs.{Group}
-use Rattle.ktm_world.specs.Durable.{Durable, after_events, events_apply}
+use Rattle.ktm_world.specs.Durable.{Durable}
 use Rattle.ktm_types.specs.EventGrammar.{IsGroupOf}
-use Rattle.ktm_world.proofs.offered.Durables.{stand-append, log_applies-append}
+use Rattle.ktm_paged.specs.Paged.{paged_after_all}
 use Rattle.ktm_restart.specs.Bad.{IsBadPayload}
+use Rattle.ktm_restart.specs.Logs.{AppliesTo}
 use Rattle.ktm_restart.specs.Payloads.{ComesTo, IsFirstBad}
+use Rattle.ktm_restart.proofs.PagedLogs.{next-applies, paged-append}
 use Rattle.ktm_journal.proofs.offered.Images.{groups-push}
 
 -- so far the payloads come to this state, and the others are those of the bytes from here on
@@ -22,7 +23,7 @@ pub record Folded (first : Durable) (bytes : List ℕ) (at : ℕ) (state : Durab
   pub end : at ≡ end_of before
 
 pub folded_none : (first : Durable) (bytes : List ℕ) → Folded first bytes 0 first
-folded_none first bytes = record { inside = omega arith; before = []; split = refl; good = record { log = []; groups = tt; applies = refl; is = refl }; end = refl }
+folded_none first bytes = record { inside = omega arith; before = []; split = refl; good = record { log = []; groups = tt; applies = tt; is = refl }; end = refl }
 
 module _ (first : Durable) (bytes : List ℕ) (at : ℕ) (state : Durable) (folded : Folded first bytes at state) where
   module _ (payload : List ℕ) (next : first_payload (drop at bytes) ≡ Some payload) where
@@ -33,7 +34,7 @@ module _ (first : Durable) (bytes : List ℕ) (at : ℕ) (state : Durable) (fold
         ∙ ap (λ (l : List ℕ). folded.before ++ payload ∷ payloads_in l) (drop-drop (length payload + 5) at bytes)
 
     pub folded_more : (new : Durable) → length payload + 6 ≤ length (drop at bytes)
-        → ((events : Group) × IsGroupOf events payload × IsTrue (events_apply state events) × (new ≡ after_events state events)) → Folded first bytes (at + (length payload + 5)) new
+        → ((events : Group) × IsGroupOf events payload × AppliesTo state events × (new ≡ paged_after_all state events)) → Folded first bytes (at + (length payload + 5)) new
     folded_more new fits (events, group, applied, after) =
         let good = folded.good in
         record {
@@ -43,8 +44,8 @@ module _ (first : Durable) (bytes : List ℕ) (at : ℕ) (state : Durable) (fold
           good = record {
             log = good.log ++ events ∷ [];
             groups = groups-push good.log folded.before events payload good.groups group;
-            applies = log_applies-append first good.log (events ∷ []) ∙ and_from _ _ good.applies (and_from _ _ (ap (λ (s : Durable). events_apply s events) (sym good.is) ∙ applied) refl);
-            is = after ∙ ap (λ (s : Durable). after_events s events) good.is ∙ sym (stand-append first good.log (events ∷ []));
+            applies = next-applies first state good.log events good.is good.applies applied;
+            is = after ∙ ap (λ (s : Durable). paged_after_all s events) good.is ∙ sym (paged-append first good.log (events ∷ []));
           };
           end = omega (arith, folded.end, end_of-push folded.before payload);
         }

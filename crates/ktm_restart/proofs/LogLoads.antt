@@ -8,7 +8,6 @@ use Rattle.ktm_log.proofs.Frames.{begins-split}
 use Rattle.ktm_log.proofs.Steps.{IfSome-both}
 use Rattle.ktm_world.specs.Logs.{Group}
 use Rattle.ktm_world.specs.Durable.{Durable}
-use Rattle.ktm_world.proofs.offered.Durables.{stand-units, stand-image}
 use Rattle.ktm_journal.specs.Image.{HasSnapshot, IsHeaded, IsImage, JournalAt, JournalState, half_of, log_area, snapshot_area}
 use Rattle.ktm_journal.specs.Bad.{HasNoHeader, HasNoSnapshot}
 use Rattle.ktm_journal.specs.declared.header.Header.{Header}
@@ -17,23 +16,24 @@ use Rattle.ktm_journal.proofs.offered.Images.{counted_at}
 use Rattle.ktm_journal.proofs.offered.OneImage.{one_header, one_snapshot}
 use Rattle.ktm_snapshot.specs.StateGrammar.{IsStateOf}
 use Rattle.ktm_states.specs.GoodState.{IsGoodState}
-use Rattle.ktm_restart.specs.Logs.{JournalFor, StandsFor}
+use Rattle.ktm_restart.specs.Logs.{IsOnPages, JournalFor, PagedFor}
 use Rattle.ktm_restart.specs.Bad.{BeginsAs, IsBadAt, IsBadPayload, IsBadSnapshot}
 use Rattle.ktm_restart.specs.Loads.{KnowsState}
 use Rattle.ktm_restart.specs.Payloads.{ComesTo, IsFirstBad}
+use Rattle.ktm_restart.proofs.PagedLogs.{paged-image, paged-units}
 
 module _ (first : Durable) (payloads : List (List ℕ)) (state : Durable) (comes : ComesTo first payloads state) where
   pub comes_to_units : state.units ≡ first.units
-  comes_to_units = ap (λ (s : Durable). s.units) comes.is ∙ stand-units first comes.log
+  comes_to_units = ap (λ (s : Durable). s.units) comes.is ∙ paged-units first comes.log
 
   pub comes_to_image : state.image ≡ first.image
-  comes_to_image = ap (λ (s : Durable). s.image) comes.is ∙ stand-image first comes.log
+  comes_to_image = ap (λ (s : Durable). s.image) comes.is ∙ paged-image first comes.log
 
 module _ (units image selector : ℕ) (first : Durable) where
   abbrev log_in : List ℕ → List ℕ
   log_in bytes = area_bytes (log_area units (half_of selector)) bytes
 
-  stands : (payloads : List (List ℕ)) (state : Durable) (bytes : List ℕ) → ComesTo first payloads state → BeginsAs units image selector first bytes → IsLog payloads (log_in bytes) → StandsFor state bytes
+  stands : (payloads : List (List ℕ)) (state : Durable) (bytes : List ℕ) → ComesTo first payloads state → BeginsAs units image selector first bytes → IsLog payloads (log_in bytes) → PagedFor state bytes
   stands payloads state bytes comes begins log =
       let is : IsImage units image begins.snapshot comes.log bytes = record { selector = selector; formatted = begins.formatted; payloads = payloads; groups = comes.groups; frames = log } in
       let units_are = sym (comes_to_units first payloads state comes ∙ begins.units_are) in
@@ -42,7 +42,7 @@ module _ (units image selector : ℕ) (first : Durable) where
         snapshot = begins.snapshot;
         log = comes.log;
         is = subst (λ u. IsImage u state.image begins.snapshot comes.log bytes) units_are (subst (λ i. IsImage units i begins.snapshot comes.log bytes) image_is is);
-        come = record { first = first; spelled = begins.spelled; good = begins.good; applies = comes.applies; is = comes.is };
+        come = record { first = first; spelled = begins.spelled; good = begins.good; on_pages = begins.on_pages; applies = comes.applies; is = comes.is };
       }
 
   bad_payload : (payloads : List (List ℕ)) (offset : ℕ) (bytes : List ℕ) → IsFirstBad first (log_area units (half_of selector)).at payloads offset → BeginsAs units image selector first bytes → BeginsWith payloads (log_in bytes) → IsBadAt bytes offset
@@ -86,9 +86,9 @@ module _ (units image selector : ℕ) (first : Durable) where
 
   -- where the bytes are told
   module _ (o : Option DiskState) (begins : IfSome o (λ s. BeginsAs units image selector first s.seen)) where
-    pub stands_told : (payloads : List (List ℕ)) (state : Durable) → ComesTo first payloads state → IfSome o (λ s. IsLog payloads (log_in s.seen)) → IfSome o (λ s. StandsFor state s.seen)
+    pub stands_told : (payloads : List (List ℕ)) (state : Durable) → ComesTo first payloads state → IfSome o (λ s. IsLog payloads (log_in s.seen)) → IfSome o (λ s. PagedFor state s.seen)
     stands_told payloads state comes log =
-        IfSome-both (λ (s : DiskState). BeginsAs units image selector first s.seen) (λ (s : DiskState). IsLog payloads (log_in s.seen)) (λ (s : DiskState). StandsFor state s.seen) o begins log
+        IfSome-both (λ (s : DiskState). BeginsAs units image selector first s.seen) (λ (s : DiskState). IsLog payloads (log_in s.seen)) (λ (s : DiskState). PagedFor state s.seen) o begins log
         (λ s b l. stands payloads state s.seen comes b l)
 
     pub bad_payload_told : (payloads : List (List ℕ)) (offset : ℕ) → IsFirstBad first (log_area units (half_of selector)).at payloads offset → IfSome o (λ s. BeginsWith payloads (log_in s.seen)) → IfSome o (λ s. IsBadAt s.seen offset)
@@ -106,13 +106,13 @@ module _ (units image selector : ℕ) (first : Durable) where
 
 -- the journal is that of whatever state the disk stands for
 module _ (header : Header) (j : JournalState) (units : j.units ≡ header.units) (image : j.image ≡ header.image) where
-  journal_for : (state : Durable) (s : DiskState) (n : Option DiskState) → (stands : StandsFor state s.seen) → IsHeaded header.units header.image header.selector s.seen → IsSomeAnd n (JournalAt j stands.snapshot stands.log) → IsSomeAnd n (JournalFor j state)
+  journal_for : (state : Durable) (s : DiskState) (n : Option DiskState) → (stands : PagedFor state s.seen) → IsHeaded header.units header.image header.selector s.seen → IsSomeAnd n (JournalAt j stands.snapshot stands.log) → IsSomeAnd n (JournalFor j state)
   journal_for state s None stands headed at = absurd at
   journal_for state s (Some t) stands headed at =
       let (units_are, image_is, selector_is) = one_header state.units header.units state.image header.image stands.is.selector header.selector s.seen stands.is.formatted.headed headed in
       record { units = units_are ∙ sym units; image = image_is ∙ sym image; snapshot = stands.snapshot; log = stands.log; at = at; come = stands.come }
 
-  of_header : (state : Durable) (s : DiskState) (stands : StandsFor state s.seen) → IsHeaded header.units header.image header.selector s.seen → IsImage header.units header.image stands.snapshot stands.log s.seen
+  of_header : (state : Durable) (s : DiskState) (stands : PagedFor state s.seen) → IsHeaded header.units header.image header.selector s.seen → IsImage header.units header.image stands.snapshot stands.log s.seen
   of_header state s stands headed =
       let (units_are, image_is, selector_is) = one_header state.units header.units state.image header.image stands.is.selector header.selector s.seen stands.is.formatted.headed headed in
       subst (λ u. IsImage u header.image stands.snapshot stands.log s.seen) units_are (subst (λ i. IsImage state.units i stands.snapshot stands.log s.seen) image_is stands.is)
@@ -143,7 +143,7 @@ module _ (header : Header) (o : Option DiskState) (headed : IfSome o (λ s. IsHe
       (λ (s : DiskState). IsBadAt s.seen offset) o headed bad
       (λ s h b. inr (inl (header.units, header.image, header.selector, record { headed = h; bad = b }, at)))
 
-  -- the snapshot is that of no good state
+  -- the snapshot is that of no good state on pages
   pub bad_snapshot : (offset : ℕ) (snapshot : List ℕ) → IsBadSnapshot header.units header.image snapshot → IfSome o (λ s. HasSnapshot header.units (half_of header.selector) snapshot s.seen)
       → offset ≡ (snapshot_area header.units (half_of header.selector)).at → IfSome o (λ s. IsBadAt s.seen offset)
   bad_snapshot offset snapshot bad has at =
@@ -160,10 +160,10 @@ module _ (header : Header) (o : Option DiskState) (headed : IfSome o (λ s. IsHe
       (λ (s : DiskState). (other : List ℕ) → HasSnapshot header.units (half_of header.selector) other s.seen → IsBadSnapshot header.units header.image other) none
       (λ s n other there. absurd (n other there))) at
 
-  -- it is that of a good state
-  pub good_snapshot : (state : Durable) (snapshot : List ℕ) → state.units ≡ header.units → state.image ≡ header.image → IsStateOf state snapshot → IsGoodState state
+  -- it is that of a good state on pages
+  pub good_snapshot : (state : Durable) (snapshot : List ℕ) → state.units ≡ header.units → state.image ≡ header.image → IsStateOf state snapshot → IsGoodState state → IsOnPages state
       → IfSome o (λ s. HasSnapshot header.units (half_of header.selector) snapshot s.seen) → IfSome o (λ s. BeginsAs header.units header.image header.selector state s.seen)
-  good_snapshot state snapshot units image spelled good has =
+  good_snapshot state snapshot units image spelled good on_pages has =
       IfSome-both (λ (s : DiskState). IsHeaded header.units header.image header.selector s.seen) (λ (s : DiskState). HasSnapshot header.units (half_of header.selector) snapshot s.seen)
       (λ (s : DiskState). BeginsAs header.units header.image header.selector state s.seen) o headed has
-      (λ s h there. record { units_are = units; number = image; snapshot = snapshot; formatted = record { headed = h; has = there }; spelled = spelled; good = good })
+      (λ s h there. record { units_are = units; number = image; snapshot = snapshot; formatted = record { headed = h; has = there }; spelled = spelled; good = good; on_pages = on_pages })

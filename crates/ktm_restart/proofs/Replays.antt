@@ -18,6 +18,10 @@ use Rattle.ktm_restart.specs.Loads.{FaultLeaves, IsBadImage, IsLoaded}
 use Rattle.ktm_restart.specs.Starts.{IsOfHeader, IsReplayed}
 use Rattle.ktm_restart.proofs.LogLoads.{bad_payload_told, counted_for, headed_told, knows_told, stands_told, torn_told}
 
+-- one state in the place of another
+pub replayed-as : {Z : Type 0} (header : Header) (a b : Durable) (old new : OnDisk (Vec ℕ Z)) (journal : JournalState) → a ≡ b → IsReplayed header a old new journal → IsReplayed header b old new journal
+replayed-as header a b old new journal same is = subst (λ (s : Durable). IsReplayed header s old new journal) same is
+
 -- the disk has an image with this header, which begins with the snapshot of this state
 module _ {Z : Type 0} (header : Header) (first : Durable) (old new : OnDisk (Vec ℕ Z)) (begins : IfSome old.told (λ s. BeginsAs header.units header.image header.selector first s.seen)) where
   abbrev payloads : List (List ℕ)
@@ -85,6 +89,7 @@ module _ {Z : Type 0} (header : Header) (first : Durable) (old new : OnDisk (Vec
           most = omega (arith, units);
           number = omega (arith, image);
           good = replayed.of_header.good;
+          on_pages = replayed.of_header.on_pages;
           texts = replayed.of_header.texts;
         };
         journal = record {

@@ -1,7 +1,7 @@
 -- What the loading of an image leaves, by its answer.
 use Rattle.std.specs.Prelude.{◌≡◌, ℕ, ◌^◌, ◌<◌, ◌≤◌, true, false, Result, Ok, Err, Vec, vec_capacity, IfSome, IsSomeAnd, Option}
 use Rattle.ktm_base.specs.declared.limits.TheConstants.{LEAST_UNITS, MOST_UNITS}
-use Rattle.ktm_base.specs.Disk.{DiskState}
+use Rattle.ktm_base.specs.Disk.{DiskState, IsSafe}
 use Rattle.ktm_journal.specs.declared.fault.LoadFault.{LoadFault}
 use Rattle.ktm_journal.specs.declared.fault.LoadFault.TheVariants.{Down, Bad, NoMemory}
 use Rattle.ktm_journal.specs.Image.{IsHeaded, JournalState, half_of, log_area}
@@ -11,14 +11,15 @@ use Rattle.ktm_states.specs.GoodState.{IsGoodState}
 use Rattle.ktm_world.specs.Durable.{Durable}
 use Rattle.ktm_restart.specs.declared.replay.Loaded.{Loaded}
 use Rattle.ktm_restart.specs.Bad.{IsBadAt}
-use Rattle.ktm_restart.specs.Logs.{IsSafeFor, JournalFor, StandsFor}
+use Rattle.ktm_restart.specs.Logs.{IsOnPages, JournalFor, PagedFor}
 
--- a machine may start from this state, unless it is worn; its numbers are those of an image
+-- a machine may start from this state over the places of bytes, unless it is worn; its numbers are those of an image
 pub record MayStart (state : Durable) : Type 0 where
   pub least : LEAST_UNITS ≤ state.units
   pub most : state.units ≤ MOST_UNITS
   pub number : state.image < 2 ^ 16
   pub good : IsGoodState state
+  pub on_pages : IsOnPages state
   pub texts : AreRecordedTexts state
 
 -- the journal is that of the state's image, and has counted its events
@@ -29,16 +30,16 @@ pub record IsJournalOf (state : Durable) (journal : JournalState) : Type 0 where
   pub inside : journal.log.end < journal.log.area.len
   pub counted : journal.events ≡ state.events
 
--- whatever state a safe disk stands for is that of this journal
+-- whatever state over the places of bytes a safe disk has is that of this journal
 abbrev pub KnowsState : Option DiskState → Option DiskState → JournalState → Type 0
-KnowsState old new journal = (state : Durable) → IsSomeAnd old (IsSafeFor state) → IsSomeAnd new (JournalFor journal state)
+KnowsState old new journal = (state : Durable) → IsSomeAnd old (λ s. IsSafe s × PagedFor state s.seen) → IsSomeAnd new (JournalFor journal state)
 
--- the image of the disk stands for this state and for no other, and has this journal, and the buffer has room for whatever its log has room for
+-- the image of the disk comes to this state over the places of bytes and to no other, and has this journal, and the buffer has room for whatever its log has room for
 pub record IsLoaded {Z : Type 0} (most : ℕ) (old new : OnDisk (Vec ℕ Z)) (loaded : Loaded) : Type 0 where
   pub state : MayStart loaded.state
   pub journal : IsJournalOf loaded.state loaded.journal
   pub room : loaded.journal.log.area.len ≤ vec_capacity new.it
-  pub stands : IfSome old.told (λ s. StandsFor loaded.state s.seen)
+  pub stands : IfSome old.told (λ s. PagedFor loaded.state s.seen)
   pub headed : IfSome new.told (λ s. IsHeaded loaded.journal.units loaded.journal.image loaded.journal.selector s.seen)
   pub knows : KnowsState old.told new.told loaded.journal
   pub read : WasRead most old new

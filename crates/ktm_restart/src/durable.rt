@@ -1,26 +1,20 @@
 // The durable state in memory, as its users see it.
-ghost use Rattle.std.specs.Prelude.{◌≡◌, ℕ, ◌+◌, ◌-◌, ◌^◌, ◌<◌, ◌≤◌, List, [], ◌∷◌, ◌++◌, Ok, true, All, IfOk, IsOk, length, sum_by};
+ghost use Rattle.std.specs.Prelude.{◌≡◌, ℕ, ◌+◌, ◌-◌, ◌^◌, ◌<◌, ◌≤◌, List, [], ◌∷◌, ◌++◌, All, length, sum_by};
 ghost use Rattle.ktm_event.specs.Kept.{Holds};
 ghost use Rattle.ktm_event.specs.Spelling.{IsSpellableEvent};
-ghost use Rattle.ktm_saved.specs.Saved.{state_of};
 ghost use Rattle.ktm_types.specs.declared.event.Event.{Event as Recording};
-ghost use Rattle.ktm_types.specs.declared.event.Event.TheVariants.{Boot};
 ghost use Rattle.ktm_types.specs.Sizes.{event_size};
-ghost use Rattle.ktm_waiting.specs.Waiting.{AreHeld};
-ghost use Rattle.ktm_world.specs.Durable.{after_events, events_apply};
+ghost use Rattle.ktm_world.specs.Durable.{after_events};
 ghost use Rattle.ktm_world.specs.Tree.{bytes_or_none, units_of};
 ghost use Rattle.ktm_world.specs.World.{own_group};
 ghost use Rattle.txf_tree.specs.TreeState.{tree_of, versions_of};
 
 use crate::own::{push_all_own, push_boot};
 use crate::replayed::Replayed;
-use ktm_base::{Bytes, Id, NoMemory};
+use ktm_base::{Bytes, Id};
 use ktm_event::Events;
 use ktm_keyed::KeyedList;
-use ktm_saved::Saved;
-use ktm_types::Event;
 use ktm_world::Recorded;
-use std::alloc::Global;
 use std::marker::Model;
 use txf_durable::FilesRead;
 
@@ -37,8 +31,8 @@ pub struct DurableParts {
     pub transactions: Vec<Recorded>,
 }
 
-/// What an image stands for. The groups of its log are applied in place to the state of its snapshot: neither a change nor a key or
-/// a value is copied.
+/// What an image stands for, over the places of bytes. The groups of its log are applied in place to the state of its snapshot: neither
+/// a change nor a key or a value is copied.
 #[derive(Drop)]
 pub struct Durable {
     replayed: Replayed,
@@ -53,14 +47,11 @@ impl Model for Durable {
 }
 
 impl Durable {
-    /// The state of a snapshot of an image with so many units and this number.
-    pub(crate) fn from(alloc: Global, saved: Saved, units: u32, image: u16) -> Self
-        requires { AreHeld saved.waiting (tree_of saved.files.tree) saved.transactions.transactions }
-        ensures { result ≡ state_of units image saved }
+    /// The state that was read.
+    pub(crate) fn from(replayed: Replayed) -> Self
+        ensures { result ≡ replayed.state }
     {
-        Durable {
-            replayed: Replayed::from(alloc, saved, units, image),
-        }
+        Durable { replayed }
     }
 
     /// How many units the image has.
@@ -141,15 +132,5 @@ impl Durable {
         ensures { self.new ≡ after_events self.old (own_group self.old) }
     {
         self.replayed.begin();
-    }
-
-    /// Applies a group of events. It answers false where the group does not apply; the state is then of no use, as it is where
-    /// memory runs out. A boot takes none.
-    pub fn apply_group(&mut self, events: Vec<Event>) -> Result<bool, NoMemory>
-        ensures applies { IfOk result (λ applied. applied ≡ events_apply self.old events.items) }
-        ensures after { result ≡ Ok true → self.new ≡ after_events self.old events.items }
-        ensures boots { (boot : ℕ) → events.items ≡ Boot boot ∷ [] → IsOk result }
-    {
-        self.replayed.apply_group(events)
     }
 }

@@ -1,10 +1,14 @@
 //! What an image stands for: its snapshot is read, and each group of its log is applied in place to the state of the snapshot,
-//! up to the durable state that a machine starts from.
+//! up to the durable state that a machine starts from. It has the place of each byte on the pages of the image.
 #![tactic(auto)]
 
 mod durable;
 mod laws;
+mod lying;
+mod meaning;
+mod naming;
 mod own;
+mod reading;
 mod replay;
 mod replayed;
 

@@ -1,9 +1,9 @@
 // Reading an image: the state of its snapshot, and what its log makes of that.
-ghost use Rattle.std.specs.Prelude.{IsErrOf, ◌≡◌, ℕ, ◌+◌, ◌*◌, ◌≤◌, Ok, IfOk, IfSome, IsSomeAnd, OnOk, IsTrue, false, true};
+ghost use Rattle.std.specs.Prelude.{IsErrOf, ◌≡◌, ℕ, ◌+◌, ◌*◌, ◌≤◌, Ok, IfOk, IfSome, IsSomeAnd, OnOk, false, true};
 ghost use Rattle.ktm_base.specs.declared.limits.TheConstants.{LEAST_UNITS, MOST_UNITS};
 ghost use Rattle.ktm_log.specs.Log.{payloads_in};
 ghost use Rattle.ktm_log.specs.OnDisk.{on};
-ghost use Rattle.ktm_world.specs.Durable.{after_events, events_apply};
+ghost use Rattle.ktm_paged.specs.Paged.{paged_after_all};
 ghost use Rattle.ktm_world.specs.Logs.{Group};
 ghost use Rattle.ktm_types.specs.EventGrammar.{IsGroupOf};
 ghost use Rattle.ktm_journal.specs.Image.{IsHeaded, half_of, log_area};
@@ -12,19 +12,24 @@ ghost use Rattle.ktm_journal.specs.Open.{log_reads};
 ghost use Rattle.ktm_restart.specs.Bad.{BeginsAs, IsBadPayload};
 ghost use Rattle.ktm_restart.specs.Payloads.{ComesTo, IsFirstBad};
 ghost use Rattle.ktm_restart.specs.Loads.{LoadLeaves};
-ghost use Rattle.ktm_restart.specs.Starts.{IsOfHeader, ReplayLeaves, StartLeaves};
+ghost use Rattle.ktm_restart.specs.Logs.{AppliesTo};
+ghost use Rattle.ktm_restart.specs.Reading.{IsReadWell};
+ghost use Rattle.ktm_restart.specs.Starts.{IsReading, ReadsReading, ReplayLeaves, StartLeaves};
 
 use crate::durable::Durable;
+use crate::reading::Reading;
 use ktm_base::{Disk, NoMemory};
 use ktm_event::{EventFault, read_group};
 use ktm_journal::{Header, Journal, LoadFault, read_snapshot};
 use ktm_log::{first_payload, frame_len};
+use ktm_paged::law_of_paged_records;
 use ktm_records::law_of_spelling;
 use ktm_saved::read_state;
-use ktm_states::{law_of_good_states, law_of_grammar};
+use ktm_snapshot::law_of_states;
+use ktm_states::law_of_grammar;
 use std::alloc::Global;
 
-/// A journal that was loaded, and the durable state that its image stands for.
+/// A journal that was loaded, and the durable state to which its image comes, over the places of bytes.
 #[derive(Drop)]
 pub struct Loaded {
     pub journal: Journal,
@@ -32,10 +37,13 @@ pub struct Loaded {
 }
 
 // Makes of the state what a payload says, if it is a group that applies.
-fn apply(alloc: Global, state: &mut Durable, payload: &[u8]) -> Result<bool, NoMemory>
-    ensures good { result ≡ Ok true → (events : Group) × IsGroupOf events payload.now × IsTrue (events_apply state.old events) × (state.new ≡ after_events state.old events) }
-    ensures bad { result ≡ Ok false → IsBadPayload state.old payload.now }
+fn apply(alloc: Global, state: &mut Reading, payload: &[u8]) -> Result<bool, NoMemory>
+    requires { IsReadWell state.old }
+    ensures good { result ≡ Ok true → (events : Group) × IsGroupOf events payload.now × AppliesTo state.old.state events × (state.new.state ≡ paged_after_all state.old.state events) }
+    ensures well { result ≡ Ok true → IsReadWell state.new }
+    ensures bad { result ≡ Ok false → IsBadPayload state.old.state payload.now }
 {
+    law_of_grammar();
     match read_group(alloc, payload) {
         Ok(events) => state.apply_group(events),
         Err(EventFault::NotAnEvent) => Ok(false),
@@ -44,12 +52,12 @@ fn apply(alloc: Global, state: &mut Durable, payload: &[u8]) -> Result<bool, NoM
 }
 
 // Makes of the state of a snapshot what the payloads of the log behind it say, which are read where they lie in its bytes.
-fn replay(alloc: Global, header: Header, bytes: &[u8], state: &mut Durable) -> Result<(), LoadFault>
+fn replay(alloc: Global, header: Header, bytes: &[u8], state: &mut Reading) -> Result<(), LoadFault>
     requires most { header.units ≤ MOST_UNITS }
-    requires of_header { IsOfHeader header state.old }
-    ensures good { OnOk result (ComesTo state.old (payloads_in bytes.now) state.new) }
-    ensures of_header { OnOk result (IsOfHeader header state.new) }
-    ensures bad { (offset : ℕ) → IsErrOf result (LoadFault.Bad offset) → IsFirstBad state.old (log_area header.units (half_of header.selector)).at (payloads_in bytes.now) offset }
+    requires reading { IsReading header state.old }
+    ensures good { OnOk result (ComesTo state.old.state (payloads_in bytes.now) state.new.state) }
+    ensures reading { OnOk result (IsReading header state.new) }
+    ensures bad { (offset : ℕ) → IsErrOf result (LoadFault.Bad offset) → IsFirstBad state.old.state (log_area header.units (half_of header.selector)).at (payloads_in bytes.now) offset }
     ensures up { load_went_down result ≡ false }
 {
     let mut at = 0;
@@ -61,7 +69,7 @@ fn replay(alloc: Global, header: Header, bytes: &[u8], state: &mut Durable) -> R
         }
     }
     law_of_grammar();
-    law_of_good_states();
+    law_of_paged_records();
     law_of_spelling();
     Ok(())
 }
@@ -72,13 +80,13 @@ fn replay_log<D: Disk>(
     disk: &mut D,
     header: Header,
     buffer: &mut Vec<u8>,
-    state: &mut Durable,
+    state: &mut Reading,
 ) -> Result<Journal, LoadFault>
     requires least { LEAST_UNITS ≤ header.units }
     requires most { header.units ≤ MOST_UNITS }
-    requires begins { IfSome (D.told disk.old) (λ s. BeginsAs header.units header.image header.selector state.old s.seen) }
-    requires of_header { IsOfHeader header state.old }
-    ensures { ReplayLeaves header state.new (on buffer.old (D.told disk.old) (D.status disk.old)) (on buffer.new (D.told disk.new) (D.status disk.new)) result }
+    requires begins { IfSome (D.told disk.old) (λ s. BeginsAs header.units header.image header.selector state.old.state s.seen) }
+    requires reading { IsReading header state.old }
+    ensures { ReplayLeaves header state.new.state (on buffer.old (D.told disk.old) (D.status disk.old)) (on buffer.new (D.told disk.new) (D.status disk.new)) result }
 {
     match Journal::open(disk, header, buffer) {
         Ok(journal) => match replay(alloc, header, buffer.as_slice(), state) {
@@ -102,16 +110,17 @@ fn load_log<D: Disk>(
     disk: &mut D,
     header: Header,
     buffer: &mut Vec<u8>,
-    mut state: Durable,
+    mut state: Reading,
 ) -> Result<Loaded, LoadFault>
     requires least { LEAST_UNITS ≤ header.units }
     requires most { header.units ≤ MOST_UNITS }
-    requires begins { IfSome (D.told disk.old) (λ s. BeginsAs header.units header.image header.selector state s.seen) }
-    requires of_header { IsOfHeader header state }
+    requires begins { IfSome (D.told disk.old) (λ s. BeginsAs header.units header.image header.selector state.state s.seen) }
+    requires reading { IsReading header state }
     ensures { LoadLeaves (log_reads header.units) (on buffer.old (D.told disk.old) (D.status disk.old)) (on buffer.new (D.told disk.new) (D.status disk.new)) result }
 {
     match replay_log(alloc, disk, header, buffer, &mut state) {
         Ok(mut journal) => {
+            let state = state.into_durable();
             journal.count_from(state.events());
             Ok(Loaded { journal, state })
         }
@@ -122,13 +131,31 @@ fn load_log<D: Disk>(
     }
 }
 
+// The good state that stands in the bytes of a snapshot of an image with so many units and this number, if it is on pages.
+fn read_reading(
+    alloc: Global,
+    bytes: &[u8],
+    units: u32,
+    image: u16,
+) -> Result<Option<Reading>, NoMemory>
+    requires { units ≤ MOST_UNITS }
+    ensures { IfOk result (λ read. ReadsReading units image bytes.now read) }
+{
+    law_of_states();
+    match read_state(alloc, bytes, units, image) {
+        Ok(Some(saved)) => Reading::from(alloc, saved, units, image),
+        Ok(None) => Ok(None),
+        Err(NoMemory) => Err(NoMemory),
+    }
+}
+
 // Reads the snapshot behind this header, and gives the state that it stands for.
 fn read_start<D: Disk>(
     alloc: Global,
     disk: &mut D,
     header: Header,
     buffer: &mut Vec<u8>,
-) -> Result<Durable, LoadFault>
+) -> Result<Reading, LoadFault>
     requires most { header.units ≤ MOST_UNITS }
     requires headed { IfSome (D.told disk.old) (λ s. IsHeaded header.units header.image header.selector s.seen) }
     ensures { StartLeaves header (on buffer.old (D.told disk.old) (D.status disk.old)) (on buffer.new (D.told disk.new) (D.status disk.new)) result }
@@ -136,8 +163,8 @@ fn read_start<D: Disk>(
     if let Err(fault) = read_snapshot(disk, header, buffer) {
         return Err(fault);
     }
-    match read_state(alloc, buffer.as_slice(), header.units, header.image) {
-        Ok(Some(saved)) => Ok(Durable::from(alloc, saved, header.units, header.image)),
+    match read_reading(alloc, buffer.as_slice(), header.units, header.image) {
+        Ok(Some(state)) => Ok(state),
         Ok(None) => Err(LoadFault::Bad(header.snapshot_at())),
         Err(NoMemory) => Err(LoadFault::NoMemory),
     }
@@ -165,8 +192,8 @@ fn load_half<D: Disk>(
 /// Reads the image of a disk, and gives its journal with the state that it stands for. It writes nothing. The snapshot and then
 /// the log are read into the buffer, which is made as long as an area, and afterwards has room for whatever can be appended.
 pub fn load<D: Disk>(alloc: Global, disk: &mut D, buffer: &mut Vec<u8>) -> Result<Loaded, LoadFault>
-    ensures leaves { LoadLeaves (8 * MOST_UNITS + 64) (on buffer.old (D.told disk.old) (D.status disk.old)) (on buffer.new (D.told disk.new) (D.status disk.new)) result }
-    ensures few { (units image selector : ℕ) → IsSomeAnd (D.told disk.old) (λ s. IsHeaded units image selector s.seen) → (D.status disk.new).calls ≤ (D.status disk.old).calls + (8 * units + 64) }
+    ensures leaves { LoadLeaves (log_reads MOST_UNITS + 5) (on buffer.old (D.told disk.old) (D.status disk.old)) (on buffer.new (D.told disk.new) (D.status disk.new)) result }
+    ensures few { (units image selector : ℕ) → IsSomeAnd (D.told disk.old) (λ s. IsHeaded units image selector s.seen) → (D.status disk.new).calls ≤ (D.status disk.old).calls + (log_reads units + 5) }
 {
     let header = match Header::read(disk) {
         Ok(header) => header,

@@ -1,29 +1,31 @@
 // The durable state in memory while an image is read, and what each event makes of it.
 ghost use Rattle.std.specs.Prelude.{◌≡◌, ◌&&◌, ◌+◌, ◌^◌, ◌<◌, ◌≤◌, [], ◌∷◌, Ok, None, Some, not, false, true, IfOk, IsOk, OnOk, is_none, length, nat_eq, nat_le, nat_lt, sum_by};
-ghost use Rattle.std.specs.List.{flat_map, list_all};
-ghost use Rattle.ktm_types.specs.declared.event.Event.{Event as Recording};
+ghost use Rattle.std.specs.List.{flat_map, list_all, list_any};
 ghost use Rattle.ktm_types.specs.declared.event.Event.TheVariants.{Boot, MadeRm, Plain, Ready, Single, Held, Decide, Undo, Done};
 ghost use Rattle.ktm_base.specs.declared.id.Id.{Id as Number};
 ghost use Rattle.ktm_base.specs.declared.limits.TheConstants.{MOST_LIVE};
 ghost use Rattle.ktm_world.specs.Changes.{changes_apply};
-ghost use Rattle.ktm_world.specs.Durable.{after_event, after_events, are_recorded_changes, event_applies, events_apply, fact_of, has_changes_part, has_settings_part, has_undone, hold_recorded, is_new_enlistment, is_new_in, is_ready, is_within_limits, may_get_ready, part_applies, recorded_at, recorded_changes_apply, recorded_or_new, settings_apply, stage_passes, with_committed, with_part};
+ghost use Rattle.ktm_world.specs.Durable.{after_event, after_events, are_recorded_changes, changes_in as changes_of_part, event_applies, events_apply, fact_of, has_changes_part, has_settings_part, has_undone, hold_recorded, is_new_enlistment, is_new_in, is_ready, is_within_limits, may_get_ready, part_applies, recorded_at, recorded_changes_apply, recorded_or_new, settings_apply, stage_passes, with_committed, with_part};
 ghost use Rattle.ktm_world.specs.Holds.{holds_by};
 ghost use Rattle.ktm_world.specs.Keys.{are_good_settings};
 ghost use Rattle.ktm_world.specs.Tree.{IsWellFormed, bytes_or_none, units_of};
 ghost use Rattle.ktm_world.specs.World.{own_events, own_group};
-ghost use Rattle.ktm_restart.specs.Replayed.{CanChange, CanCommit, CanTake, CanTakePart, Takes, passes_units};
+ghost use Rattle.ktm_owners.specs.Owners.{is_still_on, parts_put, puts_unit};
+ghost use Rattle.ktm_paged.specs.Paged.{IsPlainlyMade};
+ghost use Rattle.ktm_restart.specs.Replayed.{Takes, passes_units};
 ghost use Rattle.ktm_saved.specs.Saved.{state_of};
 ghost use Rattle.ktm_waiting.specs.Waiting.{AreHeld, AreKept, AreSpared, committed, others_change};
-ghost use Rattle.txf_durable.specs.State.{CanMake, CanMakeAll};
 ghost use Rattle.txf_reserve.specs.ReserveState.{IsSameHold, holds_in};
 ghost use Rattle.txf_tree.specs.TreeState.{tree_of, versions_of};
+ghost use Rattle.txf_tree.specs.UnitChanges.{CanAllBeMade, CanBeMade};
 
 use crate::durable::DurableParts;
 use crate::own::first_own;
 use ktm_base::{Bytes, Id, MOST_INFORMATION_BYTES, MOST_LIVE, NoMemory, UNIT_BYTES};
 use ktm_keyed::KeyedList;
+use ktm_owners::{Owner, has_unit};
 use ktm_saved::Saved;
-use ktm_types::{Change, DonePart, Event, Part, Setting, Superior};
+use ktm_types::{Change, DonePart, Event, Part, RecordedPart, Setting, Superior};
 use ktm_waiting::{
     Amounts, Managers, Transactions, changes_in, fits_in, hold_changes, limits, others_change,
     others_set, release_changes, release_ready, without,
@@ -34,7 +36,7 @@ use std::marker::Model;
 use std::mem::replace;
 use txf_durable::{DurableFiles, FileNumbers, Waiting, are_recorded_changes};
 use txf_laws::law_of_lists;
-use txf_tree::bytes_in;
+use txf_tree::{Tree, bytes_in};
 
 /// The most events that an image may ever record.
 const MOST_EVENTS: u64 = (1 << 63) - 1;
@@ -98,10 +100,47 @@ fn passes_units(units: u32, change: &Change) -> bool
             offset,
             contents,
             ..
-        } => u128::from(*offset) + bytes_in(contents).len() as u128 > most,
+        } => u128::from(*offset) + u128::from(bytes_in(contents).len()) > most,
         Change::Cut { size, .. } => u128::from(*size) > most,
         _ => false,
     }
+}
+
+// Does the change put this unit on this page, into a file that is cut to nothing before.
+fn puts_unit(owner: Owner, page: u32, change: &Change) -> bool
+    ensures { result ≡ puts_unit owner page change.now }
+{
+    match change {
+        Change::Put {
+            node,
+            offset,
+            contents,
+        } => *node == owner.node && *offset == 0 && has_unit(bytes_in(contents), owner.unit, page),
+        _ => false,
+    }
+}
+
+// Does the part put this unit on this page.
+fn part_puts(owner: Owner, page: u32, p: &RecordedPart) -> bool
+    ensures { result ≡ list_any (puts_unit owner page) (changes_of_part p.now.part) }
+{
+    changes_in(&p.part)
+        .iter()
+        .any(|change| puts_unit(owner, page, change))
+}
+
+// Does one of the parts put this unit on this page.
+fn some_part_puts(owner: Owner, page: u32, parts: &[RecordedPart]) -> bool
+    ensures { result ≡ list_any (λ part. list_any (puts_unit owner page) (changes_of_part part.part)) parts.now }
+{
+    parts.iter().any(|p| part_puts(owner, page, p))
+}
+
+// Does a part of the transaction put this unit on this page.
+fn parts_put(owner: Owner, page: u32, transaction: &Recorded) -> bool
+    ensures { result ≡ parts_put owner page transaction.now }
+{
+    some_part_puts(owner, page, &transaction.parts)
 }
 
 // What waits is forgotten.
@@ -264,14 +303,36 @@ impl Replayed {
 
     // A durable resource manager was made.
     fn add_manager(&mut self, manager: Id) -> Result<bool, NoMemory>
-        ensures takes { IfOk result (λ taken. Takes self.old.state (MadeRm manager) taken self.new.state) }
-        ensures enough { 0 < self.old.managers → IsOk result }
+        ensures { IfOk result (λ taken. Takes self.old.state (MadeRm manager) taken self.new.state) }
     {
         if manager.boot != self.boots || self.managers.contains(manager) {
             return Ok(false);
         }
         self.managers.add(manager)?;
         Ok(true)
+    }
+
+    /// The committed files.
+    pub(crate) fn tree(&self) -> &Tree
+        ensures { tree_of result.now ≡ self.now.state.tree }
+    {
+        self.files.tree()
+    }
+
+    // Does a transaction put the owner's unit on this page, and wait.
+    fn is_put_on(&self, owner: Owner, page: u32) -> bool
+        ensures { result ≡ list_any (parts_put owner page) self.now.state.transactions }
+    {
+        self.transactions()
+            .iter()
+            .any(|t| parts_put(owner, page, t))
+    }
+
+    /// Does the owner's unit lie on this page still: as it is committed, or as a transaction puts it that waits.
+    pub(crate) fn is_still_on(&self, owner: Owner, page: u32) -> bool
+        ensures { result ≡ is_still_on self.now.state owner page }
+    {
+        has_unit(self.tree().content(owner.node), owner.unit, page) || self.is_put_on(owner, page)
     }
 
     // What waits is kept, and the files are well formed.
@@ -301,8 +362,8 @@ impl Replayed {
 
     // A plain call changed the files. One that would leave its file too long is refused before memory is taken for it.
     fn change_plainly(&mut self, change: Change) -> Result<bool, NoMemory>
-        ensures takes { IfOk result (λ taken. Takes self.old.state (Plain change) taken self.new.state) }
-        ensures enough { CanMake self.old.files change → IsOk result }
+        requires { CanBeMade self.old.state.tree change }
+        ensures { IfOk result (λ taken. Takes self.old.state (Plain change) taken self.new.state) }
     {
         if passes_units(self.units, &change) {
             return Ok(false);
@@ -312,9 +373,9 @@ impl Replayed {
 
     // Commits one change, if it applies.
     fn commit_change(&mut self, change: Change) -> Result<bool, NoMemory>
+        requires { CanBeMade self.old.state.tree change }
         ensures applies { IfOk result (λ applied. applied ≡ recorded_changes_apply self.old.state None (change ∷ [])) }
         ensures after { result ≡ Ok true → self.new.state ≡ with_committed self.old.state (change ∷ []) [] }
-        ensures enough { CanMake self.old.files change → IsOk result }
     {
         if !self.is_free(&change) {
             return Ok(false);
@@ -325,11 +386,11 @@ impl Replayed {
 
     // Makes a change that meets nothing, if it applies. Where it is not made, the files are of no use, and what waits is forgotten.
     fn make_one(&mut self, change: Change) -> Result<bool, NoMemory>
-        requires { changes_apply self.old.state.tree (change ∷ []) ≡ true → list_all (is_new_in self.old.state.tree) (change ∷ []) ≡ true
+        requires units { CanBeMade self.old.state.tree change }
+        requires spared { changes_apply self.old.state.tree (change ∷ []) ≡ true → list_all (is_new_in self.old.state.tree) (change ∷ []) ≡ true
             → AreSpared self.old.state.tree self.old.state.transactions (change ∷ []) }
         ensures applies { IfOk result (λ applied. applied ≡ (changes_apply self.old.state.tree (change ∷ []) && list_all (is_new_in self.old.state.tree) (change ∷ []))) }
         ensures after { result ≡ Ok true → self.new.state ≡ with_committed self.old.state (change ∷ []) [] }
-        ensures enough { CanMake self.old.files change → IsOk result }
     {
         law_of_lists();
         self.law_of_kept();
@@ -348,12 +409,12 @@ impl Replayed {
 
     // Makes changes that meet nothing, if they apply. Where they are not made, the files are of no use, and what waits is forgotten.
     fn make_all(&mut self, changes: Vec<Change>) -> Result<bool, NoMemory>
-        requires { changes_apply self.old.state.tree changes.items ≡ true → list_all (is_new_in self.old.state.tree) changes.items ≡ true
+        requires units { CanAllBeMade self.old.state.tree changes.items }
+        requires spared { changes_apply self.old.state.tree changes.items ≡ true → list_all (is_new_in self.old.state.tree) changes.items ≡ true
             → AreSpared self.old.state.tree self.old.state.transactions changes.items }
         ensures applies { IfOk result (λ applied. applied ≡ (changes_apply self.old.state.tree changes.items && list_all (is_new_in self.old.state.tree) changes.items)) }
         ensures after { result ≡ Ok true → self.new.state ≡ with_committed self.old.state changes.items [] }
         ensures keys { result ≡ Ok true → self.new.keys ≡ self.old.keys }
-        ensures enough { CanMakeAll self.old.files changes.items → IsOk result }
     {
         law_of_lists();
         self.law_of_kept();
@@ -373,7 +434,6 @@ impl Replayed {
     // Takes the memory for the numbers of the files that so many changes write.
     fn reserve_written(&mut self, changes: usize) -> Result<(), NoMemory>
         ensures room { OnOk result (changes ≤ self.new.written.room) }
-        ensures enough { changes ≤ self.old.written.room → IsOk result }
         ensures state { self.new.state ≡ self.old.state }
         ensures files { self.new.files ≡ self.old.files }
     {
@@ -383,7 +443,6 @@ impl Replayed {
     // Have the changes the form in which a transaction records them.
     fn are_recorded(&mut self, changes: &[Change]) -> Result<bool, NoMemory>
         ensures recorded { IfOk result (λ are. are ≡ are_recorded_changes changes.now) }
-        ensures enough { length changes.now ≤ self.old.written.room → IsOk result }
         ensures state { self.new.state ≡ self.old.state }
         ensures files { self.new.files ≡ self.old.files }
     {
@@ -425,8 +484,7 @@ impl Replayed {
     // Do recorded changes, if they apply, meet nothing that another transaction holds. While none waits with changes, they are not tried.
     fn are_free(&self, who: Option<Id>, changes: &[Change]) -> Result<bool, NoMemory>
         requires { are_recorded_changes changes.now ≡ true }
-        ensures free { IfOk result (λ free. (free && (changes_apply self.now.state.tree changes.now && list_all (is_new_in self.now.state.tree) changes.now)) ≡ recorded_changes_apply self.now.state who changes.now) }
-        ensures enough { others_change who self.now.state.transactions ≡ false → IsOk result }
+        ensures { IfOk result (λ free. (free && (changes_apply self.now.state.tree changes.now && list_all (is_new_in self.now.state.tree) changes.now)) ≡ recorded_changes_apply self.now.state who changes.now) }
     {
         if !self.others_change(who) {
             return Ok(true);
@@ -439,7 +497,6 @@ impl Replayed {
         requires { recorded_at self.old.state.transactions transaction ≡ None }
         ensures applies { IfOk result (λ applied. applied ≡ (are_recorded_changes changes.items && recorded_changes_apply self.old.state (Some transaction) changes.items)) }
         ensures after { result ≡ Ok true → self.new.state ≡ with_committed self.old.state changes.items [] }
-        ensures enough { CanChange self.old changes.items → IsOk result }
     {
         if !self.are_recorded(&changes)? {
             return Ok(false);
@@ -463,7 +520,6 @@ impl Replayed {
     fn commit_settings(&mut self, transaction: Id, settings: Vec<Setting>) -> Result<bool, NoMemory>
         ensures applies { IfOk result (λ applied. applied ≡ (are_good_settings settings.items && settings_apply self.old.state (Some transaction) settings.items)) }
         ensures after { result ≡ Ok true → self.new.state ≡ with_committed self.old.state [] settings.items }
-        ensures enough { length settings.items ≤ self.old.keys → IsOk result }
     {
         if !self.settings_apply(Some(transaction), &settings) {
             return Ok(false);
@@ -475,8 +531,7 @@ impl Replayed {
 
     // A transaction commits its one part.
     fn commit_part(&mut self, transaction: Id, part: Part) -> Result<bool, NoMemory>
-        ensures takes { IfOk result (λ taken. Takes self.old.state (Single transaction part) taken self.new.state) }
-        ensures enough { CanTakePart self.old part → IsOk result }
+        ensures { IfOk result (λ taken. Takes self.old.state (Single transaction part) taken self.new.state) }
     {
         if !self.may_commit_alone(transaction) {
             return Ok(false);
@@ -632,9 +687,9 @@ impl Replayed {
     fn commit(&mut self, changes: Vec<Change>, settings: Vec<Setting>) -> Result<bool, NoMemory>
         requires apply { changes_apply self.old.state.tree changes.items ≡ true }
         requires new { list_all (is_new_in self.old.state.tree) changes.items ≡ true }
+        requires units { CanAllBeMade self.old.state.tree changes.items }
         requires spared { AreSpared self.old.state.tree self.old.state.transactions changes.items }
-        ensures after { IfOk result (λ all. (all ≡ true) × (self.new.state ≡ with_committed self.old.state changes.items settings.items)) }
-        ensures enough { CanMakeAll self.old.files changes.items → length settings.items ≤ self.old.keys → IsOk result }
+        ensures { IfOk result (λ all. (all ≡ true) × (self.new.state ≡ with_committed self.old.state changes.items settings.items)) }
     {
         self.keys.reserve(settings.len())?;
         if !self.make_all(changes)? {
@@ -646,8 +701,7 @@ impl Replayed {
 
     // A prepared transaction commits: what waited is made.
     fn decide(&mut self, transaction: Id) -> Result<bool, NoMemory>
-        ensures takes { IfOk result (λ taken. Takes self.old.state (Decide transaction) taken self.new.state) }
-        ensures enough { CanCommit self.old (recorded_at self.old.state.transactions transaction) → IsOk result }
+        ensures { IfOk result (λ taken. Takes self.old.state (Decide transaction) taken self.new.state) }
     {
         if !self.transactions.may_decide(transaction) {
             return Ok(false);
@@ -692,8 +746,8 @@ impl Replayed {
 
     // Makes of the state what an event makes of it, if it applies but for the limits, and does not count it.
     fn take(&mut self, event: Event) -> Result<bool, NoMemory>
-        ensures takes { IfOk result (λ taken. Takes self.old.state event taken self.new.state) }
-        ensures enough { CanTake self.old event → IsOk result }
+        requires { IsPlainlyMade self.old.state.tree event }
+        ensures { IfOk result (λ taken. Takes self.old.state event taken self.new.state) }
     {
         match event {
             Event::Boot { boot } => Ok(self.boot(boot)),
@@ -728,33 +782,18 @@ impl Replayed {
         self.events += 1;
     }
 
-    /// Applies an event. It answers false where the event does not apply; the state is then of no use, as it is where memory is
-    /// wanted.
+    /// Applies an event over the places of bytes. It answers false where the event does not apply; the state is then of no use, as it
+    /// is where memory is wanted.
     pub(crate) fn apply(&mut self, event: Event) -> Result<bool, NoMemory>
+        requires { IsPlainlyMade self.old.state.tree event }
         ensures applies { IfOk result (λ applied. applied ≡ event_applies self.old.state event) }
         ensures after { result ≡ Ok true → self.new.state ≡ after_event self.old.state event }
-        ensures enough { CanTake self.old event → IsOk result }
     {
         if !self.has_events_left() || !self.take(event)? {
             return Ok(false);
         }
         self.count();
         Ok(self.is_within())
-    }
-
-    /// Applies a group of events, one after another. It answers false where the group does not apply; the state is then of no
-    /// use, as it is where memory is wanted.
-    pub(crate) fn apply_group(&mut self, events: Vec<Event>) -> Result<bool, NoMemory>
-        ensures applies { IfOk result (λ applied. applied ≡ events_apply self.old.state events.items) }
-        ensures after { result ≡ Ok true → self.new.state ≡ after_events self.old.state events.items }
-        ensures enough { (event : Recording) → events.items ≡ event ∷ [] → CanTake self.old event → IsOk result }
-    {
-        for event in events {
-            if !self.apply(event)? {
-                return Ok(false);
-            }
-        }
-        Ok(true)
     }
 
     // Makes of the state what the first event makes of it that a restart has yet to record, if there is one.

@@ -1,4 +1,4 @@
--- How many bytes the changes of a transaction take in a log, by how many names they change, and by the files that they write.
+-- How many bytes the changes of a transaction take in a log, by how many names they change, and by the files that they write with their pages.
 use Rattle.std.proofs.Common.{◌≡◌, ℕ, ◌+◌, ◌*◌, ◌≤◌, true, is_some, List, [], ◌∷◌, ◌++◌, length, sum_by, refl, sym, ◌∙◌, ap, subst, arith, inl, inr}
 use Rattle.std.proofs.lemmas.Bool.{and_parts, ne_eqb, true≢false}
 use Rattle.std.proofs.lemmas.List.Sums.{sum_by-append, sum_by-cons, sum_by-le}
@@ -50,7 +50,7 @@ names-size tree cs all =
 -- ---- bytes
 
 -- the bytes of a file, behind the cut to nothing
-end-size : (file : ℕ) (bytes : List ℕ) → sum_by change_size (final_bytes file bytes) ≤ 38 + 4096 * units_of bytes
+end-size : (file : ℕ) (bytes : List ℕ) → sum_by change_size (final_bytes file bytes) ≤ 46 + 4 * units_of bytes
 end-size file [] = let cut = sum_by-cons change_size (Cut file 0 []) [] in omega (arith, cut)
 end-size file (b ∷ bs) =
     let put = Put file 0 (Whole (b ∷ bs)) in
@@ -58,7 +58,7 @@ end-size file (b ∷ bs) =
     let second = sum_by-cons change_size put [] in
     omega (arith, first, second)
 
-ends-size : (by : ℕ → List ℕ) (files : List ℕ) → sum_by change_size (ends_of by files) ≤ 38 * length files + 4096 * sum_by (λ f. units_of (by f)) files
+ends-size : (by : ℕ → List ℕ) (files : List ℕ) → sum_by change_size (ends_of by files) ≤ 46 * length files + 4 * sum_by (λ f. units_of (by f)) files
 ends-size by [] = omega arith
 ends-size by (f ∷ fs) =
     let both = sum_by-append change_size (final_bytes f (by f)) (ends_of by fs) in
@@ -101,7 +101,7 @@ given-there by (g ∷ gs) tree all f (inr there) =
 
 -- changes in the form in which they are committed, with these bytes of files
 pub changes-size : (tree : Tree) (cs : List Change) (by : ℕ → List ℕ) → changes_to_commit cs by ≡ cs → changes_apply tree cs ≡ true
-    → sum_by change_size cs ≤ 274 * length (names_of cs) + 38 * (length tree + nodes_made cs) + 4096 * sum_by (λ f. units_of (by f)) (written_files cs)
+    → sum_by change_size cs ≤ 274 * length (names_of cs) + 46 * (length tree + nodes_made cs) + 4 * sum_by (λ f. units_of (by f)) (written_files cs)
 changes-size tree cs by final applied =
     let names = names_of cs in
     let files = written_files cs in

@@ -8,7 +8,7 @@ use Rattle.ktm_base.specs.declared.id.Pid.{Pid}
 use Rattle.ktm_base.specs.declared.limits.TheConstants.{MOST_INFORMATION_BYTES}
 use Rattle.ktm_base.specs.declared.refusal.Refusal.{Refusal}
 use Rattle.ktm_types.specs.declared.command.Command.{Command}
-use Rattle.ktm_types.specs.declared.command.Command.TheVariants.{CreateTransaction, OpenTransaction, CommitTransaction, RollbackTransaction, GetTransactionInformation, CreateResourceManager, OpenResourceManager, RecoverResourceManager, GetNotificationResourceManager, CreateEnlistment, OpenEnlistment, RecoverEnlistment, PrePrepareComplete, PrepareComplete, ReadOnlyEnlistment, CommitComplete, RollbackComplete, SinglePhaseReject, RollbackEnlistment, PrePrepareEnlistment, PrepareEnlistment, CommitEnlistment, SetEnlistmentRecoveryInformation, GetEnlistmentRecoveryInformation, CreateFile, CreateFileTransacted, ReadFile, WriteFile, SetEndOfFile, GetFileSizeEx, FlushFileBuffers, DeleteFile, CreateDirectory, RemoveDirectory, MoveFile, DeleteFileTransacted, CreateDirectoryTransacted, RemoveDirectoryTransacted, MoveFileTransacted, FindFiles, FindFilesTransacted, KvSet, KvUnset, KvGet, KvList, CloseHandle, DuplicateHandle, Exit}
+use Rattle.ktm_types.specs.declared.command.Command.TheVariants.{CreateTransaction, OpenTransaction, CommitTransaction, RollbackTransaction, GetTransactionInformation, CreateResourceManager, OpenResourceManager, RecoverResourceManager, GetNotificationResourceManager, CreateEnlistment, OpenEnlistment, RecoverEnlistment, PrePrepareComplete, PrepareComplete, ReadOnlyEnlistment, CommitComplete, RollbackComplete, SinglePhaseReject, RollbackEnlistment, PrePrepareEnlistment, PrepareEnlistment, CommitEnlistment, SetEnlistmentRecoveryInformation, GetEnlistmentRecoveryInformation, CreateFile, CreateFileTransacted, ReadFile, WriteFile, SetEndOfFile, WriteUnits, GetFileSizeEx, FlushFileBuffers, DeleteFile, CreateDirectory, RemoveDirectory, MoveFile, DeleteFileTransacted, CreateDirectoryTransacted, RemoveDirectoryTransacted, MoveFileTransacted, FindFiles, FindFilesTransacted, KvSet, KvUnset, KvGet, KvList, CloseHandle, DuplicateHandle, Exit}
 use Rattle.ktm_types.specs.declared.event.Event.TheVariants.{MadeRm}
 use Rattle.ktm_types.specs.declared.input.PhaseInput.{PhaseInput}
 use Rattle.ktm_types.specs.declared.object.Object.{Object}
@@ -17,30 +17,32 @@ use Rattle.ktm_types.specs.declared.options.Durability.{Durability}
 use Rattle.ktm_types.specs.declared.options.EnlistmentKind.{EnlistmentKind}
 use Rattle.ktm_types.specs.declared.reply.Reply.{Reply}
 use Rattle.ktm_types.specs.declared.reply.Reply.TheVariants.{Done}
-use Rattle.ktm_world.specs.Decide.{bound_file, caller, command_effect, decide, of_files, on_file, opening, refusal_of}
+use Rattle.ktm_world.specs.Decide.{bound_file, caller, command_effect, decide, of_files, on_file, opening, refusal_of, on_file_tests, own_tests}
 use Rattle.ktm_world.specs.Enlistments.{Enlistment, Manager}
-use Rattle.ktm_world.specs.FileCalls.{create_directory, create_file, delete_file, find_files, flush_file, get_size, move_file, read_file, remove_directory, set_end, write_file}
+use Rattle.ktm_world.specs.FileCalls.{create_directory, create_file, delete_file, find_files, flush_file, get_size, move_file, read_file, remove_directory, set_end, write_file, write_units_tests}
 use Rattle.ktm_world.specs.FileOutcome.{FileOutcome}
 use Rattle.ktm_world.specs.Files.{OpenFile}
 use Rattle.ktm_world.specs.HandleCalls.{bind_to, close_handle, duplicate_handle, exit}
 use Rattle.ktm_world.specs.Handles.{object_at}
-use Rattle.ktm_world.specs.Labels.{enlistment_named, file_named, manager_named, transaction_named}
+use Rattle.ktm_world.specs.Labels.{enlistment_named, file_named, manager_named, transaction_named, file_tests}
 use Rattle.ktm_world.specs.Outcome.{Outcome, refuse_or}
 use Rattle.ktm_world.specs.Present.{Present}
 use Rattle.ktm_world.specs.Steps.{basis, led, share_of}
 use Rattle.ktm_world.specs.TransactionCalls.{answering, arrived, commit_complete, commit_enlistment, commit_of, commit_reply, commit_transaction, course_of, create_enlistment, create_resource_manager, create_transaction, enlist, enlistment_with, get_information, get_notification, get_transaction_information, keep_information, manager_with, new_id, open_enlistment, open_resource_manager, open_to_enlistment, open_to_manager, open_to_transaction, open_transaction, pre_prepare_complete, pre_prepare_enlistment, prepare_complete, prepare_enlistment, read_only_enlistment, recover_all, recover_enlistment, recover_resource_manager, recovery_of, rollback_complete, rollback_enlistment, rollback_of, rollback_transaction, set_information, single_phase_reject, take_first, transaction_with}
+use Rattle.ktm_world.specs.Uses.{file_room}
 use Rattle.txf_laws.specs.Elements.{IsIn}
 use Rattle.txf_laws.proofs.offered.Elements.{list_all-at}
-use Rattle.ktm_courses.proofs.offered.Calls.{enlistment-named, of-answering, passed}
+use Rattle.ktm_courses.proofs.offered.Calls.{enlistment-named, of-answering, passed, Passes}
 use Rattle.ktm_courses.proofs.offered.Moves.{of-superior}
+use Rattle.ktm_courses.proofs.offered.FileSteps.{passes-right, units-pass}
 use Rattle.ktm_records.specs.FileCallsMade.{FileCallsLaw, IsRightCall, file_call}
 use Rattle.ktm_records.specs.Kept.{IsKept}
 use Rattle.ktm_records.proofs.offered.AgreementOfCourses.{arrival}
 use Rattle.ktm_records.proofs.offered.NoMore.{fits-within}
 use Rattle.ktm_room.specs.Frames.{FitsEmptyLog}
 use Rattle.ktm_room.proofs.CourseSizes.{IsBrief, led-size, one-sized, sizes}
-use Rattle.ktm_room.proofs.FileCallSizes.{IsShort, file-size, short-created, short-cut, short-deleted, short-directory, short-found, short-moved, short-read, short-removed, short-sized, short-written}
-use Rattle.ktm_room.proofs.OwnedSizes.{own_changes-size, own_settings-size, some-unit}
+use Rattle.ktm_room.proofs.FileCallSizes.{IsShort, file-size, short-created, short-cut, short-deleted, short-directory, short-found, short-moved, short-read, short-removed, short-sized, written-size}
+use Rattle.ktm_room.proofs.OwnedSizes.{own_changes-size, own_settings-size}
 use Rattle.ktm_room.proofs.UndoSizes.{close_handle-size, exit-size}
 
 module _ (x : Present) (kept : IsKept x) where
@@ -52,9 +54,9 @@ module _ (x : Present) (kept : IsKept x) where
   silent : FitsEmptyLog x.recorded.units []
   silent = omega arith
 
-  -- with a unit there is room for the greatest plain change
-  small : (o : Outcome) → sizes o.events ≤ 65558 → Fit o
-  small o few = let unit = some-unit x kept in omega (arith, few, unit)
+  -- an area has 65,536 bytes at least
+  small : (o : Outcome) → sizes o.events ≤ 65526 → Fit o
+  small o few = omega (arith, few)
 
   -- ---- transactions
 
@@ -68,7 +70,7 @@ module _ (x : Present) (kept : IsKept x) where
   fit-led : (input : PhaseInput) (t : Transaction) (caller : Option Enlistment) (reply : Reply) → IsBrief caller → Fit (arrived x (led input (course_of x t caller)) reply)
   fit-led input t caller reply called =
       let c = course_of x t caller in
-      let most = led-size (4408 * x.recorded.units) (1094 * x.recorded.units) input c refl (own_changes-size x kept t.id) (own_settings-size x kept t.id) called (brief-superior t caller) in
+      let most = led-size (324 * x.recorded.units) (1094 * x.recorded.units) input c refl (own_changes-size x kept t.id) (own_settings-size x kept t.id) called (brief-superior t caller) in
       let same = ap sizes (arrival x (led input c) reply).events in
       omega (arith, most, same)
 
@@ -127,7 +129,7 @@ module _ (x : Present) (kept : IsKept x) where
   -- ---- files
 
   fit-files : (who : Option Id) (o : FileOutcome) → IsRightCall x who o → IsShort o.change → Fit (of_files x who o)
-  fit-files who o right short = small (of_files x who o) (file-size x who o right short)
+  fit-files who o right short = let few = file-size x who o right short in small (of_files x who o) (omega (arith, few))
 
   fit-opening : (process : Pid) (label : Label) (who : Option Id) (o : FileOutcome) → IsRightCall x who o → IsShort o.change → Fit (opening x process label who o)
   fit-opening process label who o right short = go o.opened
@@ -150,6 +152,19 @@ module _ (x : Present) (kept : IsKept x) where
 
     right : (process : Pid) (command : Command) (who : Option Id) (o : FileOutcome) → refusal_of x process command ≡ None → file_call x process command ≡ Some (who, o) → IsShort o.change → Fit (of_files x who o)
     right process command who o none is short = fit-files who o (calls x process command who o kept none is) short
+
+    -- bytes that are put, where there is room on the disk
+    fit-write : (process : Pid) (command : Command) (label : Label) (offset : ℕ) (bytes : List ℕ) → refusal_of x process command ≡ None
+        → ((f : OpenFile) → file_named x process label ≡ Some f → file_call x process command ≡ Some (f.transaction, write_file f offset bytes))
+        → Passes (on_file_tests x process label (λ o. write_units_tests x.files (file_room x) o offset bytes)) → Fit (on_file x (file_named x process label) (λ o. write_file o offset bytes))
+    unfolding write_units_tests
+    fit-write process command label offset bytes none is passes = go (file_named x process label) refl (passes-right (file_tests x process label) _ passes)
+      where
+        go : (o : Option OpenFile) → file_named x process label ≡ o → Passes (own_tests o (λ o. write_units_tests x.files (file_room x) o offset bytes)) → Fit (on_file x o (λ o. write_file o offset bytes))
+        go None named tests = silent
+        go (Some f) named tests =
+            let few = written-size x f offset bytes (calls x process command f.transaction (write_file f offset bytes) kept none (is f named)) (passed (passed tests).1).0 in
+            omega (arith, few)
 
     fit-effect : (process : Pid) (command : Command) → refusal_of x process command ≡ None → Fit (command_effect x process command)
     unfolding create_transaction open_transaction commit_transaction rollback_transaction get_transaction_information open_resource_manager recover_resource_manager get_notification create_enlistment open_enlistment recover_enlistment pre_prepare_complete prepare_complete read_only_enlistment commit_complete rollback_complete single_phase_reject rollback_enlistment pre_prepare_enlistment prepare_enlistment commit_enlistment set_information get_information duplicate_handle
@@ -185,9 +200,10 @@ module _ (x : Present) (kept : IsKept x) where
         let o = create_file x.files who path access share disposition in
         fit-opening process label who o (calls x process (CreateFileTransacted label path access share disposition transaction) who o kept none refl) (short-created x.files who path access share disposition)
     fit-effect process (ReadFile file offset many) none = right-on process (ReadFile file offset many) file (λ o. read_file x.files o offset many) none (λ f named. rw named refl) (λ f named. short-read x.files f offset many)
-    fit-effect process (WriteFile file offset bytes) none = right-on process (WriteFile file offset bytes) file (λ o. write_file o offset bytes) none (λ f named. rw named refl)
-        (short-written x process file offset bytes (passed (record { none = none })).1)
+    fit-effect process (WriteFile file offset bytes) none = fit-write process (WriteFile file offset bytes) file offset bytes none (λ f named. rw named refl)
+        (units-pass x process file offset bytes (passed (record { none = none })).1)
     fit-effect process (SetEndOfFile file size) none = right-on process (SetEndOfFile file size) file (λ o. set_end o size) none (λ f named. rw named refl) (λ f named. short-cut f size)
+    fit-effect process (WriteUnits file start contents) none = fit-write process (WriteUnits file start contents) file start contents none (λ f named. rw named refl) (passed (record { none = none })).1
     fit-effect process (GetFileSizeEx file) none = right-on process (GetFileSizeEx file) file (λ o. get_size x.files o) none (λ f named. rw named refl) (λ f named. short-sized x.files f)
     fit-effect process (FlushFileBuffers file) none = right-on process (FlushFileBuffers file) file (λ o. flush_file) none (λ f named. rw named refl) (λ f named. tt)
     fit-effect process (DeleteFile path) none = right process (DeleteFile path) None (delete_file x.files None path) none refl (short-deleted x.files None path)

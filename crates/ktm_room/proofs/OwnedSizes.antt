@@ -27,12 +27,7 @@ module _ (x : Present) (kept : IsKept x) where
   within : Fits x
   within = fits-within x kept.within
 
-  -- there is a unit at least, for the root is a node
-  pub some-unit : 1 ≤ x.recorded.units
-  unfolding nodes_used
-  some-unit = let nodes = within.nodes in omega (arith, nodes)
-
-  entry-changes : (o : OwnChanges) → IsIn o x.files.table.own → sum_by change_size o.changes ≤ 4408 * x.recorded.units
+  entry-changes : (o : OwnChanges) → IsIn o x.files.table.own → sum_by change_size o.changes ≤ 324 * x.recorded.units
   unfolding changes_waiting file_changes_waiting nodes_used units_used
   entry-changes o there =
       let all = changes-size x.files.tree o.changes (bytes_seen x.files (Some o.transaction))
@@ -48,10 +43,10 @@ module _ (x : Present) (kept : IsKept x) where
       omega (arith, all, names, waiting, made, written, changes, nodes, units)
 
   -- what a transaction changed of the files
-  pub own_changes-size : (id : Id) → sum_by change_size (own_changes x.files.table.own id) ≤ 4408 * x.recorded.units
+  pub own_changes-size : (id : Id) → sum_by change_size (own_changes x.files.table.own id) ≤ 324 * x.recorded.units
   own_changes-size id = elim (own_changes-found x.files.table.own id) [
-    | inl none ↦ subst (λ cs. sum_by change_size cs ≤ 4408 * x.recorded.units) (sym none) (omega arith)
-    | inr (o, there, is, changes) ↦ subst (λ cs. sum_by change_size cs ≤ 4408 * x.recorded.units) changes (entry-changes o there)
+    | inl none ↦ subst (λ cs. sum_by change_size cs ≤ 324 * x.recorded.units) (sym none) (omega arith)
+    | inr (o, there, is, changes) ↦ subst (λ cs. sum_by change_size cs ≤ 324 * x.recorded.units) changes (entry-changes o there)
   ]
 
   -- what it set of the keys

@@ -21,11 +21,11 @@ use Rattle.ktm_room.proofs.TransactionSizes.{transactions-size}
 
 -- ---- nodes
 
-contents-size : (content : Option (List ℕ)) → contents_size content ≤ 4 + 4096 * units_of (bytes_or_none content)
+contents-size : (content : Option (List ℕ)) → contents_size content ≤ 12 + 4 * units_of (bytes_or_none content)
 contents-size None = omega arith
 contents-size (Some bytes) = omega arith
 
-nodes-size : (tree : Tree) → ((n : Node) → IsIn n tree → IsName n.name) → sum_by node_size tree ≤ 277 * length tree + 4096 * sum_by (λ node. units_of (bytes_or_none node.content)) tree
+nodes-size : (tree : Tree) → ((n : Node) → IsIn n tree → IsName n.name) → sum_by node_size tree ≤ 285 * length tree + 4 * sum_by (λ node. units_of (bytes_or_none node.content)) tree
 nodes-size [] named = omega arith
 nodes-size (n ∷ ns) named =
     let all = sum_by-cons node_size n ns in

@@ -77,7 +77,7 @@ module _ (s : Durable) where
 
   -- what a transaction waits to change
   waiting-changes : (t : Recorded) → Core s t → is_decided t.stage ≡ false
-      → sum_by change_size (changes_of t) ≤ 274 * count_by (λ change. not (changes_bytes change)) (changes_of t) + 38 * (length s.tree + nodes_made (changes_of t)) + 4096 * units_waiting s t
+      → sum_by change_size (changes_of t) ≤ 274 * count_by (λ change. not (changes_bytes change)) (changes_of t) + 46 * (length s.tree + nodes_made (changes_of t)) + 4 * units_waiting s t
   waiting-changes t core waits' = elim (or_cases (is_decided t.stage || not (has_changes_part t)) (are_recorded_changes (changes_of t)) (and_parts _ (is_decided t.stage || not (has_changes_part t) || are_recorded_changes (changes_of t)) core.changes).1) [
     | inl rest ↦ elim (or_cases (is_decided t.stage) (not (has_changes_part t)) rest) [
       | inl decided ↦ absurd (true≢false (sym decided ∙ waits'))
@@ -103,7 +103,7 @@ module _ (s : Durable) where
 
   pub transactions-size : (ts : List Recorded) → ((t : Recorded) → IsIn t ts → Core s t)
       → sum_by transaction_size ts ≤ 26 * length ts + 147 * sum_by (λ t. length (enlistments_of t)) ts + 274 * sum_by changes_by (filter waits ts)
-      + 38 * (length s.tree * length ts + sum_by (λ t. nodes_made (changes_of t)) (filter waits ts)) + 4096 * sum_by (units_waiting s) (filter waits ts)
+      + 46 * (length s.tree * length ts + sum_by (λ t. nodes_made (changes_of t)) (filter waits ts)) + 4 * sum_by (units_waiting s) (filter waits ts)
       + 1028 * sum_by (λ t. count_by (λ setting. is_some setting.value) (settings_of t)) (filter waits ts)
   transactions-size [] core = omega arith
   transactions-size (t ∷ ts) core =

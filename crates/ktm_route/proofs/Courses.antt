@@ -17,7 +17,7 @@ use Rattle.ktm_memory.specs.declared.routed.Routed.TheVariants.{Course}
 use Rattle.ktm_owned.proofs.offered.KeysKept.{not_refused}
 use Rattle.ktm_owned.proofs.offered.Undecided.{undecided-from}
 use Rattle.ktm_records.proofs.offered.AgreementOfCourses.{arrival}
-use Rattle.ktm_types.specs.Values.{IsCommand}
+use Rattle.ktm_types.specs.Values.{IsGiven}
 use Rattle.ktm_types.specs.declared.command.Command.{Command}
 use Rattle.ktm_types.specs.declared.command.Command.TheVariants.{CommitTransaction, RollbackTransaction}
 use Rattle.ktm_types.specs.declared.input.PhaseInput.{PhaseInput}
@@ -46,7 +46,7 @@ module _ (x : Present) (process : Pid) (command : Command) (t : Transaction) (ca
   course_events = let c = course_to x t caller input in ap (λ (o : Outcome). o.events) comes ∙ (arrival x c (reply_to input c)).events
 
   -- the course is ready, where the transaction is there, the caller is its own, and it is not decided where it commits
-  pub ready_course : SpelledLaw → FilesLaw → IsStandingNow x → HasEventsLeft x → IsCommand command → transaction_at x.transactions.items t.id ≡ Some t → IsCaller x t caller
+  pub ready_course : SpelledLaw → FilesLaw → IsStandingNow x → HasEventsLeft x → IsGiven command → transaction_at x.transactions.items t.id ≡ Some t → IsCaller x t caller
       → (list_any is_commit (row (seen (course_of x t None)) input) ≡ true → is_undecided t ≡ true) → (input ≡ PhaseInput.CommitTransaction → is_active t ≡ true)
       → IsReadyCourse x t caller input
   ready_course spelled files standing left is there called undecided active = record {
@@ -81,13 +81,13 @@ module _ (x : Present) (process : Pid) (up : x.machine.is_up ≡ true) (label : 
   rollback_comes passed = rollback_routed x process up label t named passed
 
   module _ (spelled : SpelledLaw) (files : FilesLaw) (standing : IsStandingNow x) (left : HasEventsLeft x) where
-    pub commit_ready : IsCommand (CommitTransaction label) → first_refusal (transaction_tests (Some t)) ≡ None → IsReadyCourse x t None PhaseInput.CommitTransaction
+    pub commit_ready : IsGiven (CommitTransaction label) → first_refusal (transaction_tests (Some t)) ≡ None → IsReadyCourse x t None PhaseInput.CommitTransaction
     commit_ready is passed =
         ready_course x process (CommitTransaction label) t None PhaseInput.CommitTransaction (commit_comes passed) spelled files standing left is (named_law.transactions x process label t named) (none_calls x t)
         (λ commits. passed_undecided t passed) (λ asked. passed_active t passed)
 
     -- a rollback commits nothing
-    pub rollback_ready : IsCommand (RollbackTransaction label) → first_refusal (rollback_transaction_tests (Some t)) ≡ None → IsReadyCourse x t None PhaseInput.Rollback
+    pub rollback_ready : IsGiven (RollbackTransaction label) → first_refusal (rollback_transaction_tests (Some t)) ≡ None → IsReadyCourse x t None PhaseInput.Rollback
     rollback_ready is passed =
         ready_course x process (RollbackTransaction label) t None PhaseInput.Rollback (rollback_comes passed) spelled files standing left is (named_law.transactions x process label t named) (none_calls x t)
         (λ commits. absurd (false≢true commits)) (λ asked. absurd (cc))

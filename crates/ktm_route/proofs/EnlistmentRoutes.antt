@@ -11,7 +11,7 @@ use Rattle.ktm_base.specs.declared.id.Pid.{Pid}
 use Rattle.ktm_base.specs.declared.limits.TheConstants.{MOST_INFORMATION_BYTES}
 use Rattle.ktm_base.specs.declared.refusal.Refusal.{Refusal}
 use Rattle.ktm_base.specs.declared.refusal.Refusal.TheVariants.{EnlistmentNotFound, EnlistmentNotSuperior, InvalidHandle, InvalidParameter, TransactionRequestNotValid, TransactionSuperiorExists}
-use Rattle.ktm_types.specs.Values.{IsCommand}
+use Rattle.ktm_types.specs.Values.{IsGiven}
 use Rattle.ktm_types.specs.declared.command.Command.{Command}
 use Rattle.ktm_types.specs.declared.command.Command.TheVariants.{CreateEnlistment, GetEnlistmentRecoveryInformation, OpenEnlistment, RecoverEnlistment, SetEnlistmentRecoveryInformation}
 use Rattle.ktm_types.specs.declared.input.PhaseInput.{PhaseInput}
@@ -64,7 +64,7 @@ use Rattle.ktm_memory.specs.Routed.{IsReadyCourse, course_to, reply_to}
 use Rattle.ktm_memory.specs.declared.routed.Routed.TheVariants.{Course, Enlist, Handles, Inform, Tell}
 use Rattle.ktm_memory.specs.declared.settlement.Labels.TheVariants.{Bind}
 use Rattle.ktm_memory.proofs.offered.Standing.{kept}
-use Rattle.ktm_route.specs.Route.{IsRouted, kind_tests}
+use Rattle.ktm_route.specs.Route.{IsRouted, is_put_of_units, kind_tests}
 use Rattle.ktm_route.specs.Takes.{early_tests, effect_takes_memory}
 use Rattle.ktm_route.proofs.Routes.{first_of-append, first_of-passed, unbound_names}
 use Rattle.ktm_route.proofs.ManagerRoutes.{comes_by, first_fails, first_holds, takes_by}
@@ -175,6 +175,7 @@ module _ (x : Present) (process : Pid) (up : x.machine.is_up ≡ true) (label ma
                   ∙ ap (λ (o : Option Transaction). refuse_or x r (create_enlistment x process label (manager_at x.managers id) o kind)) (into ∙ sym at),
               (unbound_names _ free, ap is_some there, ap is_some at),
               takes_by x process enlisting up r tests,
+              refl,
             )
 
 -- ---- OpenEnlistment
@@ -230,6 +231,7 @@ module _ (x : Present) (process : Pid) (up : x.machine.is_up ≡ true) (label ma
                 ∙ ap (λ i. refuse_or x r (opened_object x process label (EnlistmentObject i))) is,
             unbound_names _ free,
             takes_by x process opening up r tests,
+            refl,
           )
 
 -- ---- what may come to a transaction
@@ -300,10 +302,11 @@ done_by _ c unasked = refl
 arrived_events : (x : Present) (c : Going) (reply : Reply) → (arrived x c reply).events ≡ c.events
 arrived_events x c reply = if_cases (λ (o : Outcome). o.events ≡ c.events) (is_undecided c.transaction) _ _ (λ before. refl) (λ decided. refl)
 
--- it goes by the tests of its command, takes no memory, and is not CommitTransaction
+-- it goes by the tests of its command, takes no memory, and neither puts whole units nor is CommitTransaction
 pub record IsPlainly (x : Present) (process : Pid) (command : Command) (input : PhaseInput) : Type 0 where
   pub early : early_tests x process command ≡ command_tests x process command
   pub takes : effect_takes_memory x process command ≡ false
+  pub units : is_put_of_units command ≡ false
   pub unasked : input ≡ PhaseInput.CommitTransaction → ⊥
 
 module _ (x : Present) (process : Pid) (up : x.machine.is_up ≡ true) where
@@ -339,7 +342,7 @@ module _ (x : Present) (process : Pid) (up : x.machine.is_up ≡ true) where
         → decide x process command ≡ only_reply x (Refused refusal)
     refused_by command result refusal comes is = comes_by x process command up (Some refusal) (comes.refused ∙ ap refusal_in is)
 
-    module _ (files : FilesLaw) (left : HasEventsLeft x) (spelled : SpelledLaw) (command : Command) (is : IsCommand command) (input : PhaseInput) (result : Result PhaseInput Refusal)
+    module _ (files : FilesLaw) (left : HasEventsLeft x) (spelled : SpelledLaw) (command : Command) (is : IsGiven command) (input : PhaseInput) (result : Result PhaseInput Refusal)
         (comes : ComesTo x t e (command_tests x process command) (command_effect x process command) result) (came : result ≡ Ok input) (may : MayCome (told_outcome t.outcome) t.phase input) (plainly : IsPlainly x process command input) where
       abbrev going : Going
       going = course_to x t (Some e.id) input
@@ -371,21 +374,21 @@ module _ (x : Present) (process : Pid) (up : x.machine.is_up ≡ true) where
 
       -- it is the course of its transaction
       pub goes : IsRouted x process command (Course t (Some e.id) input)
-      goes = (leads, ready, takes_by x process command up None (ap first_refusal plainly.early ∙ passes) ∙ and-true (effect_takes_memory x process command) ∙ plainly.takes)
+      goes = (leads, ready, takes_by x process command up None (ap first_refusal plainly.early ∙ passes) ∙ and-true (effect_takes_memory x process command) ∙ plainly.takes, sym plainly.units)
 
     module _ (calls : CallsLaw) (coming : ComingLaw) (files : FilesLaw) (left : HasEventsLeft x) (spelled : SpelledLaw) where
       -- a reply goes by the tests of its command, and takes no memory
       reply_plainly : (vote : Vote) → IsPlainly x process (reply_call vote label) (input_of e vote)
-      reply_plainly Vote.PrePrepareComplete = record { early = refl; takes = refl; unasked = λ same. absurd (cc) }
-      reply_plainly Vote.PrepareComplete = record { early = refl; takes = refl; unasked = λ same. absurd (cc) }
-      reply_plainly Vote.ReadOnly = record { early = refl; takes = refl; unasked = λ same. absurd (cc) }
-      reply_plainly Vote.SinglePhaseReject = record { early = refl; takes = refl; unasked = λ same. absurd (cc) }
-      reply_plainly Vote.CommitComplete = record { early = refl; takes = refl; unasked = λ same. absurd (cc) }
-      reply_plainly Vote.RollbackComplete = record { early = refl; takes = refl; unasked = λ same. absurd (cc) }
-      reply_plainly Vote.Rollback = record { early = refl; takes = refl; unasked = λ same. absurd (cc) }
+      reply_plainly Vote.PrePrepareComplete = record { early = refl; takes = refl; units = refl; unasked = λ same. absurd (cc) }
+      reply_plainly Vote.PrepareComplete = record { early = refl; takes = refl; units = refl; unasked = λ same. absurd (cc) }
+      reply_plainly Vote.ReadOnly = record { early = refl; takes = refl; units = refl; unasked = λ same. absurd (cc) }
+      reply_plainly Vote.SinglePhaseReject = record { early = refl; takes = refl; units = refl; unasked = λ same. absurd (cc) }
+      reply_plainly Vote.CommitComplete = record { early = refl; takes = refl; units = refl; unasked = λ same. absurd (cc) }
+      reply_plainly Vote.RollbackComplete = record { early = refl; takes = refl; units = refl; unasked = λ same. absurd (cc) }
+      reply_plainly Vote.Rollback = record { early = refl; takes = refl; units = refl; unasked = λ same. absurd (cc) }
 
       -- a reply that is allowed is the course of its transaction
-      pub replies : (vote : Vote) (input : PhaseInput) → IsCommand (reply_call vote label) → replied t.phase e vote ≡ Ok input → IsRouted x process (reply_call vote label) (Course t (Some e.id) input)
+      pub replies : (vote : Vote) (input : PhaseInput) → IsGiven (reply_call vote label) → replied t.phase e vote ≡ Ok input → IsRouted x process (reply_call vote label) (Course t (Some e.id) input)
       replies vote input is came =
           goes files left spelled (reply_call vote label) is input (replied t.phase e vote) (calls.replies x process label e t vote names) came
           (coming.replies t.phase (told_outcome t.outcome) e vote input (known-in t.phase t (stands-now x t (Some e) sound is_in).outcome) owed came)
@@ -397,12 +400,12 @@ module _ (x : Present) (process : Pid) (up : x.machine.is_up ≡ true) where
 
       -- a call of a superior goes by the tests of its command, and takes no memory
       command_plainly : (call : SuperiorCall) → IsPlainly x process (superior_call call label) (input_by call)
-      command_plainly SuperiorCall.PrePrepare = record { early = refl; takes = refl; unasked = λ same. absurd (cc) }
-      command_plainly SuperiorCall.Prepare = record { early = refl; takes = refl; unasked = λ same. absurd (cc) }
-      command_plainly SuperiorCall.Commit = record { early = refl; takes = refl; unasked = λ same. absurd (cc) }
+      command_plainly SuperiorCall.PrePrepare = record { early = refl; takes = refl; units = refl; unasked = λ same. absurd (cc) }
+      command_plainly SuperiorCall.Prepare = record { early = refl; takes = refl; units = refl; unasked = λ same. absurd (cc) }
+      command_plainly SuperiorCall.Commit = record { early = refl; takes = refl; units = refl; unasked = λ same. absurd (cc) }
 
       -- a call of a superior that is allowed is the course of its transaction
-      pub commands : (call : SuperiorCall) (input : PhaseInput) → IsCommand (superior_call call label) → commanded t.phase e call ≡ Ok input → IsRouted x process (superior_call call label) (Course t (Some e.id) input)
+      pub commands : (call : SuperiorCall) (input : PhaseInput) → IsGiven (superior_call call label) → commanded t.phase e call ≡ Ok input → IsRouted x process (superior_call call label) (Course t (Some e.id) input)
       commands call input is came =
           goes files left spelled (superior_call call label) is input (commanded t.phase e call) (calls.superiors x process label e t call names) came
           (coming.superiors t.phase (told_outcome t.outcome) e call input (known-in t.phase t (stands-now x t (Some e) sound is_in).outcome) came)
@@ -414,11 +417,11 @@ module _ (x : Present) (process : Pid) (up : x.machine.is_up ≡ true) where
 
       -- a recovery goes by the tests of its command, and takes no memory
       recovery_plainly : (above : Bool) → IsPlainly x process (RecoverEnlistment label) (if above then PhaseInput.RecoverSuperior else PhaseInput.Recover)
-      recovery_plainly true = record { early = refl; takes = refl; unasked = λ same. absurd (cc) }
-      recovery_plainly false = record { early = refl; takes = refl; unasked = λ same. absurd (cc) }
+      recovery_plainly true = record { early = refl; takes = refl; units = refl; unasked = λ same. absurd (cc) }
+      recovery_plainly false = record { early = refl; takes = refl; units = refl; unasked = λ same. absurd (cc) }
 
       -- a recovery that is allowed is the course of its transaction
-      pub recovery : (input : PhaseInput) → IsCommand (RecoverEnlistment label) → recovered t.phase e ≡ Ok input → IsRouted x process (RecoverEnlistment label) (Course t (Some e.id) input)
+      pub recovery : (input : PhaseInput) → IsGiven (RecoverEnlistment label) → recovered t.phase e ≡ Ok input → IsRouted x process (RecoverEnlistment label) (Course t (Some e.id) input)
       recovery input is came =
           goes files left spelled (RecoverEnlistment label) is input (recovered t.phase e) (calls.recoveries x process label e t names) came
           (coming.recoveries t.phase (told_outcome t.outcome) e input (known-in t.phase t (stands-now x t (Some e) sound is_in).outcome) came)
@@ -448,6 +451,7 @@ module _ (x : Present) (process : Pid) (up : x.machine.is_up ≡ true) where
             ∙ ap (λ (o : Option Enlistment). set_information x o information) (names.enlistment ∙ sym found),
         ap is_some found,
         refl,
+        refl,
       )
 
     -- what is told goes by whether the enlistment is live
@@ -468,4 +472,5 @@ module _ (x : Present) (process : Pid) (up : x.machine.is_up ≡ true) where
           comes_by x process (GetEnlistmentRecoveryInformation label) up None tests ∙ ap (get_information x) (names.enlistment ∙ sym found),
           ap is_some found,
           takes_by x process (GetEnlistmentRecoveryInformation label) up None tests,
+          refl,
         )

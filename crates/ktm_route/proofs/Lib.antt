@@ -8,3 +8,5 @@ mod EnlistmentRoutes
 mod FileRoutes
 mod NoneTakes
 pub mod offered
+mod Answering
+mod OpenFiles

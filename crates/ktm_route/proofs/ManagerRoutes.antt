@@ -82,7 +82,7 @@ module _ (x : Present) (process : Pid) (up : x.machine.is_up ≡ true) where
     makes free =
         let r = first_refusal (quota_test x (no_manager_left x.managers x.transactions) ∷ []) in
         let passed = first_fails (is_bound x process label) InvalidParameter (quota_test x (no_manager_left x.managers x.transactions) ∷ []) free in
-        (comes_by x process (CreateResourceManager label durability) up r passed, unbound_names _ free, takes_by x process (CreateResourceManager label durability) up r passed)
+        (comes_by x process (CreateResourceManager label durability) up r passed, unbound_names _ free, takes_by x process (CreateResourceManager label durability) up r passed, refl)
 
   module _ (label : Label) (guid : List ℕ) where
     -- the label is bound
@@ -112,6 +112,7 @@ module _ (x : Present) (process : Pid) (up : x.machine.is_up ≡ true) where
               ∙ ap (λ (o : Option Manager). refuse_or x r (open_to_manager x process label o)) found ∙ ap (λ i. refuse_or x r (opened_object x process label (ManagerObject i))) is,
           unbound_names _ free,
           takes_by x process (OpenResourceManager label guid) up r passed,
+          refl,
         )
 
   module _ (label : Label) where
@@ -122,6 +123,7 @@ module _ (x : Present) (process : Pid) (up : x.machine.is_up ≡ true) where
           comes_by x process (RecoverResourceManager label) up None passed ∙ ap (recover_resource_manager x) (named ∙ sym there),
           ap is_some there,
           takes_by x process (RecoverResourceManager label) up None passed,
+          refl,
         )
 
     -- the resource manager that the label names takes its first notification
@@ -131,5 +133,6 @@ module _ (x : Present) (process : Pid) (up : x.machine.is_up ≡ true) where
           (first_fails (is_none (manager_named x process label)) InvalidHandle ((holds_of has_empty_queue (manager_named x process label), WaitTimeout) ∷ []) (ap is_none named))
           ∙ ap (λ (o : Option Manager). refuse_or x (first_refusal ((holds_of has_empty_queue o, WaitTimeout) ∷ [])) (get_notification x o)) (named ∙ sym there),
       ap is_some there,
+      refl,
       refl,
     )

@@ -14,7 +14,7 @@ use Rattle.ktm_types.specs.declared.object.Object.{Object}
 use Rattle.ktm_types.specs.declared.object.Object.TheVariants.{Transaction as TransactionObject}
 use Rattle.ktm_types.specs.declared.object.Transaction.{Transaction}
 use Rattle.ktm_types.specs.declared.reply.Reply.TheVariants.{Refused}
-use Rattle.ktm_world.specs.Decide.{caller, command_effect, command_tests, of_keys, transacted, decide}
+use Rattle.ktm_world.specs.Decide.{caller, command_effect, command_tests, of_keys, refusal_of, transacted, decide}
 use Rattle.ktm_world.specs.Files.{FilesNow}
 use Rattle.ktm_world.specs.KeyCalls.{KeyOutcome, kv_set_tests, kv_set, kv_unset_tests, kv_unset, kv_get_tests, kv_get, kv_list}
 use Rattle.ktm_world.specs.Labels.{holds_of, id_of_named, invalid_handle, is_bound, transaction_named, transaction_tests, view_tests, viewer}
@@ -57,12 +57,18 @@ pub up_or : (x : Present) (tests : List (Bool × Refusal)) (effect : Outcome) �
     → refuse_or x (first_refusal ((not x.machine.is_up, MachineDown) ∷ tests)) effect ≡ refuse_or x (first_refusal tests) effect
 up_or x tests effect up = ap (λ u. refuse_or x (cond (not u) (Some MachineDown) (first_refusal tests)) effect) up
 
+-- a command is refused for the first of its tests that refuse it
+pub refusal_first : (x : Present) (process : Pid) (command : Command) (tests more : List (Bool × Refusal)) (refusal : Refusal) → x.machine.is_up ≡ true
+    → command_tests x process command ≡ tests ++ more → first_refusal tests ≡ Some refusal → refusal_of x process command ≡ Some refusal
+refusal_first x process command tests more refusal up are is =
+    ap (λ u. cond (not u) (Some MachineDown) (first_refusal (command_tests x process command))) up
+    ∙ ap first_refusal are ∙ first_of-append tests more refusal is
+
 -- a command whose first tests refuse it
 pub refused_first : (x : Present) (process : Pid) (command : Command) (tests more : List (Bool × Refusal)) (refusal : Refusal) → x.machine.is_up ≡ true
     → command_tests x process command ≡ tests ++ more → first_refusal tests ≡ Some refusal → decide x process command ≡ only_reply x (Refused refusal)
 refused_first x process command tests more refusal up are is =
-    up_or x (command_tests x process command) (command_effect x process command) up
-    ∙ ap (λ r. refuse_or x r (command_effect x process command)) (ap first_refusal are ∙ first_of-append tests more refusal is)
+    ap (λ r. refuse_or x r (command_effect x process command)) (refusal_first x process command tests more refusal up are is)
 
 -- ---- the transaction that a label names
 

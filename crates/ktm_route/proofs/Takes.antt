@@ -7,7 +7,7 @@ use Rattle.ktm_base.specs.declared.id.Pid.{Pid}
 use Rattle.ktm_base.specs.declared.refusal.Refusal.{Refusal}
 use Rattle.ktm_base.specs.declared.refusal.Refusal.TheVariants.{InvalidParameter, MachineDown, NotFound, TransactionNotFound}
 use Rattle.ktm_types.specs.declared.command.Command.{Command}
-use Rattle.ktm_types.specs.declared.command.Command.TheVariants.{CommitTransaction, CreateTransaction, DuplicateHandle, KvGet, KvList, KvSet, KvUnset, OpenTransaction, SetEndOfFile, WriteFile}
+use Rattle.ktm_types.specs.declared.command.Command.TheVariants.{CommitTransaction, CreateTransaction, DuplicateHandle, KvGet, KvList, KvSet, KvUnset, OpenTransaction, SetEndOfFile, WriteFile, WriteUnits}
 use Rattle.ktm_types.specs.declared.command.View.{View}
 use Rattle.ktm_types.specs.declared.object.Transaction.{Transaction}
 use Rattle.ktm_world.specs.FileCalls.{get_size, set_end, write_file}
@@ -140,6 +140,12 @@ module _ (x : Present) (process : Pid) (up : x.machine.is_up ≡ true) where
   unfolding write_file
   write_takes label file offset [] = refl
   write_takes label file offset (b ∷ bs) = refl
+
+  pub write_units_takes : (label : Label) (file : Kept) (start : ℕ) (contents : List ℕ)
+      → effect_takes_memory x process (WriteUnits label start contents) ≡ not (is_quiet (write_file (open_of file) start contents))
+  unfolding write_file
+  write_units_takes label file start [] = refl
+  write_units_takes label file start (c ∷ cs) = refl
 
   pub set_end_takes : (label : Label) (file : Kept) (size : ℕ)
       → effect_takes_memory x process (SetEndOfFile label size) ≡ not (is_quiet (set_end (open_of file) size))

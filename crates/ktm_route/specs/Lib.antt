@@ -1,3 +1,4 @@
 pub mod Takes
 pub mod Route
 pub mod Completions
+pub mod Targets

@@ -4,7 +4,7 @@ use Rattle.ktm_base.specs.declared.id.Pid.{Pid}
 use Rattle.ktm_base.specs.declared.refusal.Refusal.{Refusal}
 use Rattle.ktm_base.specs.declared.refusal.Refusal.TheVariants.{MachineDown}
 use Rattle.ktm_types.specs.declared.command.Command.{Command}
-use Rattle.ktm_types.specs.declared.command.Command.TheVariants.{CommitTransaction, RollbackTransaction, GetTransactionInformation, CloseHandle, Exit, GetNotificationResourceManager, PrePrepareEnlistment, PrepareEnlistment, CommitEnlistment, RecoverEnlistment, PrePrepareComplete, PrepareComplete, ReadOnlyEnlistment, SinglePhaseReject, CommitComplete, RollbackComplete, RollbackEnlistment, SetEnlistmentRecoveryInformation, CreateFile, CreateFileTransacted, ReadFile, WriteFile, SetEndOfFile, GetFileSizeEx, FlushFileBuffers, DeleteFile, CreateDirectory, RemoveDirectory, MoveFile, DeleteFileTransacted, CreateDirectoryTransacted, RemoveDirectoryTransacted, MoveFileTransacted, FindFiles, FindFilesTransacted}
+use Rattle.ktm_types.specs.declared.command.Command.TheVariants.{CommitTransaction, RollbackTransaction, GetTransactionInformation, CloseHandle, Exit, GetNotificationResourceManager, PrePrepareEnlistment, PrepareEnlistment, CommitEnlistment, RecoverEnlistment, PrePrepareComplete, PrepareComplete, ReadOnlyEnlistment, SinglePhaseReject, CommitComplete, RollbackComplete, RollbackEnlistment, SetEnlistmentRecoveryInformation, CreateFile, CreateFileTransacted, ReadFile, WriteFile, SetEndOfFile, WriteUnits, GetFileSizeEx, FlushFileBuffers, DeleteFile, CreateDirectory, RemoveDirectory, MoveFile, DeleteFileTransacted, CreateDirectoryTransacted, RemoveDirectoryTransacted, MoveFileTransacted, FindFiles, FindFilesTransacted}
 use Rattle.ktm_types.specs.declared.completion.Completion.{Completion}
 use Rattle.ktm_route.specs.Completions.{command_of}
 use Rattle.ktm_world.specs.Decide.{command_tests}
@@ -13,7 +13,7 @@ use Rattle.ktm_world.specs.Outcome.{first_refusal}
 use Rattle.ktm_world.specs.Present.{Present}
 use Rattle.ktm_world.specs.TransactionCalls.{bound_test}
 use Rattle.ktm_route.specs.declared.asked.Asked.{Asked}
-use Rattle.ktm_route.specs.declared.asked.Asked.TheVariants.{Call, Tick}
+use Rattle.ktm_route.specs.declared.asked.Asked.TheVariants.{Call, Units, Tick}
 
 -- the tests that are made without memory: those of the labels where a path is looked for or bytes are read, and else all
 abbrev pub early_tests : Present → Pid → Command → List (Bool × Refusal)
@@ -59,6 +59,8 @@ effect_takes_memory x process (SetEnlistmentRecoveryInformation label informatio
 effect_takes_memory x process (WriteFile file offset []) = false
 effect_takes_memory x process (WriteFile file offset (b ∷ bs)) = true
 effect_takes_memory x process (SetEndOfFile file size) = true
+effect_takes_memory x process (WriteUnits file start []) = false
+effect_takes_memory x process (WriteUnits file start (c ∷ cs)) = true
 effect_takes_memory x process (GetFileSizeEx file) = false
 effect_takes_memory x process (FlushFileBuffers file) = false
 effect_takes_memory x process command = true
@@ -70,6 +72,7 @@ takes_memory x process command = effect_takes_memory x process command && is_non
 -- may what is asked; the passing of time does not
 abbrev pub asked_takes_memory : Present → Asked → Bool
 asked_takes_memory x (Call process command) = takes_memory x process command
+asked_takes_memory x (Units process file start contents extent) = takes_memory x process (WriteUnits file start contents)
 asked_takes_memory x (Tick ms) = false
 
 -- no call on the way to the end of a transaction takes memory, whatever is so

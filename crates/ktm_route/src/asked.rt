@@ -5,17 +5,21 @@ ghost use Rattle.ktm_event.specs.Kept.{Holds};
 ghost use Rattle.ktm_laws.specs.Running.{HasEventsLeft};
 ghost use Rattle.ktm_memory.specs.Decided.{Decides};
 ghost use Rattle.ktm_memory.specs.Memory.{IsRoomy, held, present_of};
-ghost use Rattle.ktm_route.specs.Route.{CanBeAsked, decided};
-ghost use Rattle.ktm_route.specs.Takes.{asked_takes_memory, takes_memory};
+ghost use Rattle.ktm_memory.specs.Routed.{IsReadyFor};
+ghost use Rattle.ktm_memory.specs.Rules.{KeepsRules, PutsBy};
+ghost use Rattle.ktm_memory.specs.Takes.{routed_takes_memory};
+ghost use Rattle.ktm_route.specs.Route.{AskedPutsBy, CanBeAsked, decided, routed_outcome};
+ghost use Rattle.ktm_route.specs.Takes.{asked_takes_memory};
 ghost use Rattle.ktm_slots.specs.Slots.{granted_in};
 ghost use Rattle.ktm_types.specs.Sizes.{event_size};
-ghost use Rattle.ktm_types.specs.Values.{IsCommand};
-ghost use Rattle.ktm_world.specs.Decide.{decide as model_decide};
+ghost use Rattle.txf_volume.specs.Held.{files_of};
 
+use crate::file_routes::to_units;
 use crate::route::route;
-use ktm_base::{NoMemory, Pid};
+use ktm_base::{Label, NoMemory, Pid, Refusal};
+use ktm_content::Placed;
 use ktm_event::Events;
-use ktm_memory::{Decision, Memory};
+use ktm_memory::{Decision, Extent, Memory, Routed};
 use ktm_room::law_of_frames;
 use ktm_standing::law_of_kept;
 use ktm_types::{Command, Reply};
@@ -24,41 +28,50 @@ use std::alloc::Global;
 /// What the machine is to decide.
 #[derive(Drop)]
 pub enum Asked {
-    /// A process calls.
+    /// A process calls. It reads and writes no bytes of files, and makes no file longer: what is so in memory are the places of bytes.
     Call(Pid, Command),
+    /// Whole units are put into the open file that a label of a process names, from the begin of one on, and recorded by their
+    /// extent. So bytes are written, and so a file becomes longer.
+    Units {
+        process: Pid,
+        file: Label,
+        start: u64,
+        contents: Placed,
+        extent: Extent,
+    },
     /// So many milliseconds pass.
     Tick(u32),
 }
 
-// A call is decided.
-fn decide_call(
+// What a call or a refusal comes to is decided.
+fn decide_routed(
     memory: &mut Memory,
     alloc: Global,
     process: Pid,
-    command: Command,
+    routed: Result<Routed, Refusal>,
     events: &mut Events,
 ) -> Result<Decision, NoMemory>
     requires up { memory.old.is_up ≡ true }
-    requires command { IsCommand command }
     requires standing { IsStandingNow (present_of memory.old) }
-    requires counts { HasEventsLeft (present_of memory.old) }
+    requires ready { IfOk routed (IsReadyFor (present_of memory.old) process) }
     requires empty { Holds events.old [] }
-    requires fits { sum_by event_size (model_decide (present_of memory.old) process command).events ≤ events.old.spare }
-    ensures ok { IfOk result (λ d. Decides (held memory.old) (model_decide (present_of memory.old) process command) d.reply d.settlement events.new memory.new) }
-    ensures slots { IfOk result (λ d. memory.old.tm.slots + granted_in (present_of memory.old) (model_decide (present_of memory.old) process command) ≤ memory.new.tm.slots) }
+    requires fits { sum_by event_size (routed_outcome (present_of memory.old) process routed).events ≤ events.old.spare }
+    ensures ok { IfOk result (λ d. Decides (held memory.old) (routed_outcome (present_of memory.old) process routed) d.reply d.settlement events.new memory.new) }
+    ensures slots { IfOk result (λ d. memory.old.tm.slots + granted_in (present_of memory.old) (routed_outcome (present_of memory.old) process routed) ≤ memory.new.tm.slots) }
     ensures grows { memory.old.tm.slots ≤ memory.new.tm.slots }
     ensures room { events.new.room ≡ events.old.room }
     ensures no_memory { OnErr result (held memory.new ≡ held memory.old) }
-    ensures enough { takes_memory (present_of memory.old) process command ≡ false → IsOk result }
+    ensures enough { IfOk routed (λ call. routed_takes_memory (present_of memory.old) call ≡ false) → IsOk result }
+    ensures rules { IfOk result (λ d. KeepsRules (λ rule. IfOk routed (PutsBy rule)) (files_of memory.old.files) (routed_outcome (present_of memory.old) process routed).events (files_of memory.new.files)) }
 {
-    match route(memory, process, command) {
-        Ok(routed) => memory.decide_routed(alloc, process, routed, events),
+    match routed {
+        Ok(call) => memory.decide_routed(alloc, process, call, events),
         Err(refusal) => Ok(Decision::only(Reply::Refused(refusal))),
     }
 }
 
-/// What is asked is decided: its reply, its events, which are put into the list, and what is left to do once they are
-/// recorded. Nothing that is recorded changes before that. The list has room for its events, whatever is left of the log.
+/// What is asked is decided: its reply, what is recorded of its events, which is put into the list, and what is left to do once
+/// that is recorded. Nothing that is recorded changes before that. The list has room for its events, whatever is left of the log.
 pub fn decide(
     memory: &mut Memory,
     alloc: Global,
@@ -66,7 +79,7 @@ pub fn decide(
     events: &mut Events,
 ) -> Result<Decision, NoMemory>
     requires up { memory.old.is_up ≡ true }
-    requires asked { CanBeAsked asked }
+    requires asked { CanBeAsked (present_of memory.old) asked }
     requires standing { IsStandingNow (present_of memory.old) }
     requires counts { HasEventsLeft (present_of memory.old) }
     requires empty { Holds events.old [] }
@@ -77,11 +90,25 @@ pub fn decide(
     ensures room { events.new.room ≡ events.old.room }
     ensures no_memory { OnErr result (held memory.new ≡ held memory.old) }
     ensures enough { asked_takes_memory (present_of memory.old) asked ≡ false → IsOk result }
+    ensures rules { IfOk result (λ d. KeepsRules (λ rule. AskedPutsBy (present_of memory.old) rule asked) (files_of memory.old.files) (decided (present_of memory.old) asked).events (files_of memory.new.files)) }
 {
     law_of_kept();
     law_of_frames();
     match asked {
-        Asked::Call(process, command) => { decide_call(memory, alloc, process, command, events) }
+        Asked::Call(process, command) => {
+            let routed = route(memory, alloc, process, command);
+            decide_routed(memory, alloc, process, routed, events)
+        }
+        Asked::Units {
+            process,
+            file,
+            start,
+            contents,
+            extent,
+        } => {
+            let routed = to_units(memory, process, file, start, contents, extent);
+            decide_routed(memory, alloc, process, routed, events)
+        }
         Asked::Tick(ms) => Ok(memory.decide_tick(ms, events)),
     }
 }

@@ -5,7 +5,7 @@ ghost use Rattle.ktm_laws.specs.Running.{HasEventsLeft};
 ghost use Rattle.ktm_memory.specs.Memory.{present_of};
 ghost use Rattle.ktm_phase.specs.Calls.{Names, reply_call, superior_call};
 ghost use Rattle.ktm_route.specs.Route.{Routes, is_reply, kind_tests};
-ghost use Rattle.ktm_types.specs.Values.{IsCommand};
+ghost use Rattle.ktm_types.specs.Values.{IsGiven};
 ghost use Rattle.ktm_types.specs.declared.command.Command.TheVariants.{CreateEnlistment, GetEnlistmentRecoveryInformation, OpenEnlistment, RecoverEnlistment, SetEnlistmentRecoveryInformation};
 ghost use Rattle.ktm_world.specs.Labels.{enlistment_named};
 ghost use Rattle.ktm_world.specs.Outcome.{first_refusal};
@@ -122,7 +122,7 @@ fn with_transaction(
 // A reply of an enlistment, where its transaction allows it.
 fn to_reply(memory: &Memory, process: Pid, label: Label, vote: Vote) -> Result<Routed, Refusal>
     requires up { memory.now.is_up ≡ true }
-    requires command { IsCommand (reply_call vote label) }
+    requires command { IsGiven (reply_call vote label) }
     requires standing { IsStandingNow (present_of memory.now) }
     requires counts { HasEventsLeft (present_of memory.now) }
     ensures { Routes (present_of memory.now) process (reply_call vote label) result }
@@ -151,7 +151,7 @@ pub(crate) fn route_reply(
     command: Command,
 ) -> Result<Routed, Refusal>
     requires up { memory.now.is_up ≡ true }
-    requires command { IsCommand command }
+    requires command { IsGiven command }
     requires reply { is_reply command ≡ true }
     requires standing { IsStandingNow (present_of memory.now) }
     requires counts { HasEventsLeft (present_of memory.now) }
@@ -191,7 +191,7 @@ pub(crate) fn to_lead(
     call: SuperiorCall,
 ) -> Result<Routed, Refusal>
     requires up { memory.now.is_up ≡ true }
-    requires command { IsCommand (superior_call call label) }
+    requires command { IsGiven (superior_call call label) }
     requires standing { IsStandingNow (present_of memory.now) }
     requires counts { HasEventsLeft (present_of memory.now) }
     ensures { Routes (present_of memory.now) process (superior_call call label) result }
@@ -216,7 +216,7 @@ pub(crate) fn to_lead(
 // RecoverEnlistment, where its transaction allows it.
 pub(crate) fn to_recover(memory: &Memory, process: Pid, label: Label) -> Result<Routed, Refusal>
     requires up { memory.now.is_up ≡ true }
-    requires command { IsCommand (RecoverEnlistment label) }
+    requires command { IsGiven (RecoverEnlistment label) }
     requires standing { IsStandingNow (present_of memory.now) }
     requires counts { HasEventsLeft (present_of memory.now) }
     ensures { Routes (present_of memory.now) process (RecoverEnlistment label) result }

@@ -1,22 +1,28 @@
 // Calls on files, once their labels are known.
-ghost use Rattle.std.specs.Prelude.{◌≡◌, true, Some, None, IfOk, IfErr, is_some};
+ghost use Rattle.std.specs.Prelude.{◌≡◌, ℕ, Bool, true, [], Some, None, IfOk, IfErr, is_some};
 ghost use Rattle.ktm_base.specs.declared.refusal.Refusal.TheVariants.{InvalidParameter};
 ghost use Rattle.ktm_standing.specs.Standing.{IsStandingNow};
 ghost use Rattle.ktm_laws.specs.Running.{HasEventsLeft};
 ghost use Rattle.ktm_memory.specs.Memory.{present_of};
-ghost use Rattle.ktm_route.specs.Route.{Routes, is_on_open_file, is_on_path, is_transacted};
+ghost use Rattle.ktm_memory.specs.Rules.{PutsBy};
+ghost use Rattle.ktm_memory.specs.Units.{AreUnits};
+ghost use Rattle.ktm_route.specs.Route.{AskedPutsBy, NeedsNoBytes, OfNamed, Routes, is_on_open_file, is_on_path, is_transacted};
+ghost use Rattle.ktm_route.specs.declared.asked.Asked.TheVariants.{Units as PutUnits};
+ghost use Rattle.ktm_types.specs.declared.command.Command.TheVariants.{WriteUnits};
 ghost use Rattle.ktm_memory.specs.declared.routed.Routed.TheVariants.{Files as OfFiles};
-ghost use Rattle.ktm_types.specs.Values.{IsCommand};
+ghost use Rattle.ktm_types.specs.Values.{IsGiven};
 ghost use Rattle.ktm_types.specs.declared.object.Transaction.{Transaction as Named};
 ghost use Rattle.ktm_world.specs.Handles.{object_at};
 ghost use Rattle.ktm_world.specs.Labels.{transaction_named, transaction_tests};
 ghost use Rattle.ktm_world.specs.Outcome.{first_refusal};
 
 use crate::labels::{active, object_at, open_file};
-use ktm_base::{Id, Label, Pid, Refusal};
-use ktm_memory::{Memory, Routed};
+use ktm_base::{Bytes, Id, Label, Pid, Refusal};
+use ktm_content::{Content, Placed};
+use ktm_memory::{Extent, Memory, Routed};
 use ktm_standing::law_of_files;
 use ktm_types::Command;
+use std::alloc::Global;
 use txf_calls::FileCall;
 
 // A call on files whose labels are known.
@@ -67,10 +73,52 @@ pub(crate) fn to_transacted(
     }
 }
 
-// A call on an open file, of the transaction in which it is open.
-pub(crate) fn route_open(memory: &Memory, process: Pid, command: Command) -> Result<Routed, Refusal>
+// The places of no bytes.
+fn no_places(alloc: Global, bytes: Bytes) -> Placed
+    requires { bytes ≡ [] }
+    ensures { result ≡ bytes }
+{
+    Placed::new(Content::new(alloc))
+}
+
+// A put of whole units into an open file, recorded by their extent.
+pub(crate) fn to_units(
+    memory: &Memory,
+    process: Pid,
+    file: Label,
+    start: u64,
+    contents: Placed,
+    extent: Extent,
+) -> Result<Routed, Refusal>
     requires up { memory.now.is_up ≡ true }
-    requires command { IsCommand command }
+    requires command { IsGiven (WriteUnits file start contents) }
+    requires units { OfNamed (present_of memory.now) process file (λ seen. AreUnits seen start contents extent) }
+    requires standing { IsStandingNow (present_of memory.now) }
+    requires counts { HasEventsLeft (present_of memory.now) }
+    ensures routes { Routes (present_of memory.now) process (WriteUnits file start contents) result }
+    ensures puts { (rule : ℕ → ℕ → ℕ → Bool) → AskedPutsBy (present_of memory.now) rule (PutUnits process file start contents extent) → IfOk result (PutsBy rule) }
+{
+    law_of_files();
+    let file = open_file(memory, process, file)?;
+    Ok(Routed::Units {
+        who: file.transaction,
+        file,
+        start,
+        contents,
+        extent,
+    })
+}
+
+// A call on an open file, of the transaction in which it is open.
+pub(crate) fn route_open(
+    memory: &Memory,
+    alloc: Global,
+    process: Pid,
+    command: Command,
+) -> Result<Routed, Refusal>
+    requires up { memory.now.is_up ≡ true }
+    requires command { IsGiven command }
+    requires bytes { NeedsNoBytes (present_of memory.now) process command }
     requires open { is_on_open_file command ≡ true }
     requires standing { IsStandingNow (present_of memory.now) }
     requires counts { HasEventsLeft (present_of memory.now) }
@@ -78,19 +126,6 @@ pub(crate) fn route_open(memory: &Memory, process: Pid, command: Command) -> Res
 {
     law_of_files();
     match command {
-        Command::ReadFile {
-            file,
-            offset,
-            length,
-        } => {
-            let file = open_file(memory, process, file)?;
-            let call = FileCall::Read {
-                file,
-                offset,
-                length,
-            };
-            Ok(of_files(file.transaction, call))
-        }
         Command::WriteFile {
             file,
             offset,
@@ -100,7 +135,7 @@ pub(crate) fn route_open(memory: &Memory, process: Pid, command: Command) -> Res
             let call = FileCall::Write {
                 file,
                 offset,
-                bytes,
+                bytes: no_places(alloc, bytes),
             };
             Ok(of_files(file.transaction, call))
         }
@@ -127,7 +162,7 @@ pub(crate) fn route_transacted(
     command: Command,
 ) -> Result<Routed, Refusal>
     requires up { memory.now.is_up ≡ true }
-    requires command { IsCommand command }
+    requires command { IsGiven command }
     requires transacted { is_transacted command ≡ true }
     requires standing { IsStandingNow (present_of memory.now) }
     requires counts { HasEventsLeft (present_of memory.now) }
@@ -192,7 +227,7 @@ pub(crate) fn route_transacted(
 // A plain call on a path.
 pub(crate) fn route_path(memory: &Memory, process: Pid, command: Command) -> Result<Routed, Refusal>
     requires up { memory.now.is_up ≡ true }
-    requires command { IsCommand command }
+    requires command { IsGiven command }
     requires path { is_on_path command ≡ true }
     requires standing { IsStandingNow (present_of memory.now) }
     requires counts { HasEventsLeft (present_of memory.now) }

@@ -3,8 +3,8 @@ ghost use Rattle.std.specs.Prelude.{◌≡◌, true, Some};
 ghost use Rattle.ktm_standing.specs.Standing.{IsStandingNow};
 ghost use Rattle.ktm_laws.specs.Running.{HasEventsLeft};
 ghost use Rattle.ktm_memory.specs.Memory.{present_of};
-ghost use Rattle.ktm_route.specs.Route.{Routes};
-ghost use Rattle.ktm_types.specs.Values.{IsCommand};
+ghost use Rattle.ktm_route.specs.Route.{NeedsNoBytes, Routes};
+ghost use Rattle.ktm_types.specs.Values.{IsGiven};
 ghost use Rattle.ktm_types.specs.declared.command.Command.TheVariants.{CloseHandle, CommitTransaction, CreateTransaction, DuplicateHandle, GetTransactionInformation, OpenTransaction, RollbackTransaction};
 
 use crate::enlistment_routes::{
@@ -21,11 +21,18 @@ use ktm_memory::{Labels, Memory, Routed};
 use ktm_phase::SuperiorCall;
 use ktm_types::Command;
 use kv_rm::KvCall;
+use std::alloc::Global;
 
 /// The call, with what its labels name; or the refusal of a label, or of what it names.
-pub(crate) fn route(memory: &Memory, process: Pid, command: Command) -> Result<Routed, Refusal>
+pub(crate) fn route(
+    memory: &Memory,
+    alloc: Global,
+    process: Pid,
+    command: Command,
+) -> Result<Routed, Refusal>
     requires up { memory.now.is_up ≡ true }
-    requires command { IsCommand command }
+    requires command { IsGiven command }
+    requires bytes { NeedsNoBytes (present_of memory.now) process command }
     requires standing { IsStandingNow (present_of memory.now) }
     requires counts { HasEventsLeft (present_of memory.now) }
     ensures { Routes (present_of memory.now) process command result }
@@ -132,11 +139,11 @@ pub(crate) fn route(memory: &Memory, process: Pid, command: Command) -> Result<R
         | Command::RemoveDirectory { .. }
         | Command::MoveFile { .. }
         | Command::FindFiles { .. } => route_path(memory, process, command),
-        Command::ReadFile { .. }
-        | Command::WriteFile { .. }
+        Command::WriteFile { .. }
         | Command::SetEndOfFile { .. }
         | Command::GetFileSizeEx { .. }
-        | Command::FlushFileBuffers { .. } => route_open(memory, process, command),
+        | Command::FlushFileBuffers { .. } => route_open(memory, alloc, process, command),
+        Command::ReadFile { .. } | Command::WriteUnits { .. } => unreachable!(),
         Command::CreateFileTransacted { .. }
         | Command::DeleteFileTransacted { .. }
         | Command::CreateDirectoryTransacted { .. }

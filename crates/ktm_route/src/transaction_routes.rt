@@ -5,7 +5,7 @@ ghost use Rattle.ktm_standing.specs.Standing.{IsStandingNow};
 ghost use Rattle.ktm_laws.specs.Running.{HasEventsLeft};
 ghost use Rattle.ktm_memory.specs.Memory.{present_of};
 ghost use Rattle.ktm_route.specs.Route.{Routes};
-ghost use Rattle.ktm_types.specs.Values.{IsCommand};
+ghost use Rattle.ktm_types.specs.Values.{IsGiven};
 ghost use Rattle.ktm_types.specs.declared.command.Command.TheVariants.{CloseHandle, CommitTransaction, CreateTransaction, DuplicateHandle, GetTransactionInformation, OpenTransaction, RollbackTransaction};
 
 use crate::labels::{active, named, object_at, source_refusal, with_guid};
@@ -82,7 +82,7 @@ pub(crate) fn to_duplicate(
 // RollbackTransaction, of a transaction that may be rolled back.
 pub(crate) fn to_roll_back(memory: &Memory, process: Pid, label: Label) -> Result<Routed, Refusal>
     requires up { memory.now.is_up ≡ true }
-    requires command { IsCommand (RollbackTransaction label) }
+    requires command { IsGiven (RollbackTransaction label) }
     requires standing { IsStandingNow (present_of memory.now) }
     requires counts { HasEventsLeft (present_of memory.now) }
     ensures { Routes (present_of memory.now) process (RollbackTransaction label) result }
@@ -127,7 +127,7 @@ pub(crate) fn to_close(memory: &Memory, process: Pid, label: Label) -> Result<Ro
 // CommitTransaction, of an active transaction.
 pub(crate) fn to_commit(memory: &Memory, process: Pid, label: Label) -> Result<Routed, Refusal>
     requires up { memory.now.is_up ≡ true }
-    requires command { IsCommand (CommitTransaction label) }
+    requires command { IsGiven (CommitTransaction label) }
     requires standing { IsStandingNow (present_of memory.now) }
     requires counts { HasEventsLeft (present_of memory.now) }
     ensures { Routes (present_of memory.now) process (CommitTransaction label) result }

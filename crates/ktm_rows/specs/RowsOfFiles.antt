@@ -43,7 +43,7 @@ UnitLimit = Answered (new_image 16) (
     ∷ []
     )
 
--- an image of 16 units, whose log has room for two writes of 65,536 bytes, takes a third one
+-- on an image of 16 units all 65,536 bytes of a file are written three times
 abbrev pub LongLog : Type 0
 LongLog = Answered (new_image 16) (
     (p1 (CreateFile h1 (codes "\\a") Access.ReadWrite ShareMode.Nothing Disposition.CreateNew), Done)

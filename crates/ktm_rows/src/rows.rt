@@ -73,7 +73,7 @@ pub fn row_of_unit_limit()
     ensures { UnitLimit }
 {}
 
-/// An image of 16 units, whose log has room for two writes of 65,536 bytes, takes a third one.
+/// On an image of 16 units all 65,536 bytes of a file are written three times.
 pub fn row_of_long_log()
     ensures { LongLog }
 {}

@@ -1,8 +1,10 @@
 -- What the answers to lines come to, of the machine and of the counts.
-use Rattle.std.specs.Prelude.{IsSomeAnd}
-use Rattle.std.proofs.Common.{◌≡◌, ◌⊎◌, inl, inr, ℕ, ◌+◌, ◌*◌, ◌≤◌, Bool, true, false, cond, List, [], ◌∷◌, ◌++◌, Option, Some, Result, Ok, Err, IfOk, OnErr, refl, sym, ◌∙◌, ap, subst, arith}
+use Rattle.std.specs.List.{flat_map}
+use Rattle.std.specs.Prelude.{◌&&◌, IsSomeAnd, min}
+use Rattle.std.proofs.Common.{◌≡◌, ◌⊎◌, inl, inr, ℕ, ◌+◌, ◌*◌, ◌≤◌, not, Bool, true, false, cond, List, [], ◌∷◌, ◌++◌, Option, Some, None, Result, Ok, Err, IfOk, OnErr, refl, sym, ◌∙◌, ap, subst, arith}
 use Rattle.std.proofs.lemmas.List.{append-nil}
 use Rattle.ktm_base.specs.declared.limits.TheConstants.{MOST_UNITS}
+use Rattle.ktm_base.specs.declared.id.Id.{Id}
 use Rattle.ktm_base.specs.declared.id.Pid.{Pid}
 use Rattle.ktm_base.specs.declared.fault.NoMemory.{NoMemory}
 use Rattle.ktm_base.specs.declared.power.PowerCall.{PowerCall}
@@ -12,12 +14,16 @@ use Rattle.ktm_base.specs.Count.{Rose}
 use Rattle.ktm_base.specs.Disk.{DiskState, DiskStatus, DeviceCalls}
 use Rattle.ktm_base.specs.Power.{after_off, planned, Restored, NotRestored}
 use Rattle.ktm_base.specs.Told.{Goes}
+use Rattle.ktm_core.specs.Done.{most_calls as most_core_calls, page_calls}
 use Rattle.ktm_journal.specs.Append.{has_no_room}
-use Rattle.ktm_journal.specs.Image.{JournalState}
-use Rattle.ktm_kernel.specs.Done.{most_calls}
-use Rattle.ktm_kernel.specs.Stands.{KernelState, StandsBy, KernelAt, FoundAt, DoesLine, LeavesStates, PowerLaw}
-use Rattle.ktm_kernel.proofs.Left.{left_law}
-use Rattle.ktm_kernel.proofs.StartAgain.{found_law}
+use Rattle.ktm_journal.specs.Image.{JournalState, page_count}
+use Rattle.ktm_kernel.specs.Done.{is_write, most_calls}
+use Rattle.ktm_kernel.specs.Stands.{KernelState, Stands, StandsBy, KernelAt, FoundAt, FoundLaw, DoesLine, LeavesStates, LeftLaw, PowerLaw}
+use Rattle.ktm_memory.specs.Stored.{units_put}
+use Rattle.ktm_courses.specs.SoundCourse.{IsSoundCourse}
+use Rattle.ktm_standing.specs.Effects.{undo_of}
+use Rattle.ktm_standing.specs.Standing.{IsStanding}
+use Rattle.ktm_standing.proofs.offered.Undone.{tick_records}
 use Rattle.ktm_run.proofs.Counting.{RoseBy-none}
 use Rattle.ktm_run.specs.Plan.{calls_of, plan_of, falls_of, RoseBy}
 use Rattle.ktm_log.specs.OnDisk.{OnDisk, on}
@@ -27,23 +33,29 @@ use Rattle.ktm_types.specs.declared.command.Command.{Command}
 use Rattle.ktm_types.specs.declared.command.Line.{Line}
 use Rattle.ktm_types.specs.declared.command.Line.TheVariants.{Crash, Restart, Process, Tick}
 use Rattle.ktm_types.specs.declared.event.Event.{Event}
+use Rattle.ktm_types.specs.declared.event.Event.TheVariants.{Undo}
+use Rattle.ktm_types.specs.declared.object.Transaction.{Transaction}
 use Rattle.ktm_types.specs.declared.reply.Reply.{Reply}
 use Rattle.ktm_types.specs.declared.reply.Reply.TheVariants.{Refused, Done}
 use Rattle.ktm_world.specs.Present.{Present}
 use Rattle.ktm_world.specs.Transcript.{Step, answered, interrupted, found, worn, CallDoes, CrashDoes, StartDoes, RestartDoes, Does}
-use Rattle.ktm_world.specs.Decide.{decide}
-use Rattle.ktm_world.specs.Outcome.{Outcome}
+use Rattle.ktm_world.specs.Decide.{command_effect, command_tests, decide}
+use Rattle.ktm_world.specs.Durable.{Durable}
+use Rattle.ktm_world.specs.Outcome.{Outcome, first_refusal, refuse_or}
 use Rattle.ktm_world.specs.World.{World, decide_tick, present, interrupted_restart}
+use Rattle.ktm_world.specs.TransactionCalls.{is_due, later, tick}
+use Rattle.ktm_world.specs.Phases.{event_if}
+use Rattle.ktm_world.proofs.offered.Durables.{stand-units}
 use Rattle.ktm_world.specs.Logs.{is_up}
 
 -- what is so now of a machine that stands for a world
-now_of : (b : Bool) (k : KernelState) (told : Option DiskState) (w : World) → StandsBy b k told w → k.now ≡ present w
-now_of true k told w stands = stands.now
-now_of false k told w fallen = fallen.now
+stands_of : (b : Bool) (k : KernelState) (told : Option DiskState) (w : World) → StandsBy b k told w → (k.now ≡ present w) × IsStanding w
+stands_of true k told w stands = (stands.now, stands.standing)
+stands_of false k told w fallen = (fallen.now, fallen.standing)
 
 -- a machine is up where its world is
 pub up_of : (k : KernelState) (told : Option DiskState) (w : World) → KernelAt k told w → k.now.machine.is_up ≡ is_up w.power
-up_of k told w at = ap (λ (x : Present). x.machine.is_up) (now_of (is_up w.power) k told w at)
+up_of k told w at = ap (λ (x : Present). x.machine.is_up) (stands_of (is_up w.power) k told w at).0
 
 -- the world of a machine that is down is down
 pub off_of : (k : KernelState) (told : Option DiskState) (w : World) → k.now.machine.is_up ≡ false → KernelAt k told w → is_up w.power ≡ false
@@ -70,18 +82,17 @@ quiet k n before now a b same = counted k n before now a b 0 [] 0
 pub record IsDecided (line : Option Line) (o : World → Outcome) (reply : Reply) : Type 0 where
   pub does : (w new : World) (step : Step) → Does w line step reply new → CallDoes w (o w) step reply new
   pub plan : plan_of line reply ≡ []
-  pub few : (units : ℕ) → calls_of units line ≡ 10
   pub stays : falls_of line answered reply ≡ 0
   pub falls : falls_of line interrupted reply ≡ 1
 
 pub is_call : (process : Pid) (command : Command) (reply : Reply) → IsDecided (Some (Process process command)) (λ w. decide (present w) process command) reply
-is_call process command reply = record { does = λ w new step does. does; plan = refl; few = λ units. refl; stays = refl; falls = refl }
+is_call process command reply = record { does = λ w new step does. does; plan = refl; stays = refl; falls = refl }
 
 pub is_tick : (ms : ℕ) (reply : Reply) → IsDecided (Some (Tick ms)) (λ w. decide_tick (present w) ms) reply
-is_tick ms reply = record { does = λ w new step does. does; plan = refl; few = λ units. refl; stays = refl; falls = refl }
+is_tick ms reply = record { does = λ w new step does. does; plan = refl; stays = refl; falls = refl }
 
 module _ (line : Option Line) (o : World → Outcome) (reply : Reply) (is : IsDecided line o reply) (k n : KernelState) (before now : Option DiskState) (a b : DiskStatus)
-    (cause : reply ≡ Refused MachineDown → (k.now.machine.is_up ≡ false) ⊎ Rose a.downs b.downs) (most : ℕ) (within : most ≤ 10) (calls : DeviceCalls most a b b.is_down) where
+    (cause : reply ≡ Refused MachineDown → (k.now.machine.is_up ≡ false) ⊎ Rose a.downs b.downs) (most : ℕ) (within : (w : World) → KernelAt k before w → most ≤ calls_of w.base.units line) (calls : DeviceCalls most a b b.is_down) where
   -- the power went in it only where the count of downs rose
   decided_rose : (w new : World) (step : Step) → KernelAt k before w → CallDoes w (o w) step reply new → RoseBy (falls_of line step reply) a.downs b.downs
   decided_rose w new answered at does = subst (λ fell. RoseBy fell a.downs b.downs) (sym is.stays) (RoseBy-none a.downs b.downs calls.later)
@@ -102,18 +113,80 @@ module _ (line : Option Line) (o : World → Outcome) (reply : Reply) (is : IsDe
         counts = counted k n before now a b (calls_of w.base.units line) (plan_of line reply) (falls_of line step reply)
             (decided_rose w new step at (is.does w new step done))
             (calls.plan ∙ sym (append-nil a.plan) ∙ ap (λ (p : List PowerCall). a.plan ++ p) (sym is.plan))
-            (subst (λ n. b.calls ≤ a.calls + n) (sym (is.few w.base.units)) (omega (arith, within, calls.few)));
+            (let most_here = within w at in omega (arith, most_here, calls.few));
       }
 
+-- what is decided while the machine is down records nothing
+pub quiet_call : (x : Present) (process : Pid) (command : Command) → x.machine.is_up ≡ false → (decide x process command).events ≡ []
+quiet_call x process command off =
+    subst (λ b. (refuse_or x (first_refusal ((not b, MachineDown) ∷ command_tests x process command)) (command_effect x process command)).events ≡ []) (sym off) refl
+
+-- events put no bytes
+abbrev PutNone : List Event → Type 0
+PutNone events = (units_put events ≡ 0) × (is_write events ≡ false)
+
+no_write : (id : Id) (events : List Event) → is_write (Undo id ∷ events) ≡ false
+no_write id [] = refl
+no_write id (event ∷ events) = refl
+
+undo_puts_none : (clock : ℕ) (ts : List Transaction) → PutNone (flat_map (undo_of clock) ts)
+undo_puts_none clock [] = (refl, refl)
+undo_puts_none clock (t ∷ ts) = go (is_due clock t && t.is_recorded) (undo_puts_none clock ts)
+  where
+    go : (b : Bool) → PutNone (flat_map (undo_of clock) ts) → PutNone (event_if b (Undo t.id) ++ flat_map (undo_of clock) ts)
+    go true rest = (omega (arith, rest.0), no_write t.id (flat_map (undo_of clock) ts))
+    go false rest = rest
+
+-- the passing of time puts none
+tick_puts_none : (x : Present) (ms : ℕ) → IsSoundCourse x → PutNone (decide_tick x ms).events
+tick_puts_none x ms course = go x.machine.is_up
+  where
+    go : (b : Bool) → PutNone (refuse_or x (first_refusal ((not b, MachineDown) ∷ [])) (tick x ms)).events
+    go true = subst PutNone (sym (tick_records x ms course)) (undo_puts_none (later x.transactions.clock ms) x.transactions.items)
+    go false = (refl, refl)
+
+-- a machine that is up has the units of its world
+units_of : (k : KernelState) (told : Option DiskState) (w : World) → Stands k told w → k.journal.units ≡ w.base.units
+units_of k None w stands = absurd stands.disk
+units_of k (Some s) w stands =
+    ap (λ (l : KernelState). l.journal.units) stands.is ∙ sym stands.disk.journal.units ∙ ap (λ (l : KernelState). l.now.recorded.units) (sym stands.is)
+    ∙ ap (λ (x : Present). x.recorded.units) stands.now ∙ ap (λ (d : Durable). d.units) (sym stands.standing.running.comes_to) ∙ stand-units w.base w.log
+
 -- an outcome is recorded with few device calls
-pub few_calls : (j : JournalState) (events : List Event) → most_calls j events ≤ 10
-few_calls j events = elim (has_no_room j events) as (λ t. cond t 10 4 ≤ 10) [ true ↦ omega arith | false ↦ omega arith ]
+few_core_calls : (j : JournalState) (events : List Event) → most_core_calls j events ≤ 3 * j.units + 76
+few_core_calls j events = elim (has_no_room j events) as (λ t. page_calls (min (units_put events) (page_count j.units)) + cond t 10 4 ≤ 3 * j.units + 76) [ true ↦ omega arith | false ↦ omega arith ]
+
+few_of_units : (j : JournalState) (events : List Event) → most_calls j events ≤ 3 * j.units + 76
+few_of_units j events =
+    let few = few_core_calls j events in
+    elim (is_write events) as (λ t. cond t (10 + page_calls (page_count j.units)) (most_core_calls j events) ≤ 3 * j.units + 76) [ true ↦ omega arith | false ↦ few ]
+
+-- ten, where it puts no bytes
+few_of_none : (j : JournalState) (events : List Event) → PutNone events → most_calls j events ≤ 10
+few_of_none j events (none, other) =
+    subst (λ b. cond b (10 + page_calls (page_count j.units)) (most_core_calls j events) ≤ 10) (sym other)
+    (subst (λ n. page_calls (min n (page_count j.units)) + cond (has_no_room j events) 10 4 ≤ 10) (sym none)
+    (elim (has_no_room j events) as (λ t. page_calls (min 0 (page_count j.units)) + cond t 10 4 ≤ 10) [ true ↦ omega arith | false ↦ omega arith ]))
+
+pub few_calls : (k : KernelState) (told : Option DiskState) (events : List Event) → (k.now.machine.is_up ≡ false → events ≡ []) → (w : World) → KernelAt k told w → most_calls k.journal events ≤ 3 * w.base.units + 76
+few_calls k told events quiet w at = go (is_up w.power) refl at
+  where
+    go : (b : Bool) → is_up w.power ≡ b → StandsBy b k told w → most_calls k.journal events ≤ 3 * w.base.units + 76
+    go true on stands = subst (λ n. most_calls k.journal events ≤ 3 * n + 76) (units_of k told w stands) (few_of_units k.journal events)
+    go false off fallen =
+        let few = few_of_none k.journal [] (refl, refl) in
+        subst (λ (es : List Event). most_calls k.journal es ≤ 3 * w.base.units + 76) (sym (quiet (up_of k told w at ∙ off))) (omega (arith, few))
+
+pub few_later_calls : (k : KernelState) (told : Option DiskState) (ms : ℕ) (w : World) → KernelAt k told w → most_calls k.journal (decide_tick k.now ms).events ≤ 10
+few_later_calls k told ms w at =
+    let (is, standing) = stands_of (is_up w.power) k told w at in
+    few_of_none k.journal (decide_tick k.now ms).events (tick_puts_none k.now ms (subst IsSoundCourse (sym is) standing.running.now.sound.course))
 
 -- a line that changed nothing
-pub not_executed : (k n : KernelState) (before now : Option DiskState) (a b : DiskStatus) (line : List ℕ) → now ≡ before → b ≡ a → (w : World) → KernelAt k before w
+pub not_executed : LeftLaw → (k n : KernelState) (before now : Option DiskState) (a b : DiskStatus) (line : List ℕ) → now ≡ before → b ≡ a → (w : World) → KernelAt k before w
     → Unanswered w (on k before a) (on n now b) line
-not_executed k n before now a b line told same w at = record {
-  leaves = subst (λ (o : Option DiskState). IsSomeAnd o (LeavesStates w)) (sym told) (left_law k before w at);
+not_executed left k n before now a b line told same w at = record {
+  leaves = subst (λ (o : Option DiskState). IsSomeAnd o (LeavesStates w)) (sym told) (left k before w at);
   counts = inl (quiet k n before now a b same);
 }
 
@@ -218,10 +291,10 @@ module _ (law : PowerLaw) (k n : KernelState) (before mid now : Option DiskState
             (starts_counted w (falls_of (Some (Restart pick)) step reply) at (started_rose w new pick step reply m b starts cause calls.later));
       }
 
-  pub not_started : now ≡ mid → (line : List ℕ) (w : World) → Means line (Some (Restart pick)) → KernelAt k before w
+  pub not_started : FoundLaw → now ≡ mid → (line : List ℕ) (w : World) → Means line (Some (Restart pick)) → KernelAt k before w
       → Unanswered w (on k before a) (on n now b) line
-  not_started same line w means at = record {
-    leaves = subst (λ (o : Option DiskState). IsSomeAnd o (LeavesStates w)) (sym same) (found_law k mid w (found_at law k before mid off goes w at));
+  not_started stands_for same line w means at = record {
+    leaves = subst (λ (o : Option DiskState). IsSomeAnd o (LeavesStates w)) (sym same) (stands_for k mid w (found_at law k before mid off goes w at));
     counts = inr (pick, means, off_of k before w off at, starts_counted w 0 at (RoseBy-none m.downs b.downs calls.later));
   }
 

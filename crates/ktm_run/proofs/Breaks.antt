@@ -3,8 +3,7 @@ use Rattle.std.proofs.Common.{◌≡◌, inl, inr, ℕ, List, [], ◌++◌, Opti
 use Rattle.std.proofs.lemmas.List.{append-nil}
 use Rattle.ktm_base.specs.declared.power.PowerCall.{PowerCall}
 use Rattle.ktm_base.specs.Disk.{DiskState, DiskStatus}
-use Rattle.ktm_kernel.specs.Stands.{KernelState, KernelAt}
-use Rattle.ktm_kernel.proofs.Left.{left_law}
+use Rattle.ktm_kernel.specs.Stands.{KernelState, KernelAt, LeftLaw}
 use Rattle.ktm_run.proofs.Counting.{RoseBy-none}
 use Rattle.ktm_run.proofs.Lines.{Means-kept}
 use Rattle.ktm_log.specs.OnDisk.{OnDisk, on}
@@ -17,9 +16,9 @@ use Rattle.ktm_types.specs.declared.reply.Reply.{Reply}
 use Rattle.ktm_world.specs.World.{World}
 
 -- a line that was not executed at all
-pub unanswered_here : (w : World) (s : OnDisk KernelState) (line : List ℕ) → KernelAt s.it s.told w → Unanswered w s s line
-unanswered_here w s line stands = record {
-  leaves = left_law s.it s.told w stands;
+pub unanswered_here : LeftLaw → (w : World) (s : OnDisk KernelState) (line : List ℕ) → KernelAt s.it s.told w → Unanswered w s s line
+unanswered_here left w s line stands = record {
+  leaves = left s.it s.told w stands;
   counts = inl (record { rose = RoseBy-none s.status.downs s.status.downs (omega arith); plan_is = sym (append-nil s.status.plan); few = omega arith });
 }
 
@@ -68,7 +67,7 @@ module _ (machine : KernelState) (disk mid_disk : Option DiskState) (same : mid_
       }
 
 -- a line whose reply was not written whole
-pub half_written : (old new : OnDisk KernelState) (w : World) (taken now : Option (List ℕ)) (line : List ℕ) (meant : Option Line) (reply : Reply) → Means line meant → Answers old new meant reply
+pub half_written : LeftLaw → (old new : OnDisk KernelState) (w : World) (taken now : Option (List ℕ)) (line : List ℕ) (meant : Option Line) (reply : Reply) → Means line meant → Answers old new meant reply
     → AppendsPart taken now (reply_line reply) → KernelAt old.it old.told w → HalfWritten w (record { scene = old; taken = taken }) (record { scene = new; taken = now }) line
-half_written old new w taken now line meant reply means answers wrote stands =
-    let did = answers w stands in record { meant = meant; mean = means; reply = reply; did = did; wrote = wrote; leaves = left_law new.it new.told did.world did.stands }
+half_written left old new w taken now line meant reply means answers wrote stands =
+    let did = answers w stands in record { meant = meant; mean = means; reply = reply; did = did; wrote = wrote; leaves = left new.it new.told did.world did.stands }

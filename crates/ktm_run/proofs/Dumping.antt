@@ -6,8 +6,11 @@ use Rattle.std.specs.Io.KnownBytes.{Appends, Keeps}
 use Rattle.ktm_base.specs.Count.{Rose}
 use Rattle.ktm_base.specs.Disk.{DeviceCall, DiskState, DiskStatus, OnlyReads}
 use Rattle.ktm_base.specs.Told.{Goes}
+use Rattle.ktm_content.specs.Places.{byte_at}
+use Rattle.ktm_dump.specs.Alike.{TextsAlike}
 use Rattle.ktm_dump.specs.Text.{state_text}
 use Rattle.ktm_dump.specs.Written.{AppendsPart}
+use Rattle.ktm_journal.specs.Image.{row_of}
 use Rattle.ktm_journal.specs.declared.fault.LoadFault.{LoadFault}
 use Rattle.ktm_journal.specs.declared.fault.LoadFault.TheVariants as load
 use Rattle.ktm_log.specs.OnDisk.{OnDisk}
@@ -15,7 +18,7 @@ use Rattle.ktm_open.specs.Opening.{WentDown}
 use Rattle.ktm_open.proofs.Openings.{BadImagesLaw}
 use Rattle.ktm_restart.specs.Bad.{IsBadAt}
 use Rattle.ktm_restart.specs.Loads.{FaultLeaves}
-use Rattle.ktm_restart.specs.Logs.{StandsFor}
+use Rattle.ktm_restart.specs.Logs.{PagedFor, StandsFor, bytes_seen}
 use Rattle.ktm_run.proofs.Probed.{Appends-after, AppendsPart-after}
 use Rattle.ktm_run.specs.Dumped.{DumpLeaves, IsNotDumped, IsReadable, OnlyRead, SaysBlank, SaysFault, Tells}
 use Rattle.ktm_run.specs.Early.{FoundBad, FoundDown, NotRun, Outside, outside}
@@ -46,6 +49,14 @@ pub some_byte : (told : Option DiskState) (n : ℕ) → (n ≡ 0 → ⊥) → If
 some_byte None n some len = tt
 some_byte (Some s) n some len = subst (λ m. 0 < m) len (omega (arith, some))
 
+-- what was loaded is a state over the places of bytes; with the bytes there it is one for which the image stands, and of the same text
+abbrev SeenLaw : Type 0
+SeenLaw = (places : Durable) (bytes : List ℕ) → PagedFor places bytes → StandsFor (bytes_seen bytes places) bytes
+
+tells_loaded : SeenLaw → TextsAlike → (told : Option DiskState) (places : Durable) → IfSome told (λ s. PagedFor places s.seen) → Tells told (state_text places)
+tells_loaded seen alike None places paged = inr (places, tt, refl)
+tells_loaded seen alike (Some s) places paged = inr (bytes_seen s.seen places, seen places s.seen paged, sym (alike (byte_at (row_of places.units s.seen)) places))
+
 module _ (left taken now : Option (List ℕ)) where
   only_read : (most : ℕ) (before after : Option DiskState) (old new : DiskStatus) (refused : Bool) → OnlyReads most before after old new refused → OnlyRead (outside left taken before old) (outside left now after new)
   only_read most before after old new refused reads = record { not_run = record { not_read = refl; plan_is = reads.calls.plan }; same = reads.same }
@@ -58,12 +69,15 @@ module _ (left taken now : Option (List ℕ)) where
     there = outside left now after new
 
     -- what was loaded was written
-    pub dumped : (most : ℕ) (state : Durable) → OnlyReads most before after old new false → IfSome before (λ s. StandsFor state s.seen) → Appends taken now (state_text state) → DumpLeaves Done here there
-    dumped most state reads stands wrote = record { only_read = only_read most before after old new false reads; text = state_text state; tells = inr (state, stands, refl); wrote = wrote }
+    pub dumped : SeenLaw → TextsAlike → (most : ℕ) (state : Durable) → OnlyReads most before after old new false → IfSome before (λ s. PagedFor state s.seen) → Appends taken now (state_text state)
+        → DumpLeaves Done here there
+    dumped seen alike most state reads paged wrote =
+        record { only_read = only_read most before after old new false reads; text = state_text state; tells = tells_loaded seen alike before state paged; wrote = wrote }
 
-    pub dumped_part : (most : ℕ) (state : Durable) → OnlyReads most before after old new false → IfSome before (λ s. StandsFor state s.seen) → AppendsPart taken now (state_text state)
+    pub dumped_part : SeenLaw → TextsAlike → (most : ℕ) (state : Durable) → OnlyReads most before after old new false → IfSome before (λ s. PagedFor state s.seen) → AppendsPart taken now (state_text state)
         → DumpLeaves SinkFault here there
-    dumped_part most state reads stands wrote = inl (record { only_read = only_read most before after old new false reads; text = state_text state; tells = inr (state, stands, refl); wrote = wrote })
+    dumped_part seen alike most state reads paged wrote =
+        inl (record { only_read = only_read most before after old new false reads; text = state_text state; tells = tells_loaded seen alike before state paged; wrote = wrote })
 
     -- it was asked how long the disk is, which has no byte
     pub blank : (n : ℕ) (result : Status) → n ≡ 0 → IfSome before (λ s. n ≡ length s.seen) → after ≡ before → DeviceCall old new false → SaysBlank result taken now → DumpLeaves result here there

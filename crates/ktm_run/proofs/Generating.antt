@@ -4,7 +4,7 @@ use Rattle.std.proofs.lemmas.List.Sums.{sum_by-append}
 use Rattle.std.specs.Prelude.{IfSome, codes, count_by, decimal, slice_index_or}
 use Rattle.ktm_base.specs.Disk.{HasLengths}
 use Rattle.ktm_gen.specs.Script.{chosen, crashes, cycle_lines, generated_lines, line_at, rolls_back, word_of}
-use Rattle.ktm_kernel.specs.Stands.{KernelState, KernelAt}
+use Rattle.ktm_kernel.specs.Stands.{KernelState, KernelAt, LeftLaw}
 use Rattle.ktm_log.specs.OnDisk.{OnDisk}
 use Rattle.ktm_run.proofs.Breaks.{unanswered_here}
 use Rattle.ktm_run.proofs.Runs.{Went-none, Went-then, Went-line}
@@ -73,14 +73,14 @@ module _ (w : World) (a b : OnDisk KernelState) (number lines : ℕ) where
   Tallied-as all tally is so_far = subst (λ (n : ℕ). Tallied w a b (generated_lines number n) tally) is so_far
 
   -- a line that was not made, and one that was not executed
-  pub halted_here : (most : ℕ) (tally : Tally) → lines < most → IfSome b.told HasLengths → Tallied w a b (generated_lines number lines) tally → Halted number most w a b
-  halted_here most tally fewer lengths so_far = record {
+  pub halted_here : LeftLaw → (most : ℕ) (tally : Tally) → lines < most → IfSome b.told HasLengths → Tallied w a b (generated_lines number lines) tally → Halted number most w a b
+  halted_here left most tally fewer lengths so_far = record {
     before = lines;
     fewer = fewer;
     at = b;
     lengths = lengths;
     went = so_far.went;
-    broke = unanswered_here so_far.went.world b (line_at number lines) so_far.went.stands;
+    broke = unanswered_here left so_far.went.world b (line_at number lines) so_far.went.stands;
   }
 
   pub halted_at : (c : OnDisk KernelState) (most : ℕ) (tally : Tally) (line : List ℕ) → line ≡ line_at number lines → lines < most → IfSome b.told HasLengths

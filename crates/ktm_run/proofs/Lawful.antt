@@ -1,5 +1,5 @@
 -- A run begins with a world that stands, so that it is lawful.
-use Rattle.std.proofs.Common.{◌≡◌, ℕ, ◌≤◌, [], Option, ap, arith}
+use Rattle.std.proofs.Common.{◌≡◌, ℕ, ◌≤◌, [], ap, arith}
 use Rattle.ktm_kernel.specs.Restarts.{IsFreshlyCounted}
 use Rattle.ktm_laws.specs.Running.{LastsFor, LawfulWorldsLaw, OneOutcomeLaw}
 use Rattle.ktm_run.specs.Lawful.{RunLaw, most_lines}

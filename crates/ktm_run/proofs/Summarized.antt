@@ -6,7 +6,7 @@ use Rattle.std.specs.Io.KnownBytes.{Appends, Keeps}
 use Rattle.ktm_base.specs.Disk.{HasLengths}
 use Rattle.ktm_gen.specs.declared.generator.TheConstants.{MOST_LINES}
 use Rattle.ktm_gen.specs.Script.{generated_lines, line_at}
-use Rattle.ktm_kernel.specs.Stands.{KernelState, KernelAt}
+use Rattle.ktm_kernel.specs.Stands.{KernelState, KernelAt, LeftLaw}
 use Rattle.ktm_log.specs.OnDisk.{OnDisk}
 use Rattle.ktm_open.specs.declared.fault.OpenFault.{OpenFault}
 use Rattle.ktm_open.specs.declared.fault.OpenFault.TheVariants as opening
@@ -28,7 +28,7 @@ module _ (number lines : ℕ) where
   -- ---- a machine that was started
 
   module _ (base : Durable) (old new : Outside) (first : OnDisk KernelState) (machine : KernelState) (lengths : IfSome new.disk HasLengths)
-      (stands : KernelAt first.it first.told (opened base [])) (unworn : is_worn base ≡ false) (opening : RunCounts base.units old.status first.status 0 [] 0) (law : RunIsLawful base)
+      (stands : KernelAt first.it first.told (opened base [])) (unworn : is_worn base ≡ false) (opening : RunCounts base.units old.status first.status 0 [] 0) (law : RunIsLawful base) (left : LeftLaw)
       (few : lines ≤ MOST_LINES) where
     abbrev begun : Now
     begun = record { scene = first; taken = old.taken }
@@ -43,7 +43,7 @@ module _ (number lines : ℕ) where
           before = h.before;
           fewer = h.fewer;
           at = record { taken = old.taken; disk = h.at.told; status = h.at.status };
-          executed = executed base old new first machine lengths stands unworn opening law h.at (generated_lines number h.before) h.lengths (generated_few number h.before (omega (arith, h.fewer, few))) h.went;
+          executed = executed base old new first machine lengths stands unworn opening law left h.at (generated_lines number h.before) h.lengths (generated_few number h.before (omega (arith, h.fewer, few))) h.went;
           broke = unanswered_of h.went.world (record { scene = h.at; taken = old.taken }) ended (line_at number h.before) lengths (subst (λ (o : Option (List ℕ)). Appends old.taken o []) (sym silent) (Appends-none old.taken)) h.broke;
           not_written = Keeps-refl old.taken;
         }
@@ -51,10 +51,10 @@ module _ (number lines : ℕ) where
     pub generated_ended : (result : Status) → SumLeaves result number lines begun ended → GeneratedEnds result number lines base old new
     generated_ended Done sums =
         let s = sums (opened base []) stands in
-        record { unworn = unworn; executed = executed base old new first machine lengths stands unworn opening law ended.scene (generated_lines number lines) lengths (generated_few number lines few) s.went; wrote = s.wrote }
+        record { unworn = unworn; executed = executed base old new first machine lengths stands unworn opening law left ended.scene (generated_lines number lines) lengths (generated_few number lines few) s.went; wrote = s.wrote }
     generated_ended SinkFault sums =
         let s = sums (opened base []) stands in
-        inl (record { unworn = unworn; executed = executed base old new first machine lengths stands unworn opening law ended.scene (generated_lines number lines) lengths (generated_few number lines few) s.went; wrote = s.wrote })
+        inl (record { unworn = unworn; executed = executed base old new first machine lengths stands unworn opening law left ended.scene (generated_lines number lines) lengths (generated_few number lines few) s.went; wrote = s.wrote })
     generated_ended NoMemory (silent, halts) = inr (halted silent halts)
     generated_ended Usage never = absurd never
     generated_ended SourceFault never = absurd never

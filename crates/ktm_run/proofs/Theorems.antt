@@ -10,8 +10,7 @@ use Rattle.ktm_base.specs.declared.power.PowerCall.TheVariants.{Power}
 use Rattle.ktm_base.specs.Count.{Rose}
 use Rattle.ktm_base.specs.Disk.{DiskState, DiskStatus, HasLengths}
 use Rattle.ktm_base.proofs.offered.Images.{seen_law}
-use Rattle.ktm_kernel.specs.Stands.{KernelState, KernelAt, LeavesStates}
-use Rattle.ktm_kernel.proofs.Left.{left_law}
+use Rattle.ktm_kernel.specs.Stands.{KernelState, KernelAt, LeavesStates, LeftLaw}
 use Rattle.ktm_run.specs.declared.status.Status.{Status}
 use Rattle.ktm_run.specs.declared.status.Status.TheVariants.{Done, Usage, SourceFault, SinkFault, NoMemory, BadImage, DiskFault, ScriptTooLong, Worn}
 use Rattle.ktm_open.specs.Opening.{OpeningCounts}
@@ -89,7 +88,7 @@ module _ (base : Durable) (old new : Outside) (first : OnDisk KernelState) (mach
   abbrev ended : Now
   ended = record { scene = on machine new.disk new.status; taken = new.taken }
 
-  module _ (stands : KernelAt first.it first.told (opened base [])) (unworn : is_worn base ≡ false) (opening : RunCounts base.units old.status first.status 0 [] 0) (law : RunIsLawful base) where
+  module _ (stands : KernelAt first.it first.told (opened base [])) (unworn : is_worn base ≡ false) (opening : RunCounts base.units old.status first.status 0 [] 0) (law : RunIsLawful base) (left : LeftLaw) where
     abbrev pub executed : (at : OnDisk KernelState) (lines : List (List ℕ)) → IfSome at.told HasLengths → length lines ≤ most_lines → Went (opened base []) first at lines → Executed base old.status at.status at.told lines
     executed at lines long many went = let few = meant_few lines went.meant went.mean many in record {
       meant = went.meant;
@@ -102,7 +101,7 @@ module _ (base : Durable) (old new : Outside) (first : OnDisk KernelState) (mach
       lawful_before = λ n mid run. law.lawful _ _ _ mid (omega (arith, length-take n went.meant, few)) run;
       one_outcome = law.one_outcome went.meant went.steps went.replies went.world few went.run;
       counts = all_counts base old.status first at _ _ _ opening went.counts;
-      holds = holds_of at.told went.world long (left_law at.it at.told went.world went.stands);
+      holds = holds_of at.told went.world long (left at.it at.told went.world went.stands);
     }
 
     abbrev replied : (at : Now) (lines : List (List ℕ)) → IfSome at.scene.told HasLengths → length lines ≤ most_lines → Ran (opened base []) begun at lines → Replied base (moment_of old) (moment_at at) lines

@@ -58,11 +58,11 @@ falls (line ∷ lines) (step ∷ steps) (reply ∷ replies) = falls_of line step
 abbrev pub RoseBy : ℕ → ℕ → ℕ → Type 0
 RoseBy n before now = min (before + n) (2 ^ 64 - 1) ≤ now
 
--- the most device calls of a line, on an image of so many units: a call of a process and the passing of time record with four, and with six
--- more where the log has no room, a restart reads the image and records that it started, and no other line makes any
+-- the most device calls of a line, on an image of so many units: a call of a process and the passing of time record with four, and with six more
+-- where the log has no room, a call also writes the bytes that it puts, a restart reads the image and records that it started, and no other line makes any
 abbrev pub calls_of : ℕ → Option Line → ℕ
 calls_of units None = 0
-calls_of units (Some (Process process command)) = 10
+calls_of units (Some (Process process command)) = 3 * units + 76
 calls_of units (Some (Tick ms)) = 10
 calls_of units (Some (Cut calls)) = 0
 calls_of units (Some Crash) = 0

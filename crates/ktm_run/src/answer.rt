@@ -12,7 +12,7 @@ ghost use Rattle.ktm_types.specs.declared.command.Line.{Line};
 ghost use Rattle.ktm_types.specs.declared.command.Line.TheVariants.{Cut, Crash, Restart, Process, Tick};
 
 use ktm_base::{Down, NoMemory, Pid, PowerDisk, Refusal};
-use ktm_kernel::{Kernel, law_of_power};
+use ktm_kernel::{Kernel, law_of_power, law_of_what_is_found, law_of_what_is_left};
 use ktm_script::{LineFault, read_line};
 use ktm_types::{Command, Line, Reply};
 use std::alloc::Global;
@@ -32,6 +32,7 @@ fn call<D: PowerDisk>(
     ensures lasts { OnOk result (LastsAfter 1 kernel.old kernel.new) }
     ensures no_memory { OnErr result ((line : List ℕ) (w : World) → KernelAt kernel.old (D.told disk.old) w → Unanswered w (on kernel.old (D.told disk.old) (D.status disk.old)) (on kernel.new (D.told disk.new) (D.status disk.new)) line) }
 {
+    law_of_what_is_left();
     if let Some(completion) = command.completion() {
         return Ok(kernel.complete(disk, process, completion));
     }
@@ -89,6 +90,7 @@ fn restart<D: PowerDisk>(kernel: &mut Kernel, disk: &mut D, pick: u64) -> Result
     ensures no_memory { OnErr result ((line : List ℕ) (w : World) → Means line (Some (Restart pick)) → KernelAt kernel.old (D.told disk.old) w → Unanswered w (on kernel.old (D.told disk.old) (D.status disk.old)) (on kernel.new (D.told disk.new) (D.status disk.new)) line) }
 {
     law_of_power();
+    law_of_what_is_found();
     if kernel.is_up() {
         return Ok(Reply::Refused(Refusal::MachineUp));
     }
@@ -116,6 +118,7 @@ fn answer<D: PowerDisk>(
     ensures lasts { OnOk result (LastsAfter 1 kernel.old kernel.new) }
     ensures no_memory { OnErr result ((w : World) → KernelAt kernel.old (D.told disk.old) w → Unanswered w (on kernel.old (D.told disk.old) (D.status disk.old)) (on kernel.new (D.told disk.new) (D.status disk.new)) line.now) }
 {
+    law_of_what_is_left();
     let meant = match read_line(alloc, line) {
         Ok(meant) => meant,
         Err(LineFault::BadLine) => return Ok(Reply::Refused(Refusal::BadLine)),
@@ -144,6 +147,7 @@ pub fn execute<D: PowerDisk>(
     ensures lasts { OnOk result (LastsAfter 1 kernel.old kernel.new) }
     ensures no_memory { OnErr result ((w : World) → KernelAt kernel.old (D.told disk.old) w → Unanswered w (on kernel.old (D.told disk.old) (D.status disk.old)) (on kernel.new (D.told disk.new) (D.status disk.new)) line.now) }
 {
+    law_of_what_is_left();
     if let Err(NoMemory) = disk.plan_room(alloc) {
         return Err(NoMemory);
     }

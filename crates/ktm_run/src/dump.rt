@@ -7,9 +7,9 @@ ghost use Rattle.ktm_run.specs.Early.{outside};
 use crate::image::write_bad_image;
 use crate::status::Status;
 use ktm_base::{Down, Failed, PowerDisk, Sink};
-use ktm_dump::{write_line, write_state};
+use ktm_dump::{law_of_texts, write_line, write_state};
 use ktm_journal::LoadFault;
-use ktm_restart::load;
+use ktm_restart::{law_of_journals, load};
 use std::alloc::Global;
 
 // How the dump of an image ends that was not loaded. Of a bad one it says so.
@@ -46,6 +46,8 @@ fn dump_state<K: Sink, D: PowerDisk>(alloc: Global, sink: &mut K, disk: &mut D) 
     ensures leaves { (left : Option (List ℕ)) → DumpLeaves result (outside left (K.taken sink.old) (D.told disk.old) (D.status disk.old)) (outside left (K.taken sink.new) (D.told disk.new) (D.status disk.new)) }
     ensures fault { result ≡ Status.SinkFault → Rose (K.faults sink.old) (K.faults sink.new) }
 {
+    law_of_journals();
+    law_of_texts();
     // the log is read into it, and then the text is collected in it
     let mut buffer = Vec::new(alloc);
     let loaded = match load(alloc, disk, &mut buffer) {

@@ -21,7 +21,7 @@ use crate::tally::Tally;
 use ktm_base::{Failed, NoMemory, PowerDisk, Sink};
 use ktm_dump::write_all;
 use ktm_gen::{Generator, LONGEST_LINE, MOST_LINES};
-use ktm_kernel::Kernel;
+use ktm_kernel::{Kernel, law_of_what_is_left};
 use ktm_open::open_kernel;
 use ktm_restart::law_of_bad_images;
 use std::alloc::Global;
@@ -40,6 +40,7 @@ fn run_lines<D: PowerDisk>(
     requires lines { lines ≤ MOST_LINES }
     ensures { LinesLeave number lines (on kernel.old (D.told disk.old) (D.status disk.old)) (on kernel.new (D.told disk.new) (D.status disk.new)) result }
 {
+    law_of_what_is_left();
     let mut generator = Generator::new(number);
     let mut tally = Tally::new();
     'lines: for done in 0..lines {
@@ -145,6 +146,7 @@ pub fn run_generated<K: Sink, D: PowerDisk>(
         Err(why) => return not_started(sink, why),
     };
     law_of_runs();
+    law_of_what_is_left();
     let status = summarize(alloc, &mut kernel, sink, disk, &mut line, number, lines);
     kernel.end();
     status

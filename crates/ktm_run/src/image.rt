@@ -14,6 +14,7 @@ use crate::script::{PIECE, run_script};
 use crate::status::Status;
 use ktm_base::{Failed, PowerDisk, Sink, Source};
 use ktm_dump::{write_all, write_line};
+use ktm_kernel::law_of_what_is_left;
 use ktm_open::{OpenFault, open_kernel};
 use ktm_restart::law_of_bad_images;
 use std::alloc::Global;
@@ -81,6 +82,7 @@ pub fn run_image<S: Source, K: Sink, D: PowerDisk>(
         Err(why) => return not_started(sink, why),
     };
     law_of_runs();
+    law_of_what_is_left();
     let status = run_script(
         alloc,
         &mut kernel,

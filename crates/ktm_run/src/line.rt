@@ -12,7 +12,7 @@ use crate::answer::execute;
 use crate::fault::RunFault;
 use ktm_base::{Failed, MOST_LINE_BYTES, NoMemory, PowerDisk, Sink};
 use ktm_dump::write_all;
-use ktm_kernel::Kernel;
+use ktm_kernel::{Kernel, law_of_what_is_left};
 use ktm_reply::put_reply;
 use ktm_types::Reply;
 use memchr::memchr;
@@ -59,6 +59,7 @@ pub fn do_line<K: Sink, D: PowerDisk>(
     if !is_answered(kept) {
         return Ok(());
     }
+    law_of_what_is_left();
     let Ok(reply) = execute(alloc, kernel, disk, kept) else {
         return Err(RunFault::NoMemory);
     };

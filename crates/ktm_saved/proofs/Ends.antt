@@ -1,5 +1,5 @@
 -- Tests of all things of a list.
-use Rattle.std.proofs.Common.{◌≡◌, ◌&&◌, Bool, true, List, ◌++◌, sym, ◌∙◌}
+use Rattle.std.proofs.Common.{◌≡◌, Bool, true, List, ◌++◌, sym, ◌∙◌}
 use Rattle.std.specs.List.{list_all}
 use Rattle.std.proofs.lemmas.Bool.{and_parts}
 use Rattle.std.proofs.lemmas.List.Folds.{list_all-append}

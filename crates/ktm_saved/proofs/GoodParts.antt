@@ -1,18 +1,14 @@
 -- The parts of a good state.
-use Rattle.std.proofs.Common.{◌≡◌, ℕ, ◌<◌, ◌≤◌, ◌^◌, ◌-◌, ◌&&◌, Bool, true, false, List, length, nat_le, nat_lt, sym, subst, ◌∙◌, arith, inl, inr}
-use Rattle.std.specs.List.{list_all}
+use Rattle.std.proofs.Common.{◌≡◌, ℕ, ◌<◌, ◌≤◌, ◌^◌, ◌-◌, ◌&&◌, true, length, nat_le, nat_lt, sym, subst, ◌∙◌, arith, inl, inr}
 use Rattle.std.proofs.lemmas.Bool.{and_from, and_parts, cases_Bool, lt-ltb, true≢false}
 use Rattle.ktm_base.specs.declared.limits.TheConstants.{MOST_LIVE}
-use Rattle.ktm_keyed.specs.Keyed.{is_rising}
 use Rattle.ktm_snapshot.specs.declared.head.StateHead.{StateHead}
 use Rattle.ktm_snapshot.specs.StateGrammar.{head_of}
-use Rattle.ktm_states.specs.GoodState.{IsGoodState, is_drawn}
+use Rattle.ktm_states.specs.GoodState.{IsGoodState}
 use Rattle.ktm_waiting.proofs.offered.Limits.{too-many}
-use Rattle.ktm_world.specs.Durable.{Durable, is_before, is_within_limits}
+use Rattle.ktm_world.specs.Durable.{Durable, is_within_limits}
 use Rattle.ktm_world.specs.Tree.{Tree}
 use Rattle.ktm_saved.specs.Reading.{AreGoodKeys, AreGoodManagers, IsGoodTree}
-use Rattle.txf_laws.specs.Contents.{is_good_entry}
-use Rattle.txf_laws.specs.Elements.{each_pair}
 use Rattle.txf_saved.specs.Saved.{AreFiles, LeastBehind, number_behind}
 
 -- ---- the files

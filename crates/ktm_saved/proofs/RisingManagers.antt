@@ -1,5 +1,5 @@
 -- Resource managers that are read one behind the other.
-use Rattle.std.proofs.Common.{◌≡◌, ℕ, ◌≤◌, ◌&&◌, Bool, true, false, List, [], ◌∷◌, ◌++◌, length, nat_le, refl, sym, ◌∙◌, ap, arith, inl, length-append}
+use Rattle.std.proofs.Common.{◌≡◌, ℕ, ◌&&◌, true, false, List, [], ◌∷◌, ◌++◌, length, nat_le, refl, ap, arith, inl, length-append}
 use Rattle.std.specs.List.{list_all}
 use Rattle.std.proofs.lemmas.Bool.{and_parts, and_from, false_from_ne_true, le-leb, leb-true}
 use Rattle.ktm_base.specs.declared.id.Id.{Id}

@@ -1,14 +1,16 @@
 -- The committed keys of a snapshot are texts, and so are those that its transactions set.
-use Rattle.std.proofs.Common.{◌≡◌, ℕ, List, [], ◌∷◌, ◌++◌, Option, refl, All}
+use Rattle.std.proofs.Common.{ℕ, List, [], ◌∷◌, ◌++◌, Option, refl, sym, subst, All}
 use Rattle.std.proofs.lemmas.List.Elements.{All-append, All-from_recursion}
 use Rattle.std.specs.List.{AllByRecursion, flat_map}
 use Rattle.ktm_base.specs.declared.id.Id.{Id}
 use Rattle.ktm_base.specs.Grammar.{IsRow}
 use Rattle.ktm_keyed.specs.declared.keyed.Keyed.{Keyed}
 use Rattle.ktm_records.specs.Spelling.{AreTextKeys, HaveTextKeys, SpellingLaw}
-use Rattle.ktm_snapshot.specs.StateGrammar.{IsEntryOf, IsMarkedOf, IsTransactionOf}
+use Rattle.ktm_snapshot.specs.Works.{placed_part}
+use Rattle.ktm_snapshot.specs.StateGrammar.{IsEntryOf, IsPlacedPartOf, IsMarkedOf, IsTransactionOf}
 use Rattle.ktm_types.specs.declared.event.Event.TheVariants.{Ready}
 use Rattle.ktm_types.specs.declared.event.Part.{Part}
+use Rattle.ktm_types.specs.declared.event.Part.TheVariants.{Enlistment, Changes, Settings}
 use Rattle.ktm_types.specs.declared.recorded.RecordedPart.{RecordedPart}
 use Rattle.ktm_types.specs.EventGrammar.{IsIdOf, IsPartOf}
 use Rattle.ktm_types.specs.Values.{IsText}
@@ -32,10 +34,20 @@ module _ (law : SpellingLaw) where
   part_texts : (id : Id) (named : List ℕ) → IsIdOf id named → (part : Part) (bytes : List ℕ) → IsPartOf part bytes → HaveTextKeys (settings_in part)
   part_texts id named is part bytes spelled = law.grammar (Ready id part) (4 ∷ named ++ bytes) (named ++ bytes, refl, (named, bytes, refl, is, spelled))
 
+  -- those that a part of a state sets
+  placed_texts : (id : Id) (named : List ℕ) → IsIdOf id named → (part : Part) (bytes : List ℕ) → IsPlacedPartOf part bytes → HaveTextKeys (settings_in part)
+  placed_texts id named is part bytes spelled =
+      subst (λ (p : Part). HaveTextKeys (settings_in p)) (sym spelled.placed) (same spelled.recorded (part_texts id named is spelled.recorded bytes spelled.spelled))
+    where
+      same : (recorded : Part) → HaveTextKeys (settings_in recorded) → HaveTextKeys (settings_in (placed_part recorded))
+      same (Enlistment enlistment manager information) texts = texts
+      same (Changes changes) texts = texts
+      same (Settings settings) texts = texts
+
   parts_texts : (id : Id) (named : List ℕ) → IsIdOf id named → (parts : List RecordedPart) (bytes : List ℕ) → IsRow IsMarkedOf parts bytes → HaveTextKeys (flat_map (λ p. settings_in p.part) parts)
   parts_texts id named is [] bytes row = All-from_recursion HasTextKey [] tt
   parts_texts id named is (p ∷ ps) bytes (marked, rest, split, part, row) =
-      All-append HasTextKey (settings_in p.part) (flat_map (λ p. settings_in p.part) ps) (part_texts id named is p.part part.1 part.4) (parts_texts id named is ps rest row)
+      All-append HasTextKey (settings_in p.part) (flat_map (λ p. settings_in p.part) ps) (placed_texts id named is p.part part.1 part.4) (parts_texts id named is ps rest row)
 
   -- those that transactions set
   pub texts : (ts : List Recorded) (bytes : List ℕ) → IsRow IsTransactionOf ts bytes → All (λ (t : Recorded). HaveTextKeys (settings_of t)) ts

@@ -19,7 +19,6 @@ use Rattle.ktm_states.specs.GoodState.{IsGoodState}
 use Rattle.ktm_world.specs.Durable.{Durable, Recorded, is_before, is_within_limits}
 use Rattle.txf_laws.specs.Contents.{is_good_entry}
 use Rattle.txf_laws.specs.Elements.{each_pair}
-use Rattle.txf_tree.specs.TreeState.{tree_of}
 
 module _ (bytes : List ℕ) (front : Front) (start : ℕ) (begun : Spans (IsUpToManagersOf (state_behind 0 0 front [])) bytes 0 start) where
   -- what stands before the transactions of any state is what was read

@@ -11,7 +11,7 @@ ghost use Rattle.txf_tree.specs.TreeState.{tree_of};
 use crate::enlisted::{are_enlisted_well, are_enlistments_apart, is_drawn};
 use crate::head::Head;
 use ktm_base::NoMemory;
-use ktm_types::{Change, DonePart, Part, RecordedPart};
+use ktm_types::{Change, Contents, DonePart, Part, RecordedPart};
 use ktm_waiting::{
     changes_of, has_part, has_part_of, has_undone_part, is_decided, is_held, is_part_of, is_ready,
     settings_of,
@@ -19,7 +19,7 @@ use ktm_waiting::{
 use ktm_world::{Recorded, are_good_settings};
 use std::alloc::Global;
 use txf_durable::{DurableFiles, FileNumbers, are_recorded_changes};
-use txf_tree::{bytes_in, is_make, node_of};
+use txf_tree::{is_make, node_of};
 
 fn is_ready_well(transaction: &Recorded) -> bool
     ensures { result ≡ is_ready_well transaction.now }
@@ -130,9 +130,12 @@ fn are_kept_changes(
 fn puts_some(change: &Change) -> bool
     ensures { result ≡ puts_some change.now }
 {
-    match change {
-        Change::Put { contents, .. } => !bytes_in(contents).is_empty(),
-        _ => true,
+    let Change::Put { contents, .. } = change else {
+        return true;
+    };
+    match contents {
+        Contents::Whole(bytes) => !bytes.is_empty(),
+        Contents::Paged { len, .. } => *len != 0,
     }
 }
 

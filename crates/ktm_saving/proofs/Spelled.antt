@@ -7,6 +7,7 @@ use Rattle.std.specs.List.{flat_map}
 use Rattle.ktm_base.specs.declared.limits.TheConstants.{MOST_INFORMATION_BYTES, MOST_NUMBER, MOST_UNITS}
 use Rattle.ktm_base.specs.declared.id.Id.{Id}
 use Rattle.ktm_base.specs.Names.{IsName}
+use Rattle.ktm_content.specs.Contents.{units_of}
 use Rattle.ktm_event.specs.Spelling.{AreSpellableChanges, AreSpellableSettings, IsSpellableId, IsSpellablePart, IsSpellableRecord}
 use Rattle.ktm_keyed.specs.declared.keyed.Keyed.{Keyed}
 use Rattle.ktm_types.specs.declared.change.Change.{Change}
@@ -66,7 +67,7 @@ enlisted-spelled s good e is =
 
 -- ---- files and keys
 
-contents-spelled : (content : Option (List ℕ)) → contents_size content < 2 ^ 32 → IfSome content (λ contents. length contents < 2 ^ 32)
+contents-spelled : (content : Option (List ℕ)) → contents_size content < 2 ^ 32 → IfSome content (λ contents. units_of contents < 2 ^ 32)
 contents-spelled None small = tt
 contents-spelled (Some contents) small = omega (arith, small)
 

@@ -1,5 +1,5 @@
 -- What transactions changed and set, as it is recorded.
-use Rattle.std.specs.Prelude.{List, [], if◌then◌else◌}
+use Rattle.std.specs.Prelude.{List, [], map, if◌then◌else◌}
 use Rattle.ktm_base.specs.declared.id.Id.{Id}
 use Rattle.ktm_event.specs.Work.{changes_of}
 use Rattle.ktm_types.specs.declared.change.Change.{Change}
@@ -9,15 +9,20 @@ use Rattle.ktm_world.specs.Durable.{Recorded, is_decided}
 use Rattle.ktm_world.specs.Enlistments.{Enlistment}
 use Rattle.ktm_world.specs.Files.{OwnChanges, own_changes}
 use Rattle.ktm_world.specs.Keys.{Own, OwnSettings, own_settings}
+use Rattle.ktm_snapshot.specs.Works.{placed_change}
 use Rattle.ktm_trace.specs.Contents.{contents_of, expanded}
 use Rattle.ktm_trace.specs.Traces.{Traced, TracedPart}
 use Rattle.txf_volume.specs.Shown.{shown}
 use Rattle.ktm_memory.specs.Memory.{LayersNow, MemoryState, held}
 use Rattle.ktm_saving.specs.declared.owned.Owned.{Owned}
 
--- the changes that are lent
+-- the changes that are lent, as they are recorded
 abbrev pub changes_owned : Owned → List Change
 changes_owned o = changes_of o.names.now (shown o.files)
+
+-- the same as a state has them
+abbrev pub changes_placed : Owned → List Change
+changes_placed o = map placed_change (changes_owned o)
 
 -- the changes that a transaction at this stage has left to commit
 abbrev pub changes_left : List OwnChanges → Id → Stage → List Change

@@ -11,14 +11,14 @@ use Rattle.ktm_memory.specs.Memory.{MemoryState, present_of}
 abbrev pub journal_on : OnDisk MemoryState → OnDisk JournalState
 journal_on m = on m.it.journal m.told m.status
 
--- a snapshot of what was recorded stands for all that the journal held, and nothing else of memory has changed
+-- a snapshot of what was recorded stands for all that the journal held, nothing else of memory has changed, and the pages of the disk are as they were
 pub record IsSaved (old new : OnDisk MemoryState) : Type 0 where
   pub is : new.it ≡ record old.it { journal = compacted old.it.journal }
   pub snapshot : List ℕ
   pub state : IsStateOf (present_of old.it).recorded snapshot
   pub compacts : Compacts snapshot (journal_on old) (journal_on new)
 
--- the power went: the journal may hold what it held, or a snapshot of what was recorded
+-- the power went: the journal may hold what it held, or a snapshot of what was recorded, and the pages of the disk are as they were
 pub record IsHalfSaved (old new : OnDisk MemoryState) : Type 0 where
   pub same : new.it ≡ old.it
   pub snapshot : List ℕ

@@ -1,5 +1,6 @@
 -- Which things of a state have bytes.
 use Rattle.std.specs.Prelude.{ℕ, ◌<◌, ◌^◌, List, length, All, IfSome}
+use Rattle.ktm_content.specs.Contents.{units_of}
 use Rattle.ktm_event.specs.Spelling.{IsSpellableId, IsSpellablePart, IsSpellableRecord}
 use Rattle.ktm_keyed.specs.declared.keyed.Keyed.{Keyed}
 use Rattle.ktm_types.specs.declared.recorded.Node.{Node}
@@ -7,10 +8,10 @@ use Rattle.ktm_types.specs.declared.recorded.RecordedPart.{RecordedPart}
 use Rattle.ktm_types.specs.Values.{IsText}
 use Rattle.ktm_world.specs.Durable.{Durable, Recorded}
 
--- the length of a node's name fits one byte, and that of a file's contents four
+-- the length of a node's name fits one byte, and the count of a file's units four
 pub record IsSpellableNode (node : Node) : Type 0 where
   pub name : length node.name < 2 ^ 8
-  pub contents : IfSome node.content (λ contents. length contents < 2 ^ 32)
+  pub contents : IfSome node.content (λ contents. units_of contents < 2 ^ 32)
 
 -- a committed key is a text whose length fits one byte, and the length of its value fits two
 pub record IsSpellableEntry (entry : Keyed (List ℕ)) : Type 0 where

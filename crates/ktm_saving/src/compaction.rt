@@ -15,8 +15,8 @@ use ktm_memory::Memory;
 use ktm_room::law_of_snapshots;
 use ktm_snapshot::law_of_states;
 
-/// Lets a snapshot of what was recorded stand for all that the journal holds, whose log is empty then. The snapshot is put
-/// together in the buffer, which has room for it; no memory is taken.
+/// Lets a snapshot of what was recorded stand for all that the journal holds, whose log is empty then, and whose pages are as
+/// they were. The snapshot is put together in the buffer, which has room for it; no memory is taken.
 pub fn compact<D: Disk>(memory: &mut Memory, disk: &mut D, buffer: &mut Vec<u8>) -> Result<(), Down>
     requires kept { IsKept (present_of memory.old) }
     requires texts { AreTexts (present_of memory.old) }

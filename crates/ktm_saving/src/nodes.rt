@@ -23,7 +23,7 @@ fn write_node(node: NodeRef<'_>, out: &mut Vec<u8>)
         name: node.name,
         content: node.content,
     };
-    put_node(out, node);
+    put_node(out, &node);
 }
 
 /// Writes the nodes but the root, by rising number, behind their count. It takes no memory.

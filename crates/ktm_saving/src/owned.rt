@@ -1,9 +1,13 @@
 // What a transaction changed and set, as it is recorded.
-ghost use Rattle.std.specs.Prelude.{◌≡◌, [], if◌then◌else◌};
+ghost use Rattle.std.specs.Prelude.{◌≡◌, [], true, if◌then◌else◌};
+ghost use Rattle.std.specs.List.{list_all};
+ghost use Rattle.ktm_event.specs.Spelling.{AreSpellableChanges};
 ghost use Rattle.ktm_memory.specs.Memory.{held};
-ghost use Rattle.ktm_saving.specs.Owned.{changes_left, changes_owned, settings_left};
+ghost use Rattle.ktm_saving.specs.Owned.{changes_left, changes_placed, changes_owned, settings_left};
+ghost use Rattle.ktm_snapshot.specs.Works.{is_of_work};
 
 use ktm_base::Id;
+use ktm_course::law_of_pages;
 use ktm_memory::Memory;
 use ktm_types::{Change, Setting, Stage};
 use txf_volume::Written;
@@ -20,9 +24,12 @@ pub(crate) struct Owned<'a> {
 
 /// What the transaction at this stage has left to commit: nothing once it is decided.
 pub(crate) fn left_to_commit(memory: &Memory, id: Id, stage: Stage) -> Owned<'_>
-    ensures changes { changes_owned result ≡ changes_left (held memory.now).files.table.own id stage }
+    ensures changes { changes_placed result ≡ changes_left (held memory.now).files.table.own id stage }
+    ensures work { list_all is_of_work (changes_owned result) ≡ true }
+    ensures spelled { AreSpellableChanges (changes_left (held memory.now).files.table.own id stage) → AreSpellableChanges (changes_owned result) }
     ensures settings { result.settings.now ≡ settings_left memory.now.keys.own id stage }
 {
+    law_of_pages();
     match stage {
         Stage::Decided => Owned {
             names: &[],

@@ -1,10 +1,12 @@
 // The transactions that are not over.
 ghost use Rattle.std.specs.Prelude.{◌≡◌, ◌+◌, ◌≤◌, IfSome, Some, map, option_map, sum_by, true, vec_capacity, vec_len};
+ghost use Rattle.std.specs.List.{list_all};
 ghost use Rattle.ktm_event.specs.Spelling.{IsSpellableId, IsSpellablePart, IsSpellableRecord};
 ghost use Rattle.ktm_event.specs.Work.{part_of};
-ghost use Rattle.ktm_saving.specs.Owned.{changes_owned, part_with, recorded_in};
+ghost use Rattle.ktm_saving.specs.Owned.{changes_placed, changes_owned, part_with, recorded_in};
 ghost use Rattle.ktm_saving.specs.Spellable.{AreSpellable, IsSpellableTransaction};
 ghost use Rattle.ktm_saving.specs.Writes.{Writes};
+ghost use Rattle.ktm_snapshot.specs.Works.{is_of_work};
 ghost use Rattle.ktm_snapshot.specs.Shown.{superior_of};
 ghost use Rattle.ktm_snapshot.specs.Sizes.{marked_size, transaction_size};
 ghost use Rattle.ktm_snapshot.specs.StateGrammar.{AreTransactionsOf, IsMarkedOf, IsTransactionOf, transactions_rise};
@@ -19,7 +21,7 @@ use ktm_codec::put_u32;
 use ktm_event::Work;
 use ktm_memory::Memory;
 use ktm_phase::Enlistment;
-use ktm_snapshot::{ShownSuperior, law_of_writing, put_transaction, put_work};
+use ktm_snapshot::{ShownSuperior, law_of_works, law_of_writing, put_transaction, put_work};
 use ktm_tm::Tm;
 use ktm_trace::{PartRef, TransactionRef};
 use ktm_types::DonePart;
@@ -76,9 +78,11 @@ fn work_of<'a>(tm: &'a Tm, owned: &'a Owned<'a>, who: DonePart) -> Work<'a, Writ
 
 fn write_part(tm: &Tm, owned: &Owned<'_>, part: PartRef, out: &mut Vec<u8>)
     requires spelled { IsSpellablePart (contents_of tm.now.now.enlistments (changes_owned owned.now) owned.now.settings.now part.who) }
-    requires room { vec_len out.old + marked_size (part_with tm.now.now.enlistments (changes_owned owned.now) owned.now.settings.now (part_lent part)) ≤ vec_capacity out.old }
-    ensures { let marked = part_with tm.now.now.enlistments (changes_owned owned.now) owned.now.settings.now (part_lent part) in Writes (IsMarkedOf marked) (marked_size marked) out.old out.new }
+    requires work { list_all is_of_work (changes_owned owned.now) ≡ true }
+    requires room { vec_len out.old + marked_size (part_with tm.now.now.enlistments (changes_placed owned.now) owned.now.settings.now (part_lent part)) ≤ vec_capacity out.old }
+    ensures { let marked = part_with tm.now.now.enlistments (changes_placed owned.now) owned.now.settings.now (part_lent part) in Writes (IsMarkedOf marked) (marked_size marked) out.old out.new }
 {
+    law_of_works();
     put_work(out, part.is_done, work_of(tm, owned, part.who));
 }
 

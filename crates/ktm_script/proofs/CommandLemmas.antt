@@ -2,7 +2,7 @@
 use Rattle.std.proofs.Common.{◌≡◌, ℕ, true, List, [], ◌∷◌, ◌++◌, Option, Some, codes, refl, ◌∙◌, ap, subst, arith, lit<, append_assoc}
 use Rattle.ktm_base.specs.declared.id.Label.{Label}
 use Rattle.ktm_types.specs.declared.command.Command.{Command}
-use Rattle.ktm_types.specs.declared.command.Command.TheVariants.{CreateTransaction, OpenTransaction, CommitTransaction, RollbackTransaction, GetTransactionInformation, CreateResourceManager, OpenResourceManager, RecoverResourceManager, GetNotificationResourceManager, CreateEnlistment, OpenEnlistment, RecoverEnlistment, PrePrepareComplete, PrepareComplete, ReadOnlyEnlistment, CommitComplete, RollbackComplete, SinglePhaseReject, RollbackEnlistment, PrePrepareEnlistment, PrepareEnlistment, CommitEnlistment, SetEnlistmentRecoveryInformation, GetEnlistmentRecoveryInformation, CreateFile, CreateFileTransacted, ReadFile, WriteFile, SetEndOfFile, GetFileSizeEx, FlushFileBuffers, DeleteFile, CreateDirectory, RemoveDirectory, MoveFile, DeleteFileTransacted, CreateDirectoryTransacted, RemoveDirectoryTransacted, MoveFileTransacted, FindFiles, FindFilesTransacted, KvSet, KvUnset, KvGet, KvList, CloseHandle, DuplicateHandle, Exit}
+use Rattle.ktm_types.specs.declared.command.Command.TheVariants.{CreateTransaction, OpenTransaction, CommitTransaction, RollbackTransaction, GetTransactionInformation, CreateResourceManager, OpenResourceManager, RecoverResourceManager, GetNotificationResourceManager, CreateEnlistment, OpenEnlistment, RecoverEnlistment, PrePrepareComplete, PrepareComplete, ReadOnlyEnlistment, CommitComplete, RollbackComplete, SinglePhaseReject, RollbackEnlistment, PrePrepareEnlistment, PrepareEnlistment, CommitEnlistment, SetEnlistmentRecoveryInformation, GetEnlistmentRecoveryInformation, CreateFile, CreateFileTransacted, ReadFile, WriteFile, SetEndOfFile, WriteUnits, GetFileSizeEx, FlushFileBuffers, DeleteFile, CreateDirectory, RemoveDirectory, MoveFile, DeleteFileTransacted, CreateDirectoryTransacted, RemoveDirectoryTransacted, MoveFileTransacted, FindFiles, FindFilesTransacted, KvSet, KvUnset, KvGet, KvList, CloseHandle, DuplicateHandle, Exit}
 use Rattle.ktm_types.specs.declared.options.Access.{Access}
 use Rattle.ktm_types.specs.declared.options.Disposition.{Disposition}
 use Rattle.ktm_types.specs.declared.options.ShareMode.{ShareMode}
@@ -138,6 +138,7 @@ spelled_so (CreateFileTransacted label path access share disposition transaction
 spelled_so (ReadFile file offset many) h = made_again (both reads_label (both reads_size reads_size)) form.ReadFile (λ x. ReadFile x.0 x.1.0 x.1.1) (file, (offset, many)) (h.0, (h.1, h.2)) refl refl refl
 spelled_so (WriteFile file offset bytes) h = made_again (both reads_label (both reads_size reads_bytes)) form.WriteFile (λ x. WriteFile x.0 x.1.0 x.1.1) (file, (offset, bytes)) (h.0, (h.1, h.2)) refl refl refl
 spelled_so (SetEndOfFile file size) h = made_again (both reads_label reads_size) form.SetEndOfFile (λ x. SetEndOfFile x.0 x.1) (file, size) (h.0, h.1) refl refl refl
+spelled_so (WriteUnits file start contents) h = absurd h
 spelled_so (GetFileSizeEx file) h = made_again reads_label form.GetFileSizeEx GetFileSizeEx file h refl refl refl
 spelled_so (FlushFileBuffers file) h = made_again reads_label form.FlushFileBuffers FlushFileBuffers file h refl refl refl
 spelled_so (DeleteFile path) h = made_again reads_text form.DeleteFile DeleteFile path h refl refl refl

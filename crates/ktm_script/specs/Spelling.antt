@@ -1,5 +1,5 @@
 -- The grammar of lines: how each line is spelled, and which lines there are.
-use Rattle.std.specs.Prelude.{ℕ, ◌^◌, ◌<◌, ◌≤◌, List, ◌∷◌, ◌++◌, length, codes, decimal}
+use Rattle.std.specs.Prelude.{ℕ, ◌^◌, ◌<◌, ◌≤◌, List, [], ◌∷◌, ◌++◌, length, codes, decimal}
 use Rattle.ktm_base.specs.declared.limits.TheConstants.{MOST_LINE_BYTES}
 use Rattle.ktm_base.specs.declared.id.Label.{Label}
 use Rattle.ktm_base.specs.declared.id.Pid.{Pid}
@@ -7,7 +7,7 @@ use Rattle.ktm_codec.specs.Guid.{guid_spelling}
 use Rattle.ktm_codec.specs.Hex.{hex_or_dash}
 use Rattle.ktm_codec.specs.Quoted.{quoted}
 use Rattle.ktm_types.specs.declared.command.Command.{Command}
-use Rattle.ktm_types.specs.declared.command.Command.TheVariants.{CreateTransaction, OpenTransaction, CommitTransaction, RollbackTransaction, GetTransactionInformation, CreateResourceManager, OpenResourceManager, RecoverResourceManager, GetNotificationResourceManager, CreateEnlistment, OpenEnlistment, RecoverEnlistment, PrePrepareComplete, PrepareComplete, ReadOnlyEnlistment, CommitComplete, RollbackComplete, SinglePhaseReject, RollbackEnlistment, PrePrepareEnlistment, PrepareEnlistment, CommitEnlistment, SetEnlistmentRecoveryInformation, GetEnlistmentRecoveryInformation, CreateFile, CreateFileTransacted, ReadFile, WriteFile, SetEndOfFile, GetFileSizeEx, FlushFileBuffers, DeleteFile, CreateDirectory, RemoveDirectory, MoveFile, DeleteFileTransacted, CreateDirectoryTransacted, RemoveDirectoryTransacted, MoveFileTransacted, FindFiles, FindFilesTransacted, KvSet, KvUnset, KvGet, KvList, CloseHandle, DuplicateHandle, Exit}
+use Rattle.ktm_types.specs.declared.command.Command.TheVariants.{CreateTransaction, OpenTransaction, CommitTransaction, RollbackTransaction, GetTransactionInformation, CreateResourceManager, OpenResourceManager, RecoverResourceManager, GetNotificationResourceManager, CreateEnlistment, OpenEnlistment, RecoverEnlistment, PrePrepareComplete, PrepareComplete, ReadOnlyEnlistment, CommitComplete, RollbackComplete, SinglePhaseReject, RollbackEnlistment, PrePrepareEnlistment, PrepareEnlistment, CommitEnlistment, SetEnlistmentRecoveryInformation, GetEnlistmentRecoveryInformation, CreateFile, CreateFileTransacted, ReadFile, WriteFile, SetEndOfFile, WriteUnits, GetFileSizeEx, FlushFileBuffers, DeleteFile, CreateDirectory, RemoveDirectory, MoveFile, DeleteFileTransacted, CreateDirectoryTransacted, RemoveDirectoryTransacted, MoveFileTransacted, FindFiles, FindFilesTransacted, KvSet, KvUnset, KvGet, KvList, CloseHandle, DuplicateHandle, Exit}
 use Rattle.ktm_types.specs.declared.command.Line.{Line}
 use Rattle.ktm_types.specs.declared.command.Line.TheVariants.{Tick, Cut, Crash, Restart, Process}
 use Rattle.ktm_types.specs.declared.command.View.{View}
@@ -80,7 +80,7 @@ kind_spelling kind.SinglePhase = codes "singlephase"
 kind_spelling kind.Both = codes "both"
 kind_spelling kind.Superior = codes "superior"
 
--- a command: its name, and its values behind a space each
+-- a command: its name, and its values behind a space each; no line spells whole units that are put
 abbrev pub command_spelling : Command → List ℕ
 command_spelling (CreateTransaction label timeout) = codes "CreateTransaction" ␣ label_spelling label ␣ decimal timeout
 command_spelling (OpenTransaction label guid) = codes "OpenTransaction" ␣ label_spelling label ␣ guid_spelling guid
@@ -111,6 +111,7 @@ command_spelling (CreateFileTransacted label path access share disposition trans
 command_spelling (ReadFile file offset many) = codes "ReadFile" ␣ label_spelling file ␣ decimal offset ␣ decimal many
 command_spelling (WriteFile file offset bytes) = codes "WriteFile" ␣ label_spelling file ␣ decimal offset ␣ hex_or_dash bytes
 command_spelling (SetEndOfFile file size) = codes "SetEndOfFile" ␣ label_spelling file ␣ decimal size
+command_spelling (WriteUnits file start contents) = []
 command_spelling (GetFileSizeEx file) = codes "GetFileSizeEx" ␣ label_spelling file
 command_spelling (FlushFileBuffers file) = codes "FlushFileBuffers" ␣ label_spelling file
 command_spelling (DeleteFile path) = codes "DeleteFile" ␣ quoted path

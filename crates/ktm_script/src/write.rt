@@ -221,6 +221,8 @@ fn put_command(out: &mut Vec<u8>, command: &Command) -> Result<(), NoMemory>
             Command::SetEndOfFile { file, size } => {
                 put_label_and_count(out, Form::SetEndOfFile, *file, *size)
             },
+            // no line spells it
+            Command::WriteUnits { .. } => Ok(out.push(b' ')?),
             Command::MoveFile { source, target } => {
                 put_one_text(out, Form::MoveFile, source)?;
                 put_text(out, target)

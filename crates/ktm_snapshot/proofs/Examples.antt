@@ -1,11 +1,14 @@
 -- The worked examples, by computation.
-use Rattle.std.proofs.Common.{◌≡◌, ◌≤◌, ℕ, Bool, true, false, Some, None, List, [], ◌∷◌, ◌++◌, refl, arith}
+use Rattle.std.proofs.Common.{◌≡◌, ◌≤◌, ℕ, Bool, true, false, Some, None, List, [], ◌∷◌, ◌++◌, get_or, refl, sym, subst, arith}
+use Rattle.std.proofs.lemmas.Grind.{same_number_lists}
 use Rattle.ktm_base.specs.Grammar.{IsU32, IsU64}
+use Rattle.ktm_content.specs.Places.{LieOn, places_on}
+use Rattle.ktm_content.proofs.offered.Placing.{get_or-places_on, length-places_on}
 use Rattle.ktm_types.specs.EventGrammar.{IsIdOf}
 use Rattle.ktm_types.specs.declared.event.Part.TheVariants.{Enlistment}
 use Rattle.ktm_world.specs.Durable.{empty_state}
 use Rattle.ktm_snapshot.specs.Examples.{four, eight, empty_bytes, small_state, small_bytes}
-use Rattle.ktm_snapshot.specs.StateGrammar.{IsHeadOf, IsNodeOf, IsEntryOf, IsMarkedOf, IsStateOf, IsRisingListOf, AreNodesOf, AreEntriesOf, AreManagersOf, AreTransactionsOf}
+use Rattle.ktm_snapshot.specs.StateGrammar.{IsHeadOf, IsContentsOf, IsNodeOf, IsEntryOf, IsMarkedOf, IsStateOf, IsRisingListOf, AreNodesOf, AreEntriesOf, AreManagersOf, AreTransactionsOf}
 
 is_four : (n : ℕ) → IsU32 n (four n)
 is_four n = record { long = refl; value = omega arith }
@@ -48,26 +51,41 @@ directory : IsNodeOf (record { number = 2; parent = 1; name = 0x64 ∷ []; conte
 directory = (eight 2, eight 1 ++ 1 ∷ 1 ∷ 0x64 ∷ [], refl, is_eight 2, (eight 1, 1 ∷ 1 ∷ 0x64 ∷ [], refl, is_eight 1, (1 ∷ 0x64 ∷ [], refl, refl)))
 
 abbrev contents_bytes : List ℕ
-contents_bytes = 1 ∷ 0x66 ∷ (four 1 ++ 0x41 ∷ [])
+contents_bytes = eight 1 ++ (four 1 ++ (four 5 ++ []))
+
+-- the first byte of page 5
+lie : LieOn (5 ∷ []) (0x5001 ∷ [])
+lie = record {
+  units = refl;
+  places = same_number_lists _ _ (omega (arith, length-places_on (5 ∷ []) 1 (omega arith))) (λ k low.
+      let first : k ≡ 0 = omega (arith, low) in
+      subst (λ (i : ℕ). get_or (0x5001 ∷ []) i 0 ≡ get_or (places_on (5 ∷ []) 1) i 0) (sym first) (sym (get_or-places_on (5 ∷ []) 1 0 0 (omega arith) (omega arith) (omega arith))));
+}
+
+contents : IsContentsOf (0x5001 ∷ []) contents_bytes
+contents = record { pages = 5 ∷ []; lie = lie; spelled = (eight 1, four 1 ++ (four 5 ++ []), refl, is_eight 1, (four 1, four 5 ++ [], refl, is_four 1, (four 5, [], refl, is_four 5, refl))) }
+
+abbrev named_bytes : List ℕ
+named_bytes = 1 ∷ 0x66 ∷ contents_bytes
 
 abbrev file_bytes : List ℕ
-file_bytes = eight 3 ++ (eight 2 ++ 0 ∷ contents_bytes)
+file_bytes = eight 3 ++ (eight 2 ++ 0 ∷ named_bytes)
 
-file : IsNodeOf (record { number = 3; parent = 2; name = 0x66 ∷ []; content = Some (0x41 ∷ []) }) file_bytes
+file : IsNodeOf (record { number = 3; parent = 2; name = 0x66 ∷ []; content = Some (0x5001 ∷ []) }) file_bytes
 file = (
   eight 3,
-  eight 2 ++ 0 ∷ contents_bytes,
+  eight 2 ++ 0 ∷ named_bytes,
   refl,
   is_eight 3,
   (
     eight 2,
-    0 ∷ contents_bytes,
+    0 ∷ named_bytes,
     refl,
     is_eight 2,
     (
-      contents_bytes,
+      named_bytes,
       refl,
-      (1 ∷ 0x66 ∷ [], four 1 ++ 0x41 ∷ [], refl, refl, (four 1, 0x41 ∷ [], refl, is_four 1, refl)),
+      (1 ∷ 0x66 ∷ [], contents_bytes, refl, refl, contents),
     ),
   ),
 )
@@ -111,11 +129,16 @@ marked = (
   1 ∷ (id_bytes 1 ++ (id_bytes 1 ++ 0 ∷ [])),
   refl,
   record { value = refl },
-  (
-    id_bytes 1 ++ (id_bytes 1 ++ 0 ∷ []),
-    refl,
-    (id_bytes 1, id_bytes 1 ++ 0 ∷ [], refl, is_id 1 (omega arith), (id_bytes 1, 0 ∷ [], refl, is_id 1 (omega arith), refl)),
-  ),
+  record {
+    recorded = Enlistment (record { boot = 1; number = 1 }) (record { boot = 1; number = 1 }) [];
+    work = refl;
+    placed = refl;
+    spelled = (
+      id_bytes 1 ++ (id_bytes 1 ++ 0 ∷ []),
+      refl,
+      (id_bytes 1, id_bytes 1 ++ 0 ∷ [], refl, is_id 1 (omega arith), (id_bytes 1, 0 ∷ [], refl, is_id 1 (omega arith), refl)),
+    );
+  },
 )
 
 transactions : AreTransactionsOf (small_state 0 0).transactions (four 1 ++ (transaction_bytes ++ []))

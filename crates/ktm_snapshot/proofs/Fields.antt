@@ -1,23 +1,31 @@
 -- How what is read of a piece at one place goes on at the next.
-use Rattle.std.proofs.Common.{◌≡◌, ◌≢◌, ℕ, ◌<◌, true, false, Option, Some, None, List, [], ◌∷◌, length, refl, sym, ap, subst, arith}
+use Rattle.std.proofs.Common.{◌≡◌, ◌≢◌, ℕ, ◌+◌, ◌/◌, ◌<◌, true, false, Option, Some, None, Err, List, [], ◌∷◌, length, refl, sym, ◌∙◌, ap, subst, arith}
+use Rattle.std.proofs.lemmas.Bool.{true≢false}
 use Rattle.ktm_base.specs.declared.id.Id.{Id}
-use Rattle.ktm_base.specs.Grammar.{IsU8, IsTextOf, IsValueOf, IsBytesOf, IsRow, Tagged, Then}
+use Rattle.ktm_base.specs.Grammar.{IsU8, IsU32, IsU64, IsTextOf, IsValueOf, IsRow, IsListOf, Tagged, Then}
 use Rattle.ktm_codec.specs.Spans.{Spans, Reads}
 use Rattle.ktm_codec.proofs.Forms.{unambiguous_u8, unambiguous_text, unambiguous_value}
 use Rattle.ktm_codec.proofs.SpansLemmas.{Spans-map, spans_then, spans_parts, one_reading, then_no_second, then_same, row_next}
+use Rattle.ktm_content.specs.Places.{places_on}
 use Rattle.ktm_event.proofs.Pairs.{Both}
+use Rattle.ktm_event.proofs.Parts.{unambiguous_part}
 use Rattle.ktm_event.proofs.Readings.{Absent}
 use Rattle.ktm_event.proofs.Tags.{other_tag, no_byte}
-use Rattle.ktm_event.specs.Reading.{Behind, IsRecordedOf}
+use Rattle.ktm_event.specs.declared.fault.EventFault.{EventFault}
+use Rattle.ktm_event.specs.declared.fault.EventFault.TheVariants.{NotAnEvent, NoMemory}
+use Rattle.ktm_event.specs.Reading.{Behind, Gives, IsRecordedOf}
 use Rattle.ktm_types.specs.EventGrammar.{IsPartOf}
 use Rattle.ktm_types.specs.Values.{IsText}
+use Rattle.ktm_types.specs.declared.event.Part.{Part}
 use Rattle.ktm_types.specs.declared.recorded.RecordedPart.{RecordedPart}
 use Rattle.ktm_types.specs.declared.recorded.Stage.{Stage}
 use Rattle.ktm_types.specs.declared.recorded.Stage.TheVariants.{Ready, Held, Decided}
 use Rattle.ktm_types.specs.declared.recorded.Superior.{Superior}
-use Rattle.ktm_snapshot.proofs.OnePiece.{IsHeadPairOf, IsNodePairOf, IsStartPairOf, start_pair, unambiguous_start, unambiguous_marked}
+use Rattle.ktm_snapshot.proofs.OnePiece.{IsContentsPairOf, IsHeadPairOf, IsNodePairOf, IsStartPairOf, start_pair, unambiguous_contents_pair, unambiguous_start, unambiguous_marked}
+use Rattle.ktm_snapshot.proofs.Placed.{lie-on}
+use Rattle.ktm_snapshot.specs.Works.{IsPlaced, is_work, placed_part}
 use Rattle.ktm_snapshot.specs.Shown.{IsNamedPairOf, IsBegunOf}
-use Rattle.ktm_snapshot.specs.StateGrammar.{IsHeadOf, IsContentsOf, IsNodeOf, IsEntryOf, IsStageOf, IsSuperiorOf, IsMarkOf, IsMarkedOf, IsTransactionOf}
+use Rattle.ktm_snapshot.specs.StateGrammar.{IsHeadOf, IsContentsOf, IsNodeOf, IsEntryOf, IsStageOf, IsSuperiorOf, IsMarkOf, IsPlacedPartOf, IsMarkedOf, IsTransactionOf}
 
 module _ {bytes : List ℕ} {at : ℕ} where
   pub no_head : Absent IsHeadPairOf bytes at → Reads IsHeadOf bytes at None
@@ -41,8 +49,28 @@ module _ {bytes : List ℕ} {at : ℕ} where
           none_of name mid text
       none (name, None) end spans = none_of name end (untagged {P = IsTextOf name} tag 1 spans)
 
-  pub no_contents : {name : List ℕ} {mid : ℕ} → Spans (IsTextOf name) bytes at mid → Reads IsBytesOf bytes mid None → Absent (Behind IsNamedPairOf 0) bytes at
-  no_contents {name} {mid} text none_of = record { none = none }
+  -- ---- contents
+
+  pub no_contents : Absent IsContentsPairOf bytes at → Absent IsContentsOf bytes at
+  no_contents absent = record { none = λ contents end spans. absent.none (length contents, spans.form.pages) end (record { forward = spans.forward; within = spans.within; form = spans.form.spelled }) }
+
+  module _ (size mid : ℕ) (pages : List ℕ) (end : ℕ) (first : Spans (IsU64 size) bytes at mid) (second : Spans (IsListOf IsU32 pages) bytes mid end) where
+    -- there is a page for each unit
+    pub contents_read : length pages ≡ (size + 4095) / 4096 → Spans (IsContentsOf (places_on pages size)) bytes at end
+    contents_read many =
+        let (long, lie) = lie-on pages size many in
+        Spans-map (λ part is. record { pages = pages; lie = lie; spelled = subst (λ (n : ℕ). Then (IsU64 n) (IsListOf IsU32 pages) part) (sym long) is })
+        (spans_then bytes at mid end first second)
+
+    -- there is not
+    pub other_contents : (length pages ≡ (size + 4095) / 4096 → ⊥) → Reads IsContentsOf bytes at None
+    other_contents other contents end' spans =
+        let read : Spans (IsContentsPairOf (length contents, spans.form.pages)) bytes at end' = record { forward = spans.forward; within = spans.within; form = spans.form.spelled } in
+        let (same, ends) = one_reading IsContentsPairOf unambiguous_contents_pair bytes at (size, pages) (length contents, spans.form.pages) end end' (spans_then bytes at mid end first second) read in
+        other (ap (λ (n : ℕ × List ℕ). length n.1) same ∙ spans.form.lie.units ∙ ap (λ (n : ℕ × List ℕ). (n.0 + 4095) / 4096) (sym same))
+
+  pub no_named_contents : {name : List ℕ} {mid : ℕ} → Spans (IsTextOf name) bytes at mid → Reads IsContentsOf bytes mid None → Absent (Behind IsNamedPairOf 0) bytes at
+  no_named_contents {name} {mid} text none_of = record { none = none }
     where
       none : Reads (Behind IsNamedPairOf 0) bytes at None
       none (name', Some contents) end spans =
@@ -90,7 +118,27 @@ module _ {bytes : List ℕ} {at : ℕ} where
   other_mark {tag} {mid} read not_done done false end spans = not_done (one_reading IsU8 unambiguous_u8 bytes at tag 0 mid end read spans).0
   other_mark {tag} {mid} read not_done done true end spans = done (one_reading IsU8 unambiguous_u8 bytes at tag 1 mid end read spans).0
 
-  pub no_marked : Absent (Both IsMarkOf IsPartOf) bytes at → Absent IsMarkedOf bytes at
+  -- a part that is none of a transaction's work
+  other_part : (recorded : Part) {end : ℕ} → Spans (IsPartOf recorded) bytes at end → is_work recorded ≡ false → Reads IsPlacedPartOf bytes at None
+  other_part recorded {end} read other = none
+    where
+      none : Reads IsPlacedPartOf bytes at None
+      none part end' spans =
+          let (same, ends) = one_reading IsPartOf unambiguous_part bytes at recorded spans.form.recorded end end' read (record { forward = spans.forward; within = spans.within; form = spans.form.spelled }) in
+          true≢false (sym spans.form.work ∙ ap is_work (sym same) ∙ other)
+
+  -- what is told of such a part
+  pub placed_gives : (recorded : Part) {end : ℕ} (fault : EventFault) → Spans (IsPartOf recorded) bytes at end → IsPlaced (is_work recorded) (placed_part recorded) (Err fault) → Gives IsPlacedPartOf bytes at (Err fault)
+  placed_gives recorded NotAnEvent read other = other_part recorded read other
+  placed_gives recorded NoMemory read other = tt
+
+  pub no_part : Absent IsPartOf bytes at → Absent IsPlacedPartOf bytes at
+  no_part absent = record { none = λ part end spans. absent.none spans.form.recorded end (record { forward = spans.forward; within = spans.within; form = spans.form.spelled }) }
+
+  pub part_read : (recorded part : Part) {end : ℕ} → is_work recorded ≡ true → part ≡ placed_part recorded → Spans (IsPartOf recorded) bytes at end → Spans (IsPlacedPartOf part) bytes at end
+  part_read recorded part work is_placed = Spans-map (λ bytes' is. record { recorded = recorded; work = work; placed = is_placed; spelled = is })
+
+  pub no_marked : Absent (Both IsMarkOf IsPlacedPartOf) bytes at → Absent IsMarkedOf bytes at
   no_marked absent = record { none = λ part end spans. absent.none (part.is_done, part.part) end spans }
 
   pub no_enlistment : Absent IsRecordedOf bytes at → Absent (Behind IsSuperiorOf 1) bytes at

@@ -1,3 +1,4 @@
+pub mod Placed
 pub mod OnePiece
 pub mod OneState
 pub mod StateSizes

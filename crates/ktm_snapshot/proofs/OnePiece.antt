@@ -1,9 +1,10 @@
 -- No spelling of a piece begins another one, and a piece has one spelling.
-use Rattle.std.proofs.Common.{◌≡◌, ℕ, Bool, true, false, Option, Some, None, List, [], ◌∷◌, length, refl, sym, ◌∙◌, ap}
+use Rattle.std.proofs.Common.{◌≡◌, ℕ, Bool, true, false, Option, Some, None, List, [], ◌∷◌, length, refl, sym, ◌∙◌, ap, subst}
 use Rattle.ktm_base.specs.declared.id.Id.{Id}
-use Rattle.ktm_base.specs.Grammar.{IsU32, IsU64, Tagged, IsTextOf, IsValueOf, IsRow}
+use Rattle.ktm_base.specs.Grammar.{IsU32, IsU64, Tagged, IsTextOf, IsValueOf, IsRow, IsListOf, Then}
 use Rattle.ktm_codec.specs.Spans.{Unambiguous, OneSpelling}
-use Rattle.ktm_codec.proofs.Forms.{unambiguous_u32, unambiguous_u64, unambiguous_text, unambiguous_value, unambiguous_bytes, unambiguous_then, unambiguous_tagged, unambiguous_row, other_tags, one_u8, one_u32, one_u64, one_text, one_value, one_bytes, one_then, one_exact, one_tagged, one_row}
+use Rattle.ktm_codec.proofs.Forms.{unambiguous_u32, unambiguous_u64, unambiguous_text, unambiguous_value, unambiguous_then, unambiguous_tagged, unambiguous_row, unambiguous_list, other_tags, one_u8, one_u32, one_u64, one_text, one_value, one_then, one_exact, one_tagged, one_row, one_list}
+use Rattle.ktm_content.specs.Places.{places_on}
 use Rattle.ktm_event.proofs.Pairs.{Both, unambiguous_both}
 use Rattle.ktm_event.proofs.Parts.{IsEnlistedOf, unambiguous_id, unambiguous_enlisted, unambiguous_part, one_id, one_enlisted, one_part}
 use Rattle.ktm_event.proofs.Tags.{other}
@@ -14,8 +15,10 @@ use Rattle.ktm_types.specs.declared.recorded.Stage.{Stage}
 use Rattle.ktm_types.specs.declared.recorded.Stage.TheVariants.{Ready, Held, Decided}
 use Rattle.ktm_types.specs.declared.recorded.Superior.{Superior}
 use Rattle.ktm_world.specs.Durable.{Recorded}
+use Rattle.ktm_snapshot.proofs.Placed.{pages-one, part-one}
+use Rattle.ktm_snapshot.specs.Works.{placed_part}
 use Rattle.ktm_snapshot.specs.Shown.{IsNamedPairOf}
-use Rattle.ktm_snapshot.specs.StateGrammar.{IsHeadOf, IsContentsOf, IsNodeOf, IsEntryOf, IsStageOf, IsSuperiorOf, IsMarkOf, IsMarkedOf, IsTransactionOf}
+use Rattle.ktm_snapshot.specs.StateGrammar.{IsHeadOf, IsContentsOf, IsNodeOf, IsEntryOf, IsStageOf, IsSuperiorOf, IsMarkOf, IsPlacedPartOf, IsMarkedOf, IsTransactionOf}
 
 -- the fields of a head, as pairs
 abbrev pub IsHeadPairOf : ℕ × (ℕ × ℕ) → List ℕ → Type 0
@@ -33,9 +36,27 @@ one_head head = one_then _ _ (one_u64 head.events) (one_then _ _ (one_u32 head.b
 
 -- ---- nodes
 
+-- the fields of contents, as a pair
+abbrev pub IsContentsPairOf : ℕ × List ℕ → List ℕ → Type 0
+IsContentsPairOf = Both IsU64 (IsListOf IsU32)
+
+pub unambiguous_contents_pair : Unambiguous IsContentsPairOf
+unambiguous_contents_pair = unambiguous_both IsU64 (IsListOf IsU32) unambiguous_u64 (unambiguous_list IsU32 unambiguous_u32)
+
+unambiguous_contents : Unambiguous IsContentsOf
+unambiguous_contents x y a b c d p q e =
+    let (same, bytes) = unambiguous_contents_pair (length x, p.pages) (length y, q.pages) a b c d p.spelled q.spelled e in
+    (p.lie.places ∙ ap (λ (n : ℕ × List ℕ). places_on n.1 n.0) same ∙ sym q.lie.places, bytes)
+
+one_contents : OneSpelling IsContentsOf
+one_contents contents a b all all' p q =
+    let same = pages-one contents p.pages q.pages p.lie q.lie in
+    one_then (IsU64 (length contents)) (IsListOf IsU32 q.pages) (one_u64 (length contents)) (one_list IsU32 one_u32 q.pages) a b all all'
+    (subst (λ (pages : List ℕ). Then (IsU64 (length contents)) (IsListOf IsU32 pages) a) same p.spelled) q.spelled
+
 pub unambiguous_named : Unambiguous IsNamedPairOf
 unambiguous_named (name, Some contents) (name', Some contents') a b c d p q e =
-    let (same, bytes) = unambiguous_tagged (Both IsTextOf IsContentsOf) (unambiguous_both IsTextOf IsContentsOf unambiguous_text unambiguous_bytes) 0 (name, contents) (name', contents') a b c d p q e in
+    let (same, bytes) = unambiguous_tagged (Both IsTextOf IsContentsOf) (unambiguous_both IsTextOf IsContentsOf unambiguous_text unambiguous_contents) 0 (name, contents) (name', contents') a b c d p q e in
     (ap (λ (n : List ℕ × List ℕ). (n.0, Some n.1)) same, bytes)
 unambiguous_named (name, None) (name', None) a b c d p q e =
     let (same, bytes) = unambiguous_tagged IsTextOf unambiguous_text 1 name name' a b c d p q e in
@@ -55,7 +76,7 @@ unambiguous_node x y a b c d p q e =
     (nodes, bytes)
 
 one_named : OneSpelling IsNamedPairOf
-one_named (name, Some contents) = one_tagged 0 _ (one_then _ _ (one_text name) (one_bytes contents))
+one_named (name, Some contents) = one_tagged 0 _ (one_then _ _ (one_text name) (one_contents contents))
 one_named (name, None) = one_tagged 1 _ (one_text name)
 
 pub one_node : OneSpelling IsNodeOf
@@ -124,14 +145,24 @@ one_mark : OneSpelling IsMarkOf
 one_mark false = one_u8 0
 one_mark true = one_u8 1
 
+unambiguous_placed : Unambiguous IsPlacedPartOf
+unambiguous_placed x y a b c d p q e =
+    let (same, bytes) = unambiguous_part p.recorded q.recorded a b c d p.spelled q.spelled e in
+    (p.placed ∙ ap placed_part same ∙ sym q.placed, bytes)
+
+one_placed : OneSpelling IsPlacedPartOf
+one_placed part a b all all' p q =
+    let same = part-one p.recorded q.recorded p.work q.work (sym p.placed ∙ q.placed) in
+    one_part q.recorded a b all all' (subst (λ (recorded : Part). IsPartOf recorded a) same p.spelled) q.spelled
+
 pub unambiguous_marked : Unambiguous IsMarkedOf
 unambiguous_marked x y a b c d p q e =
-    let (same, bytes) = unambiguous_both IsMarkOf IsPartOf unambiguous_mark unambiguous_part (x.is_done, x.part) (y.is_done, y.part) a b c d p q e in
+    let (same, bytes) = unambiguous_both IsMarkOf IsPlacedPartOf unambiguous_mark unambiguous_placed (x.is_done, x.part) (y.is_done, y.part) a b c d p q e in
     let parts : x ≡ y = ap (λ (m : Bool × Part). record { is_done = m.0; part = m.1 }) same in
     (parts, bytes)
 
 one_marked : OneSpelling IsMarkedOf
-one_marked part = one_then _ _ (one_mark part.is_done) (one_part part.part)
+one_marked part = one_then _ _ (one_mark part.is_done) (one_placed part.part)
 
 -- what a transaction begins with, as pairs
 abbrev pub IsStartPairOf : Id × (Stage × (Option Superior × ℕ)) → List ℕ → Type 0

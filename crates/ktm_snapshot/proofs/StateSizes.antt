@@ -1,21 +1,24 @@
 -- The bytes of a state are as many as are counted for it.
-use Rattle.std.proofs.Common.{◌≡◌, ℕ, ◌+◌, ◌*◌, Bool, true, false, Option, Some, None, List, [], ◌∷◌, length, sum_by, refl, ◌∙◌, ap, arith}
+use Rattle.std.proofs.Common.{◌≡◌, ℕ, ◌+◌, ◌*◌, Bool, true, false, Option, Some, None, List, [], ◌∷◌, length, sum_by, refl, sym, ◌∙◌, ap, arith}
 use Rattle.std.proofs.lemmas.List.Sums.{sum_by-cons}
 use Rattle.ktm_base.specs.declared.id.Id.{Id}
-use Rattle.ktm_base.specs.Grammar.{Then, IsListOf}
+use Rattle.ktm_content.specs.Contents.{units_of}
+use Rattle.ktm_base.specs.Grammar.{IsU32, IsU64, Then, IsListOf}
 use Rattle.ktm_event.proofs.GroupSizes.{length-then, length-tagged, length-row, length-list, length-id, length-text, length-record, length-part}
 use Rattle.ktm_keyed.specs.declared.keyed.Keyed.{Keyed}
 use Rattle.ktm_types.specs.EventGrammar.{IsIdOf}
 use Rattle.ktm_types.specs.Sizes.{part_size, record_size}
+use Rattle.ktm_types.specs.declared.event.Part.{Part}
 use Rattle.ktm_types.specs.declared.recorded.Node.{Node}
 use Rattle.ktm_types.specs.declared.recorded.RecordedPart.{RecordedPart}
 use Rattle.ktm_types.specs.declared.recorded.Stage.{Stage}
 use Rattle.ktm_types.specs.declared.recorded.Stage.TheVariants.{Ready, Held, Decided}
 use Rattle.ktm_types.specs.declared.recorded.Superior.{Superior}
 use Rattle.ktm_world.specs.Durable.{Recorded}
+use Rattle.ktm_snapshot.proofs.Placed.{size-part}
 use Rattle.ktm_snapshot.specs.Laws.{StateHasItsSize}
 use Rattle.ktm_snapshot.specs.Sizes.{contents_size, node_size, entry_size, superior_size, marked_size, start_size, transaction_size}
-use Rattle.ktm_snapshot.specs.StateGrammar.{IsHeadOf, IsNamedOf, IsNodeOf, IsEntryOf, IsStageOf, IsSuperiorOf, IsMarkOf, IsMarkedOf, IsStartOf, IsTransactionOf, head_of}
+use Rattle.ktm_snapshot.specs.StateGrammar.{IsHeadOf, IsContentsOf, IsNamedOf, IsNodeOf, IsEntryOf, IsStageOf, IsSuperiorOf, IsMarkOf, IsPlacedPartOf, IsMarkedOf, IsStartOf, IsTransactionOf, head_of}
 use Rattle.ktm_snapshot.specs.declared.head.StateHead.{StateHead}
 
 length-head : (head : StateHead) (bytes : List ℕ) → IsHeadOf head bytes → length bytes ≡ 20
@@ -26,10 +29,21 @@ length-counted : (count : ℕ) (Count : List ℕ → Type 0) (value bytes : List
     → length bytes ≡ count + length value
 length-counted count Count value bytes sized is = length-then count (length value) Count (λ rest. rest ≡ value) bytes sized (λ second same. ap length same) is
 
+-- numbers take four bytes each
+fours : (pages : List ℕ) → sum_by (λ (page : ℕ). 4) pages ≡ 4 * length pages
+fours [] = refl
+fours (page ∷ pages) = sum_by-cons (λ (p : ℕ). 4) page pages ∙ (let rest = fours pages in omega arith)
+
+length-contents : (contents bytes : List ℕ) → IsContentsOf contents bytes → length bytes ≡ 12 + 4 * units_of contents
+length-contents contents bytes is =
+    length-then 8 (4 + 4 * length is.pages) (IsU64 (length contents)) (IsListOf IsU32 is.pages) bytes (λ number eight. eight.long)
+    (λ second listed. length-list IsU32 (λ (page : ℕ). 4) (λ page number four. four.long) is.pages second listed ∙ ap (λ n. 4 + n) (fours is.pages)) is.spelled
+    ∙ (let units = is.lie.units in omega (arith, units))
+
 length-named : (name : List ℕ) (content : Option (List ℕ)) (bytes : List ℕ) → IsNamedOf name content bytes → length bytes ≡ 2 + length name + contents_size content
 length-named name (Some contents) bytes is =
-    length-tagged 0 (5 + length name + length contents) _ bytes (λ rest fields. length-then (1 + length name) (4 + length contents) _ _ rest (length-text name)
-    (λ second more. length-counted 4 _ contents second (λ number four. four.long) more) fields ∙ omega arith) is
+    length-tagged 0 (13 + length name + 4 * units_of contents) _ bytes
+    (λ rest fields. length-then (1 + length name) (12 + 4 * units_of contents) _ _ rest (length-text name) (length-contents contents) fields ∙ omega arith) is
     ∙ omega arith
 length-named name None bytes is = length-tagged 1 (1 + length name) _ bytes (length-text name) is ∙ omega arith
 
@@ -57,8 +71,11 @@ length-mark : (mark : Bool) (bytes : List ℕ) → IsMarkOf mark bytes → lengt
 length-mark false bytes is = ap length is.value
 length-mark true bytes is = ap length is.value
 
+length-placed : (part : Part) (bytes : List ℕ) → IsPlacedPartOf part bytes → length bytes ≡ part_size part
+length-placed part bytes is = length-part is.recorded bytes is.spelled ∙ sym (size-part is.recorded is.work) ∙ ap part_size (sym is.placed)
+
 length-marked : (part : RecordedPart) (bytes : List ℕ) → IsMarkedOf part bytes → length bytes ≡ marked_size part
-length-marked part bytes is = length-then 1 (part_size part.part) _ _ bytes (length-mark part.is_done) (length-part part.part) is
+length-marked part bytes is = length-then 1 (part_size part.part) _ _ bytes (length-mark part.is_done) (length-placed part.part) is
 
 length-start : (id : Id) (stage : Stage) (superior : Option Superior) (count : ℕ) (bytes : List ℕ) → IsStartOf id stage superior count bytes → length bytes ≡ start_size superior
 length-start id stage superior count bytes is =

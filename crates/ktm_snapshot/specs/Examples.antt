@@ -16,7 +16,7 @@ eight n = n ∷ 0 ∷ 0 ∷ 0 ∷ 0 ∷ 0 ∷ 0 ∷ 0 ∷ []
 abbrev pub empty_bytes : List ℕ
 empty_bytes = eight 0 ++ four 0 ++ eight 2 ++ four 0 ++ four 0 ++ four 0 ++ four 0
 
--- a state with a directory "d", in it a file "f" with one byte, a key "k" with one byte, a resource manager, and a transaction that
+-- a state with a directory "d", in it a file "f" with one byte, on page 5, a key "k" with one byte, a resource manager, and a transaction that
 -- waits for its superior and of which an enlistment is prepared
 abbrev pub small_state : ℕ → ℕ → Durable
 small_state units image = record {
@@ -25,7 +25,7 @@ small_state units image = record {
   events = 7;
   boots = 1;
   next_node = 4;
-  tree = record { number = 2; parent = 1; name = 0x64 ∷ []; content = None } ∷ record { number = 3; parent = 2; name = 0x66 ∷ []; content = Some (0x41 ∷ []) } ∷ [];
+  tree = record { number = 2; parent = 1; name = 0x64 ∷ []; content = None } ∷ record { number = 3; parent = 2; name = 0x66 ∷ []; content = Some (0x5001 ∷ []) } ∷ [];
   keys = record { key = 0x6b ∷ []; value = 0x01 ∷ [] } ∷ [];
   managers = record { boot = 1; number = 1 } ∷ [];
   transactions = record {
@@ -40,7 +40,7 @@ small_state units image = record {
 abbrev pub small_bytes : List ℕ
 small_bytes =
     eight 7 ++ four 1 ++ eight 4
-    ++ four 2 ++ (eight 2 ++ eight 1 ++ 1 ∷ 1 ∷ 0x64 ∷ []) ++ (eight 3 ++ eight 2 ++ 0 ∷ 1 ∷ 0x66 ∷ four 1 ++ 0x41 ∷ [])
+    ++ four 2 ++ (eight 2 ++ eight 1 ++ 1 ∷ 1 ∷ 0x64 ∷ []) ++ (eight 3 ++ eight 2 ++ 0 ∷ 1 ∷ 0x66 ∷ eight 1 ++ four 1 ++ four 5)
     ++ four 1 ++ 1 ∷ 0x6b ∷ 1 ∷ 0 ∷ 0x01 ∷ []
     ++ four 1 ++ four 1 ++ four 1
     ++ four 1 ++ (four 1 ++ four 1) ++ 1 ∷ 1 ∷ (four 1 ++ four 2) ++ (four 1 ++ four 1) ++ 1 ∷ 0xaa ∷ four 1

@@ -1,3 +1,4 @@
+pub mod Works
 pub mod StateGrammar
 pub mod Sizes
 pub mod Shown

@@ -1,18 +1,23 @@
 -- What is shown where it stands, as the model has it.
-use Rattle.std.specs.Prelude.{ℕ, List, Option, option_map}
+use Rattle.std.specs.Prelude.{ℕ, List, Option}
 use Rattle.ktm_base.specs.declared.id.Id.{Id}
 use Rattle.ktm_keyed.specs.declared.keyed.Keyed.{Keyed}
 use Rattle.ktm_types.specs.declared.recorded.Node.{Node}
 use Rattle.ktm_types.specs.declared.recorded.Stage.{Stage}
 use Rattle.ktm_types.specs.declared.recorded.Superior.{Superior}
 use Rattle.ktm_snapshot.specs.declared.entry.ShownEntry.{ShownEntry}
+use Rattle.ktm_snapshot.specs.declared.node.ReadNode.{ReadNode}
 use Rattle.ktm_snapshot.specs.declared.node.ShownNode.{ShownNode}
 use Rattle.ktm_snapshot.specs.declared.transaction.ShownSuperior.{ShownSuperior}
 use Rattle.ktm_snapshot.specs.StateGrammar.{IsNamedOf, IsStartOf}
 
 -- the node that is shown
 abbrev pub node_of : ShownNode → Node
-node_of n = record { number = n.number; parent = n.parent; name = n.name.now; content = option_map (λ contents. contents.now) n.content }
+node_of n = record { number = n.number; parent = n.parent; name = n.name.now; content = n.content }
+
+-- the node that was read
+abbrev pub node_read : ReadNode → Node
+node_read n = record { number = n.number; parent = n.parent; name = n.name.now; content = n.content }
 
 -- the key and the value that are shown
 abbrev pub entry_of : ShownEntry → Keyed (List ℕ)

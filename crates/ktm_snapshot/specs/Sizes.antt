@@ -1,5 +1,6 @@
 -- How many bytes a durable state takes.
 use Rattle.std.specs.Prelude.{ℕ, ◌+◌, ◌*◌, List, length, sum_by, Option, Some, None}
+use Rattle.ktm_content.specs.Contents.{units_of}
 use Rattle.ktm_keyed.specs.declared.keyed.Keyed.{Keyed}
 use Rattle.ktm_types.specs.declared.recorded.Node.{Node}
 use Rattle.ktm_types.specs.declared.recorded.RecordedPart.{RecordedPart}
@@ -7,10 +8,10 @@ use Rattle.ktm_types.specs.declared.recorded.Superior.{Superior}
 use Rattle.ktm_types.specs.Sizes.{part_size, record_size}
 use Rattle.ktm_world.specs.Durable.{Durable, Recorded}
 
--- the contents of a file, behind their length in four bytes; a directory has none
+-- the contents of a file: their length in eight bytes, a count of four, and four for the page of each unit; a directory has none
 abbrev pub contents_size : Option (List ℕ) → ℕ
 contents_size None = 0
-contents_size (Some contents) = 4 + length contents
+contents_size (Some contents) = 12 + 4 * units_of contents
 
 -- a node: two numbers of eight bytes, a tag, the name behind its length in one byte, and the contents
 abbrev pub node_size : Node → ℕ

@@ -1,9 +1,11 @@
--- How a durable state stands in bytes. Its units and the number of its image are those of the image's header, and are not spelled.
+-- How a durable state, whose contents are the places of their bytes, stands in bytes. Its units and the number of its image are those of the image's header, and are not spelled.
 use Rattle.std.specs.Prelude.{◌≡◌, ℕ, Bool, true, false, List, [], length, Option, Some, None}
 use Rattle.ktm_base.specs.declared.id.Id.{Id}
-use Rattle.ktm_base.specs.Grammar.{IsU8, IsU32, IsU64, Then, Tagged, IsTextOf, IsValueOf, IsBytesOf, IsRow, IsListOf}
+use Rattle.ktm_base.specs.Grammar.{IsU8, IsU32, IsU64, Then, Tagged, IsTextOf, IsValueOf, IsRow, IsListOf}
+use Rattle.ktm_content.specs.Places.{LieOn}
 use Rattle.ktm_keyed.specs.declared.keyed.Keyed.{Keyed}
 use Rattle.ktm_keyed.specs.Keyed.{is_rising}
+use Rattle.ktm_types.specs.declared.event.Part.{Part}
 use Rattle.ktm_types.specs.declared.recorded.Node.{Node}
 use Rattle.ktm_types.specs.declared.recorded.RecordedPart.{RecordedPart}
 use Rattle.ktm_types.specs.declared.recorded.Stage.{Stage}
@@ -15,15 +17,18 @@ use Rattle.ktm_world.specs.Durable.{Durable, Recorded, is_before}
 use Rattle.ktm_world.specs.Keys.{Store}
 use Rattle.ktm_world.specs.Tree.{Tree, numbers_rise}
 use Rattle.txf_laws.specs.Elements.{each_pair}
+use Rattle.ktm_snapshot.specs.Works.{is_work, placed_part}
 use Rattle.ktm_snapshot.specs.declared.head.StateHead.{StateHead}
 
 -- the head of a state: the numbers of its events and boots, and the number of the next node
 abbrev pub IsHeadOf : StateHead → List ℕ → Type 0
 IsHeadOf head = Then (IsU64 head.events) (Then (IsU32 head.boots) (IsU64 head.next_node))
 
--- the contents of a file stand as they are, behind their length in four bytes
-abbrev pub IsContentsOf : List ℕ → List ℕ → Type 0
-IsContentsOf contents = IsBytesOf contents
+-- the contents of a file, as the places of its bytes: how many bytes there are, and the list of the pages that they lie on
+pub record IsContentsOf (contents bytes : List ℕ) : Type 0 where
+  pub pages : List ℕ
+  pub lie : LieOn pages contents
+  pub spelled : Then (IsU64 (length contents)) (IsListOf IsU32 pages) bytes
 
 -- what a node is, and its name: tag 0 for a file, whose contents follow, and tag 1 for a directory
 abbrev pub IsNamedOf : List ℕ → Option (List ℕ) → List ℕ → Type 0
@@ -55,9 +60,16 @@ abbrev pub IsMarkOf : Bool → List ℕ → Type 0
 IsMarkOf false = IsU8 0
 IsMarkOf true = IsU8 1
 
--- a part is its mark, and the part as in events
+-- a part of a transaction, whose contents are places, stands as the one in events that it is recorded as
+pub record IsPlacedPartOf (part : Part) (bytes : List ℕ) : Type 0 where
+  pub recorded : Part
+  pub work : is_work recorded ≡ true
+  pub placed : part ≡ placed_part recorded
+  pub spelled : IsPartOf recorded bytes
+
+-- a part is its mark, and what it is
 abbrev pub IsMarkedOf : RecordedPart → List ℕ → Type 0
-IsMarkedOf part = Then (IsMarkOf part.is_done) (IsPartOf part.part)
+IsMarkedOf part = Then (IsMarkOf part.is_done) (IsPlacedPartOf part.part)
 
 -- what a transaction begins with: its Id, its stage, its superior, and how many parts it has
 abbrev pub IsStartOf : Id → Stage → Option Superior → ℕ → List ℕ → Type 0

@@ -1,10 +1,12 @@
 // Laws of states and their bytes, each the contract of a function that does nothing.
-ghost use Rattle.std.specs.Prelude.{◌≡◌, ℕ, List, length, nat_lt};
+ghost use Rattle.std.specs.Prelude.{◌≡◌, ℕ, List, length, nat_lt, true};
 ghost use Rattle.ktm_base.specs.Grammar.{IsU32};
 ghost use Rattle.ktm_codec.specs.Spans.{OneSpelling, Unambiguous};
 ghost use Rattle.ktm_keyed.specs.Keyed.{comes_before, is_rising};
 ghost use Rattle.ktm_keyed.specs.declared.keyed.Keyed.{Keyed};
 ghost use Rattle.ktm_types.specs.EventGrammar.{IsIdOf};
+ghost use Rattle.ktm_types.specs.Sizes.{part_size};
+ghost use Rattle.ktm_types.specs.declared.event.Part.{Part};
 ghost use Rattle.ktm_types.specs.declared.recorded.Node.{Node};
 ghost use Rattle.ktm_world.specs.Durable.{Durable, Recorded, empty_state, is_before};
 ghost use Rattle.ktm_world.specs.Tree.{numbers_rise};
@@ -13,6 +15,7 @@ ghost use Rattle.ktm_snapshot.specs.Examples.{empty_bytes, small_bytes, small_st
 ghost use Rattle.ktm_snapshot.specs.Laws.{OneStateAtMost, StateHasItsSize};
 ghost use Rattle.ktm_snapshot.specs.Pieces.{AddsItems, ListIsWritten, ReadsList, ReadsState, RisesByLast, StateIsWritten};
 ghost use Rattle.ktm_snapshot.specs.StateGrammar.{IsEntryOf, IsHeadOf, IsMarkedOf, IsNodeOf, IsStartOf, IsStateOf, IsTransactionOf, transactions_rise};
+ghost use Rattle.ktm_snapshot.specs.Works.{is_work, placed_part};
 
 /// No state's spelling begins another one's, where their images have the same units and number; a state has one spelling, which
 /// takes as many bytes as are counted for it.
@@ -59,6 +62,12 @@ pub fn law_of_order()
     ensures entries { RisesByLast is_rising (λ (a b : Keyed (List ℕ)). comes_before a.key b.key) }
     ensures managers { RisesByLast (each_pair is_before) is_before }
     ensures transactions { RisesByLast transactions_rise (λ (t u : Recorded). is_before t.id u.id) }
+{}
+
+/// A part of a transaction's work takes as many bytes as it does as a state has it, and a state has it of one recorded part alone.
+pub fn law_of_works()
+    ensures size { (part : Part) → is_work part ≡ true → part_size (placed_part part) ≡ part_size part }
+    ensures one { (part other : Part) → is_work part ≡ true → is_work other ≡ true → placed_part part ≡ placed_part other → part ≡ other }
 {}
 
 /// The empty state and a small one, in any image, and their bytes.

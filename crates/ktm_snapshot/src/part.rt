@@ -1,18 +1,20 @@
 // Parts of transactions, each with its mark, which says whether it is done.
-ghost use Rattle.std.specs.Prelude.{◌≡◌, ◌+◌, ◌≤◌, vec_len, vec_capacity};
+ghost use Rattle.std.specs.Prelude.{◌≡◌, ◌+◌, ◌≤◌, true, vec_len, vec_capacity};
 ghost use Rattle.ktm_codec.specs.Spans.{Adds, Reads};
 ghost use Rattle.ktm_event.specs.Reading.{Gives};
 ghost use Rattle.ktm_event.specs.Spelling.{IsSpellablePart};
 ghost use Rattle.ktm_event.specs.Work.{part_of};
 ghost use Rattle.ktm_types.specs.Sizes.{part_size};
+ghost use Rattle.ktm_snapshot.specs.Works.{is_work, placed_part};
 ghost use Rattle.ktm_snapshot.specs.StateGrammar.{IsMarkOf, IsMarkedOf};
 
+use crate::works::placed_part;
 use ktm_codec::{put_u8, u8_at};
 use ktm_event::{
     EventFault, Work, WrittenFiles, part_at, put_enlistment, put_names_and_files_part,
     put_settings_part,
 };
-use ktm_types::{Part, RecordedPart};
+use ktm_types::RecordedPart;
 use std::alloc::Global;
 
 const NOT_DONE: u8 = 0;
@@ -41,7 +43,8 @@ pub(crate) fn marked_at(
     let Some((is_done, after)) = mark_at(bytes, at) else {
         return Err(EventFault::NotAnEvent);
     };
-    let (part, end) = part_at(alloc, bytes, after)?;
+    let (recorded, end) = part_at(alloc, bytes, after)?;
+    let part = placed_part(alloc, recorded)?;
     Ok((RecordedPart { is_done, part }, end))
 }
 
@@ -57,23 +60,12 @@ fn put_mark(out: &mut Vec<u8>, is_done: bool)
     }
 }
 
-/// Writes a part with its mark at the end. It takes no memory.
-pub fn put_part(out: &mut Vec<u8>, is_done: bool, part: &Part)
-    requires part { IsSpellablePart part.now }
-    requires room { vec_len out.old + 1 + part_size part.now ≤ vec_capacity out.old }
-    ensures adds { Adds (IsMarkedOf (record { is_done = is_done; part = part.now })) out.old.items out.new.items }
-    ensures len { vec_len out.new ≡ vec_len out.old + 1 + part_size part.now }
-    ensures room { vec_capacity out.old ≤ vec_capacity out.new }
-{
-    put_mark(out, is_done);
-    ktm_event::put_part(out, part).unwrap();
-}
-
-/// Writes a participant's work as a part with its mark at the end, from where it stands. It takes no memory.
+/// Writes a participant's work, as it is recorded, as a part with its mark at the end, from where it stands. It takes no memory.
 pub fn put_work<F: WrittenFiles>(out: &mut Vec<u8>, is_done: bool, work: Work<'_, F>)
     requires part { IsSpellablePart (part_of F.files work) }
+    requires work { is_work (part_of F.files work) ≡ true }
     requires room { vec_len out.old + 1 + part_size (part_of F.files work) ≤ vec_capacity out.old }
-    ensures adds { Adds (IsMarkedOf (record { is_done = is_done; part = part_of F.files work.entry })) out.old.items out.new.items }
+    ensures adds { Adds (IsMarkedOf (record { is_done = is_done; part = placed_part (part_of F.files work.entry) })) out.old.items out.new.items }
     ensures len { vec_len out.new ≡ vec_len out.old + 1 + part_size (part_of F.files work.entry) }
     ensures room { vec_capacity out.old ≤ vec_capacity out.new }
 {

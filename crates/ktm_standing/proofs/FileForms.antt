@@ -5,7 +5,7 @@ use Rattle.ktm_base.specs.declared.id.Id.{Id}
 use Rattle.ktm_base.specs.declared.id.Label.{Label}
 use Rattle.ktm_base.specs.declared.id.Pid.{Pid}
 use Rattle.ktm_types.specs.declared.command.Command.{Command}
-use Rattle.ktm_types.specs.declared.command.Command.TheVariants.{CreateFile, CreateFileTransacted, ReadFile, WriteFile, SetEndOfFile, GetFileSizeEx, FlushFileBuffers, DeleteFile, CreateDirectory, RemoveDirectory, MoveFile, DeleteFileTransacted, CreateDirectoryTransacted, RemoveDirectoryTransacted, MoveFileTransacted, FindFiles, FindFilesTransacted}
+use Rattle.ktm_types.specs.declared.command.Command.TheVariants.{CreateFile, CreateFileTransacted, ReadFile, WriteFile, SetEndOfFile, WriteUnits, GetFileSizeEx, FlushFileBuffers, DeleteFile, CreateDirectory, RemoveDirectory, MoveFile, DeleteFileTransacted, CreateDirectoryTransacted, RemoveDirectoryTransacted, MoveFileTransacted, FindFiles, FindFilesTransacted}
 use Rattle.ktm_world.specs.Decide.{caller, command_effect, decide, events_of, of_files, on_file, opening, refusal_of}
 use Rattle.ktm_world.specs.FileCalls.{create_file, read_file, write_file, set_end, get_size, flush_file, delete_file, create_directory, remove_directory, move_file, find_files}
 use Rattle.ktm_world.specs.FileOutcome.{FileOutcome, files_after}
@@ -48,6 +48,7 @@ effect_made x process (CreateFileTransacted label path access share disposition 
 effect_made x process (ReadFile file offset many) who o is = made_open x process (file_named x process file) (λ f. read_file x.files f offset many) who o is
 effect_made x process (WriteFile file offset bytes) who o is = made_open x process (file_named x process file) (λ f. write_file f offset bytes) who o is
 effect_made x process (SetEndOfFile file size) who o is = made_open x process (file_named x process file) (λ f. set_end f size) who o is
+effect_made x process (WriteUnits file start contents) who o is = made_open x process (file_named x process file) (λ f. write_file f start contents) who o is
 effect_made x process (GetFileSizeEx file) who o is = made_open x process (file_named x process file) (λ f. get_size x.files f) who o is
 effect_made x process (FlushFileBuffers file) who o is = made_open x process (file_named x process file) (λ f. flush_file) who o is
 effect_made x process (DeleteFile path) who o is = made x process None (delete_file x.files None path) who o is

@@ -10,7 +10,7 @@ use Rattle.ktm_event.specs.Spelling.{IsSpellableEvent}
 use Rattle.ktm_types.specs.declared.change.Change.{Change}
 use Rattle.ktm_types.specs.declared.command.Command.{Command}
 use Rattle.ktm_types.specs.declared.recorded.Node.{Node}
-use Rattle.ktm_types.specs.Values.{IsCommand}
+use Rattle.ktm_types.specs.Values.{IsGiven}
 use Rattle.ktm_world.specs.Changes.{node_of}
 use Rattle.ktm_world.specs.Conflicts.{writes}
 use Rattle.ktm_world.specs.Decide.{decide, events_of, refusal_of}
@@ -75,7 +75,7 @@ usable_file x sound process label o named plain may_write =
 module _ (step : StepLaw) (law : LawfulWorldsLaw) (spelling : SpellingLaw) (forms : EffectsLaw) (made : FileCallsLaw) where
   -- ---- calls on files
 
-  module _ (w : World) (left : HasEventsLeft (present w)) (standing : IsStanding w) (process : Pid) (command : Command) (is : IsCommand command) (unrefused : refusal_of (present w) process command ≡ None) where
+  module _ (w : World) (left : HasEventsLeft (present w)) (standing : IsStanding w) (process : Pid) (command : Command) (is : IsGiven command) (unrefused : refusal_of (present w) process command ≡ None) where
     abbrev x : Present
     x = present w
 

@@ -3,7 +3,7 @@ use Rattle.std.proofs.Common.{ℕ, List, [], ◌∷◌, sym, ◌∙◌, ap, subs
 use Rattle.std.proofs.lemmas.List.Sums.{fold-append}
 use Rattle.ktm_base.specs.declared.id.Pid.{Pid}
 use Rattle.ktm_types.specs.declared.command.Command.{Command}
-use Rattle.ktm_types.specs.Values.{IsCommand}
+use Rattle.ktm_types.specs.Values.{IsGiven}
 use Rattle.ktm_world.specs.Committed.{Committed, version_of, with_work}
 use Rattle.ktm_world.specs.Decide.{decide}
 use Rattle.ktm_world.specs.Laws.{StepLaw}
@@ -37,7 +37,7 @@ module _ (step : StepLaw) (law : LawfulWorldsLaw) (spelling : SpellingLaw) where
         omega (arith, before, works, more, puts, events);
   }
 
-  stands_after : (w : World) (process : Pid) (command : Command) → IsCommand command → HasEventsLeft (present w) → IsStanding w → IsStanding (after w process command)
+  stands_after : (w : World) (process : Pid) (command : Command) → IsGiven command → HasEventsLeft (present w) → IsStanding w → IsStanding (after w process command)
   stands_after w process command is left standing =
       stands_extend w (decide (present w) process command) (law.commands w process command left standing.running) (decided_logs (present w) standing.running.now.sound.files process command)
       (spelling.stay (present w) process command is standing.texts) standing
@@ -54,7 +54,7 @@ module _ (step : StepLaw) (law : LawfulWorldsLaw) (spelling : SpellingLaw) where
 
   -- ---- what is so now
 
-  stands_after_now : (x : Present) (process : Pid) (command : Command) → IsCommand command → HasEventsLeft x → IsStandingNow x → IsStandingNow (apply x (decide x process command))
+  stands_after_now : (x : Present) (process : Pid) (command : Command) → IsGiven command → HasEventsLeft x → IsStandingNow x → IsStandingNow (apply x (decide x process command))
   stands_after_now x process command is left now = record {
     world = after now.world process command;
     stands = stands_after now.world process command is (subst HasEventsLeft (sym now.is) left) now.stands;

@@ -16,7 +16,7 @@ use Rattle.ktm_types.specs.declared.object.Transaction.{Transaction}
 use Rattle.ktm_types.specs.declared.reply.Reply.{Reply}
 use Rattle.ktm_types.specs.declared.reply.Reply.TheVariants.{Refused}
 use Rattle.ktm_types.specs.declared.step.Step.{Step}
-use Rattle.ktm_types.specs.Values.{IsCommand}
+use Rattle.ktm_types.specs.Values.{IsGiven}
 use Rattle.ktm_course.specs.Moved.{is_commit}
 use Rattle.ktm_world.specs.Decide.{decide, refusal_of, of_files, opening}
 use Rattle.ktm_world.specs.Durable.{Durable, is_worn, stand}
@@ -106,7 +106,7 @@ pub record DecidedLaw : Type 0 where
 
 -- what a machine that stands records has bytes
 pub record SpelledLaw : Type 0 where
-  pub commands : (x : Present) (process : Pid) (command : Command) → IsStandingNow x → IsCommand command → All IsSpellableEvent (decide x process command).events
+  pub commands : (x : Present) (process : Pid) (command : Command) → IsStandingNow x → IsGiven command → All IsSpellableEvent (decide x process command).events
   pub ticks : (x : Present) (ms : ℕ) → IsStandingNow x → All IsSpellableEvent (decide_tick x ms).events
 
 -- ---- what a machine that stands may rely on
@@ -122,7 +122,7 @@ pub record FilesLaw : Type 0 where
   -- a plain file that is open to be written is there
   pub usable : (x : Present) (process : Pid) (label : Label) (o : OpenFile) → IsStandingNow x → file_named x process label ≡ Some o → IsOnCommitted x o
   -- what a call on files comes to can be made
-  pub calls : (x : Present) (process : Pid) (command : Command) (who : Option Id) (o : FileOutcome) → IsStandingNow x → HasEventsLeft x → IsCommand command → refusal_of x process command ≡ None → file_call x process command ≡ Some (who, o) → MayMake x who o
+  pub calls : (x : Present) (process : Pid) (command : Command) (who : Option Id) (o : FileOutcome) → IsStandingNow x → HasEventsLeft x → IsGiven command → refusal_of x process command ≡ None → file_call x process command ≡ Some (who, o) → MayMake x who o
   -- what an undecided transaction changed can be committed
   pub commits : (x : Present) (t : Transaction) → IsStandingNow x → HasEventsLeft x → transaction_at x.transactions.items t.id ≡ Some t → is_undecided t ≡ true → MayCommitNow x t
 
@@ -131,11 +131,11 @@ pub record FilesLaw : Type 0 where
 -- a world stands after whatever a machine does for which a world stands, and so does what is so now
 pub record StandingLaw : Type 0 where
   -- a command was answered, or time passed
-  pub commands : (w : World) (process : Pid) (command : Command) → IsCommand command → HasEventsLeft (present w) → IsStanding w → IsStanding (after w process command)
+  pub commands : (w : World) (process : Pid) (command : Command) → IsGiven command → HasEventsLeft (present w) → IsStanding w → IsStanding (after w process command)
   pub ticks : (w : World) (ms : ℕ) → HasEventsLeft (present w) → IsStanding w → IsStanding (extend w (decide_tick (present w) ms))
   -- the power went: by itself, in a command, while time passed, or in a restart
   pub crashes : (w : World) → IsStanding w → IsStanding (crashed w)
-  pub interrupted_commands : (w : World) (process : Pid) (command : Command) → IsCommand command → HasEventsLeft (present w) → IsStanding w → IsStanding (interrupted_by w (decide (present w) process command))
+  pub interrupted_commands : (w : World) (process : Pid) (command : Command) → IsGiven command → HasEventsLeft (present w) → IsStanding w → IsStanding (interrupted_by w (decide (present w) process command))
   pub interrupted_ticks : (w : World) (ms : ℕ) → HasEventsLeft (present w) → IsStanding w → IsStanding (interrupted_by w (decide_tick (present w) ms))
   pub interrupted_restarts : (w : World) → IsStanding w → IsStanding (interrupted_restart w)
   -- a restart found a worn log
@@ -144,7 +144,7 @@ pub record StandingLaw : Type 0 where
   pub restarts : (base : Durable) (log : List Group) → IsGoodState base → base.units ≤ MOST_UNITS → is_good_log base log ≡ true → AreRecordedTexts (stand base log)
       → is_worn (stand base log) ≡ false → IsStanding (opened base log)
   -- what is so now stands, too
-  pub commands_now : (x : Present) (process : Pid) (command : Command) → IsCommand command → HasEventsLeft x → IsStandingNow x → IsStandingNow (apply x (decide x process command))
+  pub commands_now : (x : Present) (process : Pid) (command : Command) → IsGiven command → HasEventsLeft x → IsStandingNow x → IsStandingNow (apply x (decide x process command))
   pub ticks_now : (x : Present) (ms : ℕ) → HasEventsLeft x → IsStandingNow x → IsStandingNow (apply x (decide_tick x ms))
 
 -- what is so in the world that a restart opens is what a machine that starts from its state has, which stands

@@ -1,6 +1,6 @@
 -- What the grammar has of each event that can be spelled.
-use Rattle.std.proofs.Common.{◌≡◌, ℕ, ◌-◌, ◌≤◌, ◌^◌, true, List, [], ◌∷◌, ◌++◌, length, refl, subst, arith}
-use Rattle.std.proofs.lemmas.Bool.{and_from, le-leb}
+use Rattle.std.proofs.Common.{◌≡◌, ℕ, zero, suc, ◌-◌, ◌≤◌, ◌^◌, true, List, [], ◌∷◌, ◌++◌, length, not, refl, ap, subst, arith}
+use Rattle.std.proofs.lemmas.Bool.{and_from, le-leb, ne_eqb}
 use Rattle.std.specs.Int.{w32, from_le_bytes}
 use Rattle.std.specs.List.{list_all}
 use Rattle.ktm_base.specs.Bytes.{AreBytes}
@@ -51,9 +51,9 @@ counts id bytes all is =
     and_from _ _ (and_from _ _ (le-leb _ _ is.boot_from) (le-leb _ _ is.number_from)) (le-leb _ _ (omega (arith, low, number.value)))
 
 some-put : (node offset : ℕ) (contents : Contents) (bytes : List ℕ) → IsPutOf contents bytes → puts_some (Put node offset contents) ≡ true
-some-put node offset (Whole []) bytes is = absurd is
-some-put node offset (Whole (c ∷ cs)) bytes is = refl
-some-put node offset (Paged pages) bytes is = absurd is
+some-put node offset (Whole contents) bytes is = absurd is
+some-put node offset (Paged zero pages) bytes is = absurd is
+some-put node offset (Paged (suc n) pages) bytes is = ap not (ne_eqb (suc n) 0 (λ none. omega (arith, none)))
 
 puts-of : (c : Change) (bytes : List ℕ) → IsChangeOf c bytes → puts_some c ≡ true
 puts-of (Make node parent kind name) bytes is = refl

@@ -5,7 +5,7 @@ use Rattle.std.proofs.lemmas.Bool.{cases_lt}
 use Rattle.std.proofs.lemmas.Grind.{same_number_lists}
 use Rattle.std.proofs.lemmas.List.{append-nil, drop_all, get_or-take, get_or-drop, get_or_append_left, get_or-append_right, get_or_past, get_or-replicate, length-replicate}
 use Rattle.ktm_page.specs.Row.{page_of}
-use Rattle.ktm_world.specs.Tree.{cut_to, put_over}
+use Rattle.ktm_content.specs.Contents.{cut_to, put_over}
 
 pub length-cut_to : (old : List ℕ) (size : ℕ) → length (cut_to old size) ≡ size
 length-cut_to old size = omega (arith, length-append (take size old) (replicate (size - length old) 0), length-take size old, length-replicate {A = ℕ} (size - length old) 0)

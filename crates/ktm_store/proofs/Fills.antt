@@ -5,7 +5,7 @@ use Rattle.std.proofs.lemmas.Bool.{cases_eq, cases_lt}
 use Rattle.std.proofs.lemmas.Grind.{same_number_lists}
 use Rattle.std.proofs.lemmas.List.{get_or-drop, get_or-map, get_or-take, length-map, get_or-append_right, get_or_append_left}
 use Rattle.ktm_base.specs.Bytes.{written}
-use Rattle.ktm_world.specs.Tree.{put_over}
+use Rattle.ktm_content.specs.Contents.{put_over}
 use Rattle.ktm_content.specs.Places.{LieOn, byte_at}
 use Rattle.ktm_content.proofs.offered.Bytes.{byte_at-place, place-lie}
 use Rattle.ktm_store.specs.Filling.{AreElsewhere, Fills, unit_byte}

@@ -3,7 +3,7 @@ use Rattle.std.proofs.Common.{◌≡◌, ℕ, zero, suc, ◌+◌, ◌-◌, ◌<�
 use Rattle.std.specs.Prelude.{◌⊎◌, not, count_by, position, Contains}
 use Rattle.std.specs.List.{position_or_len}
 use Rattle.std.proofs.lemmas.Bool.{cases_eq, cases_lt, lt-ltb}
-use Rattle.std.proofs.lemmas.List.{drop-set-add, drop-set-lt, drop_all, get_or-append_right, get_or-drop, get_or_append_left, take_rest}
+use Rattle.std.proofs.lemmas.List.{drop-set-add, drop-set-lt, drop_all, get_or-append_right, get_or-drop, get_or_append_left, set-get_or, take_rest}
 use Rattle.std.proofs.lemmas.List.Elements.{Contains-append_left, Contains-append_right}
 use Rattle.std.proofs.lemmas.List.Quantifiers.{position-Some}
 use Rattle.std.proofs.lemmas.List.Sums.{fails_before_first, sum_by-drop_more, sum_by-set}
@@ -107,6 +107,28 @@ free-held held next page low = elim (cases_lt page next) [
         sum_by-set (λ (x : Bool). cond (not x) 1 0) (drop next held) (page - next) true false (omega (arith, from, low, length-drop next held)),
       ))
 ]
+
+-- how many are free once a page is held: one fewer where it was one of them
+pub free-less : (held : List Bool) (next page : ℕ) → page < length held → next ≤ page → is_held held page ≡ false → free_from (set held page true) next + 1 ≡ free_from held next
+unfolding one_free
+free-less held next page low from was =
+    let is : page ≡ next + (page - next) = omega (arith, from) in
+    let free : one_free (get_or (drop next held) (page - next) false) ≡ 1 = ap one_free (get_or-drop next held (page - next) false ∙ ap (λ (n : ℕ). get_or held n false) (sym is) ∙ was) in
+    omega (
+      arith,
+      free,
+      ap (λ (n : ℕ). free_from (set held n true) next) is,
+      ap (λ (l : List Bool). count_by not l) (drop-set-add next held (page - next) true),
+      sum_by-set (λ (x : Bool). cond (not x) 1 0) (drop next held) (page - next) true false (omega (arith, from, low, length-drop next held)),
+    )
+
+-- a page that is held already changes nothing
+pub free-same : (held : List Bool) (next page : ℕ) → is_held held page ≡ true → free_from (set held page true) next ≡ free_from held next
+free-same held next page was = ap (λ (l : List Bool). free_from l next) (ap (set held page) (sym was) ∙ set-get_or held page false)
+
+-- nor does a page in front of those that count
+pub free-front : (held : List Bool) (next page : ℕ) → page < next → free_from (set held page true) next ≡ free_from held next
+free-front held next page before = ap (λ (l : List Bool). count_by not l) (drop-set-lt next held page true before)
 
 pub held-one : (marks : MarksState) (page : ℕ) → page < length marks.held → Holds (page ∷ []) marks (record { held = set marks.held page true; next = marks.next })
 held-one marks page low = record {

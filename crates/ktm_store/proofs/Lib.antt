@@ -3,4 +3,5 @@ pub mod Fills
 pub mod Free
 pub mod Reading
 pub mod Units
+pub mod Wanted
 pub mod offered

@@ -3,21 +3,32 @@ use Rattle.std.proofs.Common.{◌≡◌, ℕ, ◌+◌, ◌-◌, ◌*◌, ◌/◌
 use Rattle.std.specs.Prelude.{◌⊎◌, ◌≢◌}
 use Rattle.std.proofs.lemmas.Bool.{cases_Bool, cases_lt}
 use Rattle.std.proofs.lemmas.Grind.{same_number_lists}
-use Rattle.std.proofs.lemmas.List.{get_or_default, get_or-append_right, get_or_append_left, take_more_set}
-use Rattle.ktm_world.specs.Tree.{cut_to, put_over}
+use Rattle.std.proofs.lemmas.List.{get_or_default, get_or-append_right, get_or_append_left, get_or_past, take_more_set}
+use Rattle.ktm_page.specs.Row.{page_of}
+use Rattle.ktm_content.specs.Contents.{cut_to, put_over}
 use Rattle.ktm_content.specs.Places.{CanBePut, byte_at, places_on}
 use Rattle.ktm_content.proofs.offered.Bytes.{byte_at-place}
 use Rattle.ktm_content.proofs.offered.Placing.{get_or-places_on, length-places_on}
 use Rattle.ktm_store.specs.Filling.{AreUnits, Fills, unit_byte}
 use Rattle.ktm_store.specs.Marks.{Took, is_held}
-use Rattle.ktm_store.specs.Store.{AreHeld, KeepsHeld, Made, StoreState, bytes_at, page_at, touched}
+use Rattle.ktm_store.specs.Stored.{is_stored}
+use Rattle.ktm_store.specs.Store.{AreDistinct, AreHeld, IsTouched, KeepsHeld, Made, StoreState, bytes_at, page_at, touched}
 use Rattle.ktm_store.proofs.Bytes.{length-put_over, put-inside, put-none, put-outside, same-page}
 use Rattle.ktm_store.proofs.Fills.{get_or-bytes_at, length-bytes_at}
 use Rattle.ktm_store.proofs.offered.Holding.{byte-kept, bytes-kept}
 
 -- ---- one page
 
-module _ (old new : StoreState) (page : ℕ) (value : ℕ → ℕ) (took : Took old.marks page new.marks) (fills : Fills (page * 4096) (page * 4096 + 4096) value old.seen new.seen) where
+-- a page was taken, is not stored, and no page is wanted
+pub record IsTaken (old : StoreState) (page : ℕ) (new : StoreState) : Type 0 where
+  pub marks : Took old.marks page new.marks
+  pub stored : new.stored ≡ set old.stored page false
+  pub wanted : new.wanted ≡ old.wanted
+
+module _ (old new : StoreState) (page : ℕ) (value : ℕ → ℕ) (taken : IsTaken old page new) (fills : Fills (page * 4096) (page * 4096 + 4096) value old.seen new.seen) where
+  took : Took old.marks page new.marks
+  took = taken.marks
+
   other : (held : ℕ) → is_held old.marks.held held ≡ true → held ≢ page
   other held is same = (let both : true ≡ false = sym is ∙ ap (is_held old.marks.held) same ∙ took.was_free in cc)
 
@@ -33,23 +44,44 @@ module _ (old new : StoreState) (page : ℕ) (value : ℕ → ℕ) (took : Took 
     | inr from ↦ inr (omega (arith, from, apart))
   ]
 
+  same-bytes : (apart : ℕ) → apart ≢ page → page_of new.seen apart ≡ page_of old.seen apart
+  same-bytes apart is = same-page old.seen new.seen apart fills.long (λ i low. fills.others (apart * 4096 + i) (outside apart i is low))
+
+  same-stored : (apart : ℕ) → apart ≢ page → is_stored new.stored apart ≡ is_stored old.stored apart
+  same-stored apart is = ap (λ (l : List Bool). get_or l apart false) taken.stored ∙ get_or-set_other old.stored page apart false false is
+
+  not-stored : is_stored new.stored page ≡ false
+  not-stored = ap (λ (l : List Bool). get_or l page false) taken.stored ∙ elim (cases_lt page (length old.stored)) [
+    | inl low ↦ get_or-set_same old.stored page false false low
+    | inr past ↦ get_or_past (set old.stored page false) page false (omega (arith, past, length-set old.stored page false))
+  ]
+
+  not-taken : (other : ℕ) → is_stored new.stored other ≡ true → other ≢ page
+  not-taken other is same = (let both : true ≡ false = sym is ∙ ap (is_stored new.stored) same ∙ not-stored in cc)
+
   pub taken-keeps : KeepsHeld old new
   taken-keeps = record {
     count = ap length took.held ∙ length-set old.marks.held page true;
     held = still-held;
-    bytes = λ held is. same-page old.seen new.seen held fills.long (λ i low. fills.others (held * 4096 + i) (outside held i (other held is) low));
+    bytes = λ held is. same-bytes held (other held is);
+    stored = λ held is. same-stored held (other held is);
+    as_were = λ other is. (sym (same-stored other (not-taken other is)) ∙ is, same-bytes other (not-taken other is));
+    wanted = taken.wanted;
   }
 
 -- ---- some pages
 
 pub keeps-none : (now : StoreState) → KeepsHeld now now
-keeps-none now = record { count = refl; held = λ page is. is; bytes = λ page is. refl }
+keeps-none now = record { count = refl; held = λ page is. is; bytes = λ page is. refl; stored = λ page is. refl; as_were = λ page is. (is, refl); wanted = refl }
 
 pub keeps-then : (first next last : StoreState) → KeepsHeld first next → KeepsHeld next last → KeepsHeld first last
 keeps-then first next last one two = record {
   count = two.count ∙ one.count;
   held = λ page is. two.held page (one.held page is);
   bytes = λ page is. two.bytes page (one.held page is) ∙ one.bytes page is;
+  stored = λ page is. two.stored page (one.held page is) ∙ one.stored page is;
+  as_were = λ page is. (let before = two.as_were page is in let first = one.as_were page before.0 in (first.0, before.1 ∙ first.1));
+  wanted = two.wanted ∙ one.wanted;
 }
 
 pub units-none : (bytes : List ℕ) (first : ℕ) (pages : List ℕ) (now : StoreState) → AreUnits bytes first (take 0 pages) now now
@@ -58,11 +90,12 @@ units-none bytes first pages now = record {
   size = refl;
   were_free = λ n low. absurd (omega (arith, low));
   held = λ n low. absurd (omega (arith, low));
+  once = λ i j low. absurd (omega (arith, low));
   each = λ n i low. absurd (omega (arith, low));
   fewer = omega arith;
 }
 
-module _ (bytes : List ℕ) (first : ℕ) (pages : List ℕ) (page : ℕ) (old now new : StoreState) (so : AreUnits bytes first pages old now) (took : Took now.marks page new.marks)
+module _ (bytes : List ℕ) (first : ℕ) (pages : List ℕ) (page : ℕ) (old now new : StoreState) (so : AreUnits bytes first pages old now) (took : IsTaken now page new)
     (fills : Fills (page * 4096) (page * 4096 + 4096) (unit_byte bytes (first + length pages) page) now.seen new.seen) where
   abbrev more : List ℕ
   more = pages ++ page ∷ []
@@ -78,7 +111,7 @@ module _ (bytes : List ℕ) (first : ℕ) (pages : List ℕ) (page : ℕ) (old n
 
   was-free : is_held old.marks.held page ≡ false
   was-free = elim (cases_Bool (is_held old.marks.held page)) [
-    | inl held ↦ (let both : true ≡ false = sym (so.keeps.held page held) ∙ took.was_free in cc)
+    | inl held ↦ (let both : true ≡ false = sym (so.keeps.held page held) ∙ took.marks.was_free in cc)
     | inr free ↦ free
   ]
 
@@ -92,6 +125,22 @@ module _ (bytes : List ℕ) (first : ℕ) (pages : List ℕ) (page : ℕ) (old n
   all-held n low = elim (cases_lt n (length pages)) [
     | inl front ↦ ap (is_held new.marks.held) (at-front n front) ∙ still-held now new page (unit_byte bytes (first + length pages) page) took fills (get_or pages n 0) (so.held n front)
     | inr past ↦ ap (is_held new.marks.held) (at-end n low past) ∙ now-held now new page (unit_byte bytes (first + length pages) page) took fills
+  ]
+
+  -- a page that was taken before is another one
+  not-again : (n : ℕ) → n < length pages → get_or pages n 0 ≡ page → ⊥
+  not-again n front is = let both : true ≡ false = sym (so.held n front) ∙ ap (is_held now.marks.held) is ∙ took.marks.was_free in cc
+
+  distinct : AreDistinct more
+  distinct i j a b same = elim (cases_lt i (length pages)) [
+    | inl front ↦ elim (cases_lt j (length pages)) [
+      | inl others ↦ so.once i j front others (sym (at-front i front) ∙ same ∙ at-front j others)
+      | inr past ↦ absurd (not-again i front (sym (at-front i front) ∙ same ∙ at-end j b past))
+    ]
+    | inr past ↦ elim (cases_lt j (length pages)) [
+      | inl others ↦ absurd (not-again j others (sym (at-front j others) ∙ sym same ∙ at-end i a past))
+      | inr more-past ↦ omega (arith, a, b, past, more-past, length-append pages (page ∷ []))
+    ]
   ]
 
   each-front : (n i : ℕ) → n < length pages → i < 4096 → get_or new.seen (get_or pages n 0 * 4096 + i) 0 ≡ get_or bytes ((first + n) * 4096 + i) 0
@@ -115,13 +164,14 @@ module _ (bytes : List ℕ) (first : ℕ) (pages : List ℕ) (page : ℕ) (old n
     size = fills.long ∙ so.size;
     were_free = front-free;
     held = all-held;
+    once = distinct;
     each = each-unit;
-    fewer = omega (arith, took.fewer, so.fewer, length-append pages (page ∷ []));
+    fewer = omega (arith, took.marks.fewer, so.fewer, length-append pages (page ∷ []));
   }
 
 -- the next unit
 pub units-next : (bytes places : List ℕ) (at first i page : ℕ) (pages : List ℕ) (old now new : StoreState) → i < length pages → AreHeld old.marks.held places → AreUnits (put_over (bytes_at old.seen places) at bytes) first (take i pages) old now
-    → Took now.marks page new.marks → Fills (page * 4096) (page * 4096 + 4096) (unit_byte (put_over (bytes_at now.seen places) at bytes) (first + i) page) now.seen new.seen
+    → IsTaken now page new → Fills (page * 4096) (page * 4096 + 4096) (unit_byte (put_over (bytes_at now.seen places) at bytes) (first + i) page) now.seen new.seen
     → AreUnits (put_over (bytes_at old.seen places) at bytes) first (take (i + 1) (set pages i page)) old new
 units-next bytes places at first i page pages old now new low were so took fills =
     let same = bytes-kept old now places so.keeps were in
@@ -231,8 +281,17 @@ module _ (old new : StoreState) (places bytes pages : List ℕ) (at first behind
       ];
     }
 
+    pub are-touched : IsTouched (length places) at (at + length bytes) (first * 4096) part
+    are-touched = record {
+      first = ap (λ n. n * 4096) is_first;
+      last = ap (λ n. first * 4096 + n) long ∙ whole ∙ ap (λ n. min (max (length places) (at + length bytes)) (n * 4096)) is_behind;
+    }
+
     pub made : Made (λ before. put_over before at bytes) (touched (length places) at (at + length bytes)) places old new (first * 4096) part
     made = record {
+      pages = pages;
+      lie = record { units = omega (arith, long, fits, whole, many, order, begins, ends); places = ap (places_on pages) (sym long) };
+      once = units.once;
       can = can-be-put;
       bytes = same_number_lists (bytes_at new.seen now) (put_over was at bytes) same-length each;
       keeps = units.keeps;
@@ -245,6 +304,9 @@ module _ (old new : StoreState) (places bytes pages : List ℕ) (at first behind
 pub grown : (places : List ℕ) (size : ℕ) (old new : StoreState) (start : ℕ) (part : List ℕ) → length places < size
     → Made (λ before. put_over before size []) (touched (length places) size (size + 0)) places old new start part → Made (λ before. cut_to before size) (touched (length places) size size) places old new start part
 grown places size old new start part longer so = record {
+  pages = so.pages;
+  lie = so.lie;
+  once = so.once;
   can = so.can;
   bytes = so.bytes ∙ put-none (bytes_at old.seen places) size (omega (arith, longer, length-bytes_at old.seen places));
   keeps = so.keeps;
@@ -252,3 +314,6 @@ grown places size old new start part longer so = record {
   held = so.held;
   fewer = omega (arith, so.fewer);
 }
+
+pub grown-touched : (size end start : ℕ) (part : List ℕ) → IsTouched size end (end + 0) start part → IsTouched size end end start part
+grown-touched size end start part is = record { first = is.first; last = is.last ∙ ap (λ n. min (max size n) (((n - 1) / 4096 + 1) * 4096)) (omega arith) }

@@ -1,6 +1,6 @@
 // Which pages are held.
-ghost use Rattle.std.specs.Prelude.{◌≡◌, ◌<◌, ◌∷◌, [], None, All, IfOk, IfSome, length, not, position};
-ghost use Rattle.ktm_store.specs.Marks.{Holds, IsClear, Took, free_ahead};
+ghost use Rattle.std.specs.Prelude.{◌≡◌, ◌+◌, ◌<◌, ◌∷◌, [], true, None, All, IfOk, IfSome, length, not, position, set};
+ghost use Rattle.ktm_store.specs.Marks.{Holds, IsClear, Took, free_ahead, free_from, is_held};
 
 use ktm_base::NoMemory;
 use std::alloc::Global;
@@ -12,17 +12,19 @@ use std::marker::Model;
 pub struct Marks {
     held: Vec<bool>,
     next: u32,
+    // How many are free from there on.
+    free: u32,
 }
 
 impl Model for Marks {
-    ghost use Rattle.std.specs.Prelude.{◌<◌, ◌≤◌, ◌^◌, length};
-    ghost use Rattle.ktm_store.specs.Marks.{AreSound, MarksState};
+    ghost use Rattle.std.specs.Prelude.{◌≡◌};
+    ghost use Rattle.ktm_store.specs.Marks.{AreSound, MarksState, free_from};
 
     ghost Value = { MarksState };
 
     ghost view = { λ m. record { held = m.held.items; next = m.next } };
 
-    ghost invariant = { λ m. AreSound (record { held = m.held.items; next = m.next }) };
+    ghost invariant = { λ m. AreSound (record { held = m.held.items; next = m.next }) × (m.free ≡ free_from m.held.items m.next) };
 }
 
 // Where the first page is that is not held.
@@ -32,13 +34,31 @@ fn first_free(held: &[bool]) -> Option<usize>
     held.iter().position(|held| !*held)
 }
 
+// How many pages fewer are free from the next one on once this one is held.
+fn freed(held: &[bool], next: u32, page: u32) -> u32
+    requires { page < length held.now }
+    ensures { free_from (set held.now page true) next + result ≡ free_from held.now next }
+{
+    if page < next {
+        return 0;
+    }
+    if held[page as usize] {
+        return 0;
+    }
+    1
+}
+
 impl Marks {
     /// The marks of so many pages, of which none is held.
     pub fn new(alloc: Global, count: u32) -> Result<Self, NoMemory>
         ensures { IfOk result (IsClear count) }
     {
         let held = vec![in alloc; false; count as usize]?;
-        Ok(Marks { held, next: 0 })
+        Ok(Marks {
+            held,
+            next: 0,
+            free: count,
+        })
     }
 
     /// How many pages there are.
@@ -46,6 +66,21 @@ impl Marks {
         ensures { result ≡ length self.now.held }
     {
         self.held.len() as u32
+    }
+
+    /// How many pages are free until all are cleared.
+    pub fn free(&self) -> u32
+        ensures { result ≡ free_ahead self.now }
+    {
+        self.free
+    }
+
+    /// Is a page held.
+    pub fn is_held(&self, page: u32) -> bool
+        requires { page < length self.now.held }
+        ensures { result ≡ is_held self.now.held page }
+    {
+        self.held[page as usize]
     }
 
     /// Holds the next page that is free; None where none is until all are cleared.
@@ -57,6 +92,7 @@ impl Marks {
         let page = self.next as usize + free;
         self.held[page] = true;
         self.next = page as u32 + 1;
+        self.free -= 1;
         Some(page as u32)
     }
 
@@ -66,6 +102,7 @@ impl Marks {
     {
         self.held.fill(false);
         self.next = 0;
+        self.free = self.held.len() as u32;
     }
 
     /// Holds a page.
@@ -73,6 +110,7 @@ impl Marks {
         requires { page < length self.old.held }
         ensures { Holds (page ∷ []) self.old self.new }
     {
+        self.free -= freed(&self.held, self.next, page);
         self.held[page as usize] = true;
     }
 

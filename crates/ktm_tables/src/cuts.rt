@@ -3,6 +3,7 @@
 // A table has three parts: the script, whose last line records something; what is seen behind it; and what is seen after a
 // restart, where a line has two replies, one where the last line of the script was lost, and one where it was done. The first
 // of these lines is `events`, and its replies how many events are found, and how many transactions in doubt, where any are.
+// The table begins with `pages N` where what is recorded names N pages, which are written before it.
 use crate::run::{Outcome, first_difference, follow, run_small, small_image};
 use crate::transcript::Transcript;
 use ktm_base::NoMemory;
@@ -14,7 +15,9 @@ struct Table<'a> {
     script: &'a str,
     then: &'a str,
     restarted: &'a str,
-    /// How many calls of the disk its last line makes.
+    /// How many calls of the disk its last line makes before it records: one for each page, and a sync behind them.
+    before: u64,
+    /// How many it makes in all.
     calls: u64,
 }
 
@@ -24,7 +27,7 @@ const RECORDING: u64 = 4;
 /// Where the log has no room for it, six more before them, for a snapshot.
 const COMPACTION: u64 = 10;
 
-/// How many calls of the disk pass before the power goes, and the pick of the restart, where the log has room.
+/// How many calls of the recording pass before the power goes, and the pick of the restart, where the log has room.
 const CUTS: [(u64, u64); 7] = [(0, 1), (1, 1), (2, 2), (2, 7), (3, 2), (3, 7), (4, 1)];
 
 /// Where it has none, fewer calls pass than this, each number of them.
@@ -33,15 +36,26 @@ const MOST_PASSED: u64 = 30;
 /// And these are the picks.
 const PICKS: [u64; 2] = [1, 2];
 
-// The parts of a table whose last line makes so many calls.
-fn table_of(text: &str, calls: u64) -> Table<'_> {
+// How many calls of the disk the pages of a table take, and the table behind what it says of them.
+fn page_calls(text: &str) -> (u64, &str) {
+    let Some(count) = text.strip_prefix("pages ") else {
+        return (0, text);
+    };
+    let (count, rest) = count.split_once('\n').unwrap_or((count, ""));
+    (count.parse::<u64>().unwrap_or(0).saturating_add(1), rest)
+}
+
+// The parts of a table whose last line records with so many calls.
+fn table_of(text: &str, recording: u64) -> Table<'_> {
+    let (before, text) = page_calls(text);
     let (script, rest) = text.split_once("\n\n").unwrap_or((text, ""));
     let (then, restarted) = rest.split_once("\n\n").unwrap_or((rest, ""));
     Table {
         script,
         then,
         restarted,
-        calls,
+        before,
+        calls: before.saturating_add(recording),
     }
 }
 
@@ -160,7 +174,14 @@ pub fn found(alloc: Global, text: &str) -> Result<Option<String>, NoMemory> {
     if what.is_some() {
         return Ok(what);
     }
-    for &at in CUTS.iter() {
+    for calls in 0..table.before {
+        let what = found_of_cut(alloc, &table, (calls, 1))?;
+        if what.is_some() {
+            return Ok(what);
+        }
+    }
+    for &(calls, pick) in CUTS.iter() {
+        let at = (table.before.saturating_add(calls), pick);
         let what = found_of_cut(alloc, &table, at)?;
         if what.is_some() {
             return Ok(what);

@@ -125,6 +125,38 @@ fn found_in(
     Ok(None)
 }
 
+// The number of the first call of the disk that a script on a block without a byte does not make, where each earlier one that was
+// tried and failed ended as it may, else 0. The calls that it does not make come behind those that it makes, so a half of what is
+// left is passed over at each try; after ten of them one of fewer than 1,024 calls is left.
+fn not_made(alloc: Global, script: &str) -> Result<u64, NoMemory> {
+    let wanted = Transcript::of(alloc, script)?;
+    let mut made: u64 = 0;
+    let mut not_made = MANY;
+    for _ in 0..10 {
+        let call = made.saturating_add(not_made.saturating_sub(made) / 2);
+        match try_call(alloc, "disk", call, &[], &wanted)? {
+            Tried::NotMade => not_made = call,
+            Tried::EndedWell => made = call,
+            Tried::EndedBadly => return Ok(0),
+        }
+    }
+    Ok(not_made)
+}
+
+/// What does not hold of a table of costs. Its first part has comments, and how many calls of the disk are made at least; the
+/// other two are scripts, which make equally many of them on a block without a byte.
+pub fn costs_found(alloc: Global, table: &str) -> Result<Option<String>, NoMemory> {
+    let (head, scripts) = table.split_once("\n\n").unwrap_or((table, ""));
+    let (_, least) = head.rsplit_once('\n').unwrap_or(("", head));
+    let (first, second) = scripts.split_once("\n\n").unwrap_or((scripts, ""));
+    let first = not_made(alloc, first)?;
+    let second = not_made(alloc, second)?;
+    if first == second && number_before(least).0 < first {
+        return Ok(None);
+    }
+    Ok(Some(format!(in alloc; "the calls {first} and {second} are not made")?))
+}
+
 /// What does not hold of the table. Its first part is the script, and the second has comments and rows of devices. They are
 /// tried on an image of 16 units, and on a block without a byte.
 pub fn found(alloc: Global, table: &str) -> Result<Option<String>, NoMemory> {

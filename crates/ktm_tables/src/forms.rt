@@ -32,6 +32,15 @@ fn changed(alloc: Global, bytes: &str, block: &MemBlock) -> Result<MemBlock, NoM
     block_of(alloc, &image, 0)
 }
 
+// What is wrong of the block's length.
+fn wrong_length(alloc: Global, len: &str, block: &MemBlock) -> Result<Option<String>, NoMemory> {
+    let has = block.bytes().len();
+    if len.parse::<usize>().unwrap_or(0) == has {
+        return Ok(None);
+    }
+    Ok(Some(format!(in alloc; "the image has {has} bytes")?))
+}
+
 // The block once a part was tried, and what was not as it is wanted.
 fn tried(
     alloc: Global,
@@ -45,13 +54,17 @@ fn tried(
     if let Some(bytes) = line.strip_prefix("bytes ") {
         return Ok((changed(alloc, bytes, &block)?, None));
     }
+    if let Some(len) = line.strip_prefix("length ") {
+        let what = wrong_length(alloc, len, &block)?;
+        return Ok((block, what));
+    }
     let (outcome, wanted) = outcome(alloc, line, rows, block)?;
     let what = difference(alloc, &outcome, &wanted)?;
     Ok((outcome.block, what))
 }
 
 /// What does not hold of a table of forms. The first line of a part is `holds BYTES`, and then the image has these; or `bytes AT BYTE ..`,
-/// and then it has these at a place; or it is a command line. Behind `run image script` come rows, and behind each other command line what it writes.
+/// and then it has these at a place; or `length N`, and it has so many bytes; or it is a command line. Behind `run image script` come rows, and behind each other command line what it writes.
 pub fn found(alloc: Global, table: &str) -> Result<Option<String>, NoMemory> {
     let mut image = blank(alloc)?;
     for part in table.split("\n\n") {

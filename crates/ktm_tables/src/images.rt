@@ -14,6 +14,50 @@ fn digits_at(alloc: Global, image: &[u8], at: usize, len: usize) -> Result<Strin
     Ok(digits)
 }
 
+/// Where the pages of an image of 16 units begin.
+const PAGES_AT: usize = 790_528;
+
+/// Where a page of an image of 16 units begins.
+pub fn page_at(page: u64) -> usize {
+    PAGES_AT.saturating_add((page as usize).saturating_mul(4096))
+}
+
+// The number in four bytes at a place.
+fn number_at(image: &[u8], at: usize) -> u64 {
+    let mut number: u64 = 0;
+    let mut worth: u64 = 1;
+    for byte in image.iter().skip(at).take(4) {
+        number = number.saturating_add((*byte as u64).saturating_mul(worth));
+        worth = worth.saturating_mul(256);
+    }
+    number
+}
+
+// The place that a row names: `at N`, or `page N` for the begin of the page whose number stands at N.
+fn place_of(image: &[u8], row: &str) -> Option<usize> {
+    let (what, place) = row.split_once(' ').unwrap_or((row, ""));
+    let place = place.parse::<usize>().unwrap_or(0);
+    match what {
+        "at" => Some(place),
+        "page" => Some(page_at(number_at(image, place))),
+        _ => None,
+    }
+}
+
+// Are these the digits that are wanted, of which each `.` may be any.
+fn are_wanted(digits: &str, wanted: &str) -> bool {
+    let mut digits = digits.chars();
+    for wanted in wanted.chars() {
+        let Some(digit) = digits.next() else {
+            return false;
+        };
+        if wanted != '.' && digit != wanted {
+            return false;
+        }
+    }
+    true
+}
+
 // The row without its blanks.
 fn joined(alloc: Global, row: &str) -> Result<String, NoMemory> {
     let mut digits = String::new(alloc);
@@ -24,7 +68,8 @@ fn joined(alloc: Global, row: &str) -> Result<String, NoMemory> {
 }
 
 /// What does not hold of a table of bytes. Its second part has comments, lines `at N` with the place of the bytes that follow,
-/// and lines of bytes, in digits with blanks between them.
+/// lines `page N` where that is the page whose number stands at N, and lines of bytes, in digits with blanks between them. A
+/// digit `.` may be any.
 pub fn bytes_found(alloc: Global, table: &str) -> Result<Option<String>, NoMemory> {
     let (script, rows) = table.split_once("\n\n").unwrap_or((table, ""));
     let (left, what) = follow(alloc, script, small_image(alloc)?)?;
@@ -41,14 +86,14 @@ fn wrong_bytes(alloc: Global, image: &[u8], rows: &str) -> Result<Option<String>
         if row.starts_with('#') {
             continue;
         }
-        if let Some(place) = row.strip_prefix("at ") {
-            at = place.parse::<usize>().unwrap_or(0);
+        if let Some(place) = place_of(image, row) {
+            at = place;
             continue;
         }
         let wanted = joined(alloc, row)?;
         let len = wanted.len() / 2;
         let digits = digits_at(alloc, image, at, len)?;
-        if digits != wanted {
+        if !are_wanted(&digits, &wanted) {
             return Ok(Some(format!(in alloc; "at {at} stands {digits}, not {wanted}")?));
         }
         at = at.saturating_add(len);
@@ -56,11 +101,13 @@ fn wrong_bytes(alloc: Global, image: &[u8], rows: &str) -> Result<Option<String>
     Ok(None)
 }
 
-// Changes bytes, or the length: `AT BYTE ..` or `len N`.
+// Changes bytes, or the length: `AT BYTE ..` or `len N`, or several of them with ` | ` between each two.
 fn change(image: &mut Vec<u8>, what: &str) -> Result<(), NoMemory> {
-    match what.strip_prefix("len ") {
-        Some(len) => image.resize(len.parse::<usize>().unwrap_or(0), 0)?,
-        None => put_at(image, what),
+    for what in what.split(" | ") {
+        match what.strip_prefix("len ") {
+            Some(len) => image.resize(len.parse::<usize>().unwrap_or(0), 0)?,
+            None => put_at(image, what),
+        }
     }
     Ok(())
 }
@@ -84,7 +131,7 @@ pub fn put(image: &mut [u8], at: usize, byte: u8) {
     }
 }
 
-/// What does not hold of a table of images. Its second part has comments, and rows of a change of the image and what a plain
+/// What does not hold of a table of images. Its second part has comments, and rows of changes of the image and what a plain
 /// KvGet of "k" is answered then, or that the image is bad, which whatever opens it then says.
 pub fn found(alloc: Global, table: &str) -> Result<Option<String>, NoMemory> {
     let (script, rows) = table.split_once("\n\n").unwrap_or((table, ""));

@@ -8,6 +8,7 @@
 //! - `snapshots`: a snapshot of a state, and what is read of it where pieces of it are others.
 //! - `dumps`: what is left of an image where the power goes in each call of the disk, at some places of a script.
 //! - `faults`: a script that is run with the first, the second, and so on to the last call of a device failing.
+//! - `costs`: two scripts that make equally many calls of the disk.
 //! - `forms`: command lines of every form one after another on one image, which has no byte at first, and what each writes.
 //!
 //! A row is `LINE => REPLY`, or a line without a reply. A table has parts, with an empty line between them.
@@ -40,6 +41,7 @@ pub fn found(alloc: Global, kind: &str, table: &str) -> Result<Option<String>, N
         "snapshots" => snapshots::found(alloc, table),
         "dumps" => dumps::found(alloc, table),
         "faults" => faults::found(alloc, table),
+        "costs" => faults::costs_found(alloc, table),
         "forms" => forms::found(alloc, table),
         _ => Ok(Some(String::from_str(alloc, "a table of no kind")?)),
     }

@@ -9,8 +9,8 @@ use ktm_mem::{Calls, MemBlock, MemSink, MemSource};
 use ktm_run::{Status, ktm};
 use std::alloc::Global;
 
-/// The length of an image of 1,024 units.
-const IMAGE_LEN: usize = 33_820_672;
+/// The length of an image of 2,048 units, the most that a table makes.
+const MOST_LEN: usize = 84_414_464;
 
 /// How many bytes of replies a sink takes.
 const REPLIES: usize = 1 << 20;
@@ -43,9 +43,9 @@ fn calls(alloc: Global, number: u64) -> Result<Calls, NoMemory> {
     Ok(Calls::new(numbers))
 }
 
-/// A block with these bytes, and room for an image, whose call with this number fails.
+/// A block with these bytes, and room for such an image, whose call with this number fails.
 pub fn block_of(alloc: Global, bytes: &[u8], fail: u64) -> Result<MemBlock, NoMemory> {
-    let room = bytes.len().max(IMAGE_LEN);
+    let room = bytes.len().max(MOST_LEN);
     let bytes = Bytes::new(bytes.to_vec(alloc)?);
     MemBlock::new(alloc, bytes, room, calls(alloc, fail)?)
 }

@@ -1,5 +1,5 @@
 // Snapshots of states, piece by piece, and what is made of those of which some pieces are others.
-use crate::images::put;
+use crate::images::{page_at, put};
 use crate::run::{NO_FAIL, block_of, difference, follow, is_bad, opens, run_line, small_image};
 use crate::transcript::{Transcript, number_before};
 use ktm_base::{Bytes, NoMemory};
@@ -11,6 +11,9 @@ const AREA: usize = 4096;
 
 /// How many bytes the length of a snapshot takes.
 const LENGTH: usize = 8;
+
+/// The last of them, which has the top bit alone.
+const TOP_BIT: u8 = 128;
 
 /// What `$` stands for: so much more than the number of the time.
 const FROM: u64 = 64;
@@ -58,7 +61,7 @@ fn bytes_of(alloc: Global, pieces: &str, row: &str) -> Result<Option<Bytes>, NoM
     let mut digits = String::new(alloc);
     for line in pieces.lines() {
         let (name, bytes) = line.split_once(' ').unwrap_or((line, ""));
-        if name != "#" {
+        if name != "#" && name != "page" {
             put_piece(alloc, &mut digits, said(row, name).unwrap_or(bytes))?;
         }
     }
@@ -72,15 +75,31 @@ fn put_all(image: &mut [u8], at: usize, bytes: &[u8]) {
     }
 }
 
+// Puts the bytes of the pages that the pieces name into an image.
+fn put_pages(alloc: Global, image: &mut [u8], pieces: &str) -> Result<(), NoMemory> {
+    for line in pieces.lines() {
+        let Some(page) = line.strip_prefix("page ") else {
+            continue;
+        };
+        let (page, digits) = number_before(page);
+        if let Some(bytes) = read_hex_or_dash(alloc, digits.as_bytes())? {
+            put_all(image, page_at(page), bytes.as_slice());
+        }
+    }
+    Ok(())
+}
+
 // A new image of 16 units with that snapshot.
 fn image_of(alloc: Global, pieces: &str, row: &str) -> Result<Option<Vec<u8>>, NoMemory> {
     let Some(bytes) = bytes_of(alloc, pieces, row)? else {
         return Ok(None);
     };
     let mut image = small_image(alloc)?.bytes().to_vec(alloc)?;
-    let length = (bytes.len() as u64).to_le_bytes();
+    let mut length = (bytes.len() as u64).to_le_bytes();
+    length[LENGTH - 1] = TOP_BIT;
     put_all(&mut image, AREA, &length);
     put_all(&mut image, AREA + LENGTH, bytes.as_slice());
+    put_pages(alloc, &mut image, pieces)?;
     Ok(Some(image))
 }
 
@@ -132,7 +151,7 @@ fn wrong_row(
 }
 
 /// What does not hold of a table of snapshots, which has five parts, with comments: the pieces of a good snapshot in their order, each
-/// `NAME BYTES`; what a dump says of it; rows of a run on it; rows that make a bad snapshot of it, and rows that leave it
+/// `NAME BYTES`, and pages, each `page N BYTES` with what it begins with; what a dump says of it; rows of a run on it; rows that make a bad snapshot of it, and rows that leave it
 /// good, each `NAME BYTES | NAME BYTES` of pieces that are others. Bytes are in digits, with blanks between them; those behind
 /// `^N` come N times, with the byte 65 for `$` the first time, 66 the second, and so on.
 pub fn found(alloc: Global, table: &str) -> Result<Option<String>, NoMemory> {

@@ -1,7 +1,7 @@
 -- How events stand in bytes.
-use Rattle.std.specs.Prelude.{◌≡◌, ℕ, ◌≤◌, IsTrue, List, [], ◌∷◌, Option, Some, None}
+use Rattle.std.specs.Prelude.{◌≡◌, ℕ, zero, suc, ◌≤◌, IsTrue, List, [], ◌∷◌, Option, Some, None}
 use Rattle.ktm_base.specs.declared.id.Id.{Id}
-use Rattle.ktm_base.specs.Grammar.{IsU8, IsU32, IsU64, Then, Tagged, IsTextOf, IsValueOf, IsBytesOf, IsListOf}
+use Rattle.ktm_base.specs.Grammar.{IsU8, IsU32, IsU64, Then, Tagged, IsTextOf, IsValueOf, IsListOf}
 use Rattle.ktm_keyed.specs.declared.keyed.Keyed.{Keyed}
 use Rattle.ktm_types.specs.declared.event.Part.{Part}
 use Rattle.ktm_types.specs.declared.event.Part.TheVariants.{Enlistment, Changes, Settings}
@@ -44,16 +44,15 @@ abbrev pub IsKindOf : NodeKind → List ℕ → Type 0
 IsKindOf File = IsU8 0
 IsKindOf Directory = IsU8 1
 
--- contents that are put are not empty, and stand as they are
+-- contents that are put are not empty, and stand on pages: how many bytes there are, and the list of the pages
 abbrev pub IsPutOf : Contents → List ℕ → Type 0
-IsPutOf (Whole []) bytes = ⊥
-IsPutOf (Whole (c ∷ cs)) bytes = IsBytesOf (c ∷ cs) bytes
-IsPutOf (Paged pages) bytes = ⊥
+IsPutOf (Whole contents) bytes = ⊥
+IsPutOf (Paged zero pages) bytes = ⊥
+IsPutOf (Paged (suc n) pages) bytes = Then (IsU32 (suc n)) (IsListOf IsU32 pages) bytes
 
--- a cut is its size, and names no pages
+-- a cut is its size, and the list of its pages
 abbrev pub IsCutOf : ℕ → List ℕ → List ℕ → Type 0
-IsCutOf size [] bytes = IsU64 size bytes
-IsCutOf size (page ∷ pages) bytes = ⊥
+IsCutOf size pages = Then (IsU64 size) (IsListOf IsU32 pages)
 
 -- a change is its tag and its fields
 abbrev pub IsChangeOf : Change → List ℕ → Type 0

@@ -1,5 +1,5 @@
 -- How many bytes events take in a log.
-use Rattle.std.specs.Prelude.{ℕ, ◌+◌, ◌*◌, List, length, sum_by, Option, Some, None}
+use Rattle.std.specs.Prelude.{ℕ, ◌+◌, ◌*◌, ◌/◌, List, length, sum_by, Option, Some, None}
 use Rattle.ktm_keyed.specs.declared.keyed.Keyed.{Keyed}
 use Rattle.ktm_types.specs.declared.event.Part.{Part}
 use Rattle.ktm_types.specs.declared.event.Part.TheVariants.{Enlistment, Changes, Settings}
@@ -21,16 +21,20 @@ set_to_size (Some value) = 3 + length value
 abbrev pub setting_size : Keyed (Option (List ℕ)) → ℕ
 setting_size setting = 1 + length setting.key + set_to_size setting.value
 
--- contents that are put: their bytes behind their length in four bytes
+-- a list of pages: a count of four bytes, and four for each
+abbrev pub pages_size : List ℕ → ℕ
+pages_size pages = 4 + 4 * length pages
+
+-- contents that are put: how many bytes there are, in four bytes, and the pages, of which each has 4,096 of them where they begin a unit
 abbrev pub put_size : Contents → ℕ
-put_size (Whole bytes) = 4 + length bytes
-put_size (Paged pages) = 0
+put_size (Whole bytes) = 8 + 4 * ((length bytes + 4095) / 4096)
+put_size (Paged len pages) = 4 + pages_size pages
 
 -- a change: a tag and its fields, of which a number has eight bytes
 abbrev pub change_size : Change → ℕ
 change_size (Make node parent kind name) = 19 + length name
 change_size (Put node offset contents) = 17 + put_size contents
-change_size (Cut node size pages) = 17
+change_size (Cut node size pages) = 17 + pages_size pages
 change_size (Move node parent name) = 18 + length name
 change_size (Drop node) = 9
 

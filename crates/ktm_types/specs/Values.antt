@@ -6,7 +6,7 @@ use Rattle.ktm_base.specs.declared.id.Label.{Label}
 use Rattle.ktm_base.specs.declared.id.Pid.{Pid}
 use Rattle.ktm_base.specs.Bytes.{AreBytes}
 use Rattle.ktm_types.specs.declared.command.Command.{Command}
-use Rattle.ktm_types.specs.declared.command.Command.TheVariants.{CreateTransaction, OpenTransaction, CommitTransaction, RollbackTransaction, GetTransactionInformation, CreateResourceManager, OpenResourceManager, RecoverResourceManager, GetNotificationResourceManager, CreateEnlistment, OpenEnlistment, RecoverEnlistment, PrePrepareComplete, PrepareComplete, ReadOnlyEnlistment, CommitComplete, RollbackComplete, SinglePhaseReject, RollbackEnlistment, PrePrepareEnlistment, PrepareEnlistment, CommitEnlistment, SetEnlistmentRecoveryInformation, GetEnlistmentRecoveryInformation, CreateFile, CreateFileTransacted, ReadFile, WriteFile, SetEndOfFile, GetFileSizeEx, FlushFileBuffers, DeleteFile, CreateDirectory, RemoveDirectory, MoveFile, DeleteFileTransacted, CreateDirectoryTransacted, RemoveDirectoryTransacted, MoveFileTransacted, FindFiles, FindFilesTransacted, KvSet, KvUnset, KvGet, KvList, CloseHandle, DuplicateHandle, Exit}
+use Rattle.ktm_types.specs.declared.command.Command.TheVariants.{CreateTransaction, OpenTransaction, CommitTransaction, RollbackTransaction, GetTransactionInformation, CreateResourceManager, OpenResourceManager, RecoverResourceManager, GetNotificationResourceManager, CreateEnlistment, OpenEnlistment, RecoverEnlistment, PrePrepareComplete, PrepareComplete, ReadOnlyEnlistment, CommitComplete, RollbackComplete, SinglePhaseReject, RollbackEnlistment, PrePrepareEnlistment, PrepareEnlistment, CommitEnlistment, SetEnlistmentRecoveryInformation, GetEnlistmentRecoveryInformation, CreateFile, CreateFileTransacted, ReadFile, WriteFile, SetEndOfFile, WriteUnits, GetFileSizeEx, FlushFileBuffers, DeleteFile, CreateDirectory, RemoveDirectory, MoveFile, DeleteFileTransacted, CreateDirectoryTransacted, RemoveDirectoryTransacted, MoveFileTransacted, FindFiles, FindFilesTransacted, KvSet, KvUnset, KvGet, KvList, CloseHandle, DuplicateHandle, Exit}
 use Rattle.ktm_types.specs.declared.command.View.{View}
 use Rattle.ktm_types.specs.declared.command.View.TheVariants.{Plain, Transaction}
 
@@ -48,7 +48,7 @@ pub record IsGuid (guid : List ℕ) : Type 0 where
 abbrev pub IsSize : ℕ → Type 0
 IsSize n = n < 2 ^ 64
 
--- a command with its values in the ranges of the grammar
+-- a command of the grammar, with its values in their ranges
 abbrev pub IsCommand : Command → Type 0
 IsCommand (CreateTransaction label timeout) = IsLabel label × (timeout < 2 ^ 32)
 IsCommand (OpenTransaction label guid) = IsLabel label × IsGuid guid
@@ -79,6 +79,7 @@ IsCommand (CreateFileTransacted label path access share disposition transaction)
 IsCommand (ReadFile file offset many) = IsLabel file × IsSize offset × IsSize many
 IsCommand (WriteFile file offset bytes) = IsLabel file × IsSize offset × AreBytes bytes
 IsCommand (SetEndOfFile file size) = IsLabel file × IsSize size
+IsCommand (WriteUnits file start contents) = ⊥
 IsCommand (GetFileSizeEx file) = IsLabel file
 IsCommand (FlushFileBuffers file) = IsLabel file
 IsCommand (DeleteFile path) = IsText path
@@ -98,3 +99,8 @@ IsCommand (KvList view) = IsView view
 IsCommand (CloseHandle label) = IsLabel label
 IsCommand (DuplicateHandle label process source) = IsLabel label × IsPid process × IsLabel source
 IsCommand Exit = Unit {0}
+
+-- a command that a machine is given: one that a line spells, or units that are put
+abbrev pub IsGiven : Command → Type 0
+IsGiven (WriteUnits file start contents) = IsLabel file × (1 ≤ length contents) × (length contents < 2 ^ 32)
+IsGiven command = IsCommand command

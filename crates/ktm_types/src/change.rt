@@ -1,5 +1,6 @@
 // What is changed in the tree of files.
-use ktm_base::{Bytes, Items, PageList, Text};
+use ktm_base::{Items, PageList, Text};
+use ktm_content::Placed;
 
 /// What a node of the tree is.
 #[derive(Clone, Copy, Debug)]
@@ -8,11 +9,13 @@ pub enum NodeKind {
     Directory,
 }
 
-/// Bytes that are put into a file: as they are, or by the pages that hold them, which no image of the present layout has.
+/// Bytes that are put into a file.
 #[derive(Debug, Drop)]
 pub enum Contents {
-    Whole(Bytes),
-    Paged(PageList),
+    /// As they stand in memory, each byte at its place.
+    Whole(Placed),
+    /// As they are recorded: how many there are, and the pages that hold the units of 4,096 bytes that they touch, whole.
+    Paged { len: u32, pages: PageList },
 }
 
 /// A change of the tree. A node is named by its number: one that was recorded is never used again, and one that was drawn and not
@@ -32,7 +35,8 @@ pub enum Change {
         offset: u64,
         contents: Contents,
     },
-    /// A file has so many bytes then. The list of pages is empty in the present layout.
+    /// A file has so many bytes then. Where it is recorded that it becomes longer, the pages hold the units from that of its
+    /// old end on; else the list is empty.
     Cut {
         node: u64,
         size: u64,

@@ -162,6 +162,13 @@ pub enum Command {
         file: Label,
         size: u64,
     },
+    /// Puts whole units into a file, from the begin of one on. No line spells it: the machine makes it of `WriteFile` and of
+    /// `SetEndOfFile`, whose bytes stand on pages then.
+    WriteUnits {
+        file: Label,
+        start: u64,
+        contents: Bytes,
+    },
     /// Tells how many bytes a file has.
     GetFileSizeEx {
         file: Label,

@@ -15,15 +15,15 @@ abbrev pub new_content : NodeKind → Option (List ℕ)
 new_content File = Some []
 new_content Directory = None
 
--- the bytes of contents; no image of the present layout has pages
+-- the bytes of contents that stand as they are
 abbrev pub bytes_in : Contents → List ℕ
 bytes_in (Whole bytes) = bytes
-bytes_in (Paged pages) = []
+bytes_in (Paged len pages) = []
 
 -- do the contents stand as bytes, and not as pages
 abbrev pub is_whole : Contents → Bool
 is_whole (Whole bytes) = true
-is_whole (Paged pages) = false
+is_whole (Paged len pages) = false
 
 -- is the list empty
 abbrev pub is_empty_list : List ℕ → Bool

@@ -219,13 +219,13 @@ write_file o offset (b ∷ bs) = changing (Put o.node offset (Whole (b ∷ bs)))
 abbrev pub write_access_test : OpenFile → Bool × Refusal
 write_access_test o = (not (writes o.access), AccessDenied)
 
+-- the tests of a put of whole units, which no line spells, and which may be of any length
+unfoldable pub write_units_tests : FilesNow → FileRoom → OpenFile → ℕ → List ℕ → List (Bool × Refusal)
+write_units_tests files room o start contents = write_access_test o ∷ (lacks_disk files room o.transaction (write_file o start contents), DiskFull) ∷ []
+
 -- the tests of WriteFile
 unfoldable pub write_file_tests : FilesNow → FileRoom → OpenFile → ℕ → List ℕ → List (Bool × Refusal)
-write_file_tests files room o offset bytes =
-    (nat_lt MOST_AT_ONCE (length bytes), InvalidParameter)
-    ∷ write_access_test o
-    ∷ (lacks_disk files room o.transaction (write_file o offset bytes), DiskFull)
-    ∷ []
+write_file_tests files room o offset bytes = (nat_lt MOST_AT_ONCE (length bytes), InvalidParameter) ∷ write_units_tests files room o offset bytes
 
 -- SetEndOfFile makes the file so long: it is cut, or filled with zeros
 unfoldable pub set_end : OpenFile → ℕ → FileOutcome

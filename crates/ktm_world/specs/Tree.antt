@@ -1,8 +1,9 @@
 -- The tree of files and directories.
-use Rattle.std.specs.Prelude.{◌≡◌, ℕ, zero, suc, ◌+◌, ◌-◌, ◌/◌, ◌==◌, ◌≤◌, ◌&&◌, ◌||◌, not, Bool, true, List, [], ◌∷◌, ◌++◌, length, map, take, drop, replicate, nat_lt, Option, Some, None, is_some, find, filter, All, if◌then◌else◌, bytes_eq}
+use Rattle.std.specs.Prelude.{◌≡◌, ℕ, zero, suc, ◌+◌, ◌==◌, ◌≤◌, ◌&&◌, ◌||◌, not, Bool, true, List, [], ◌∷◌, length, map, nat_lt, Option, Some, None, is_some, find, filter, All, if◌then◌else◌, bytes_eq}
 use Rattle.std.specs.List.{list_any}
 use Rattle.ktm_base.specs.Names.{IsName, folded}
 use Rattle.ktm_types.specs.declared.recorded.Node.{Node}
+pub use Rattle.ktm_content.specs.Contents.{cut_to, put_over, units_of}
 
 -- the nodes but the root, by rising number
 abbrev pub Tree : Type 0
@@ -41,10 +42,6 @@ is_directory tree number = is_there tree number && not (is_file tree number)
 abbrev pub bytes_or_none : Option (List ℕ) → List ℕ
 bytes_or_none None = []
 bytes_or_none (Some bytes) = bytes
-
--- whole units of 4,096 bytes
-abbrev pub units_of : List ℕ → ℕ
-units_of bytes = (length bytes + 4095) / 4096
 
 -- the bytes of a file
 abbrev pub bytes_of : Tree → ℕ → List ℕ
@@ -88,14 +85,6 @@ with_changed tree number f = map (λ node. if has_number number node then f node
 -- the tree without a node
 abbrev pub without_node : Tree → ℕ → Tree
 without_node tree number = filter (λ node. not (has_number number node)) tree
-
--- the bytes made so long: cut, or filled with zeros
-abbrev pub cut_to : List ℕ → ℕ → List ℕ
-cut_to bytes size = take size bytes ++ replicate (size - length bytes) 0
-
--- bytes put over others at an offset; a gap before them is filled with zeros
-abbrev pub put_over : List ℕ → ℕ → List ℕ → List ℕ
-put_over old offset new = cut_to old offset ++ new ++ drop (offset + length new) old
 
 -- do the numbers rise
 abbrev pub numbers_rise : Tree → Bool

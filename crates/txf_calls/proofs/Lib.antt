@@ -1,4 +1,5 @@
 pub mod Creates
+pub mod Filled
 pub mod Finds
 pub mod Fitting
 pub mod Leading
@@ -7,5 +8,7 @@ pub mod Moving
 pub mod Numbered
 pub mod Paths
 pub mod Quotas
+pub mod Sized
 pub mod Texts
 pub mod Ways
+pub mod Writing

@@ -10,7 +10,7 @@ use Rattle.ktm_world.specs.Files.{FilesNow, FirstOpen, OpenFile}
 use Rattle.ktm_world.specs.Tree.{Tree, is_file, node_at}
 use Rattle.txf_opens.specs.Acts.{open_of}
 use Rattle.txf_calls.specs.declared.call.FileCall.{FileCall}
-use Rattle.txf_calls.specs.declared.call.FileCall.TheVariants.{Write, SetEnd}
+use Rattle.txf_calls.specs.declared.call.FileCall.TheVariants.{Write, WriteUnits, SetEnd}
 
 -- ---- what a call comes to
 
@@ -46,5 +46,6 @@ IsOnFile files o = o.transaction ≡ None → writes o.access ≡ true → is_fi
 -- the open file that the call writes or cuts, if it does, may be used so
 abbrev pub MayBeUsed : FilesNow → FileCall → Type 0
 MayBeUsed files (Write file offset bytes) = IsOnFile files (open_of file)
+MayBeUsed files (WriteUnits file start contents) = IsOnFile files (open_of file)
 MayBeUsed files (SetEnd file size) = IsOnFile files (open_of file)
 MayBeUsed files _ = ⊤

@@ -1,5 +1,6 @@
 // The calls on files.
-use ktm_base::{Bytes, Text};
+use ktm_base::Text;
+use ktm_content::Placed;
 use ktm_types::{Access, Disposition, ShareMode};
 use std::marker::Model;
 use txf_opens::OpenFile;
@@ -31,17 +32,17 @@ pub enum FileCall {
         share: ShareMode,
         disposition: Disposition,
     },
-    /// Reads at most so many bytes from an offset on.
-    Read {
-        file: OpenFile,
-        offset: u64,
-        length: u64,
-    },
     /// Writes bytes at an offset.
     Write {
         file: OpenFile,
         offset: u64,
-        bytes: Bytes,
+        bytes: Placed,
+    },
+    /// Puts whole units, from the begin of one on.
+    WriteUnits {
+        file: OpenFile,
+        start: u64,
+        contents: Placed,
     },
     /// Makes a file so long.
     SetEnd {

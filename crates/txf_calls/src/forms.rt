@@ -7,7 +7,7 @@ ghost use Rattle.txf_calls.specs.Fits.{MayBeUsed};
 use crate::call::{FileCall, Room};
 use crate::create::{Modes, create};
 use crate::directory::make_directory;
-use crate::handle::{flush, read, set_end, size, write};
+use crate::handle::{flush, set_end, size, write, write_units};
 use crate::moves::move_file;
 use crate::plan::Plan;
 use crate::remove::{delete, remove_directory};
@@ -17,7 +17,7 @@ use ktm_base::{Id, NoMemory};
 use std::alloc::Global;
 
 /// What a call comes to: the first of its tests that holds refuses it, or else what it is for is planned. Nothing is
-/// changed. It takes memory for the names and bytes that the plan has, and for what the reply tells.
+/// changed. It takes memory for the names that the plan has, and for what the reply tells.
 pub fn decide<V: Volume>(
     alloc: Global,
     volume: &V,
@@ -44,16 +44,16 @@ pub fn decide<V: Volume>(
             };
             create(alloc, volume, who, &path, modes, room)
         }
-        FileCall::Read {
-            file,
-            offset,
-            length,
-        } => read(alloc, volume, file, offset, length),
         FileCall::Write {
             file,
             offset,
             bytes,
         } => Ok(write(volume, file, offset, bytes, room)),
+        FileCall::WriteUnits {
+            file,
+            start,
+            contents,
+        } => Ok(write_units(volume, file, start, contents, room)),
         FileCall::SetEnd { file, size } => Ok(set_end(alloc, volume, file, size, room)),
         FileCall::Size { file } => Ok(size(volume, file)),
         FileCall::Flush { file } => Ok(flush(volume, file)),

@@ -1,19 +1,22 @@
 // The calls on an open file.
-ghost use Rattle.std.specs.Prelude.{◌≡◌, ◌∷◌, [], IfOk, take, drop};
+ghost use Rattle.std.specs.Prelude.{◌≡◌, ◌<◌, ◌≤◌, ◌+◌, ◌-◌, ◌*◌, ◌^◌, ◌∷◌, [], List, None, ℕ, length, max, min};
+ghost use Rattle.ktm_base.specs.declared.limits.TheConstants.{UNIT_BYTES};
 ghost use Rattle.ktm_base.specs.declared.refusal.Refusal.TheVariants.{DiskFull};
-ghost use Rattle.ktm_world.specs.FileCalls.{set_end, write_file};
+ghost use Rattle.ktm_world.specs.FileCalls.{read_file_tests, set_end, write_file};
 ghost use Rattle.ktm_world.specs.FileOutcome.{FileRoom, lacks_disk};
 ghost use Rattle.ktm_world.specs.Files.{bytes_seen};
 ghost use Rattle.ktm_world.specs.Outcome.{first_refusal};
-ghost use Rattle.txf_calls.specs.Calls.{file_outcome, unless_refused};
+ghost use Rattle.txf_calls.specs.Calls.{file_outcome, file_tests, unless_refused, IsForUnits};
 ghost use Rattle.txf_calls.specs.Fits.{IsFit, IsOnFile};
 ghost use Rattle.txf_opens.specs.Acts.{open_of};
-ghost use Rattle.txf_calls.specs.declared.call.FileCall.TheVariants.{Flush, Read, SetEnd, Size, Write};
+ghost use Rattle.txf_laws.specs.FileEffects.{IsOrderly};
+ghost use Rattle.txf_calls.specs.declared.call.FileCall.TheVariants.{Flush, SetEnd, Size, Write, WriteUnits};
 
 use crate::call::Room;
 use crate::plan::{Plan, unless_refused};
 use crate::volume::Volume;
-use ktm_base::{Bytes, Id, MOST_AT_ONCE, NoMemory, PageList, Refusal};
+use ktm_base::{Id, MOST_AT_ONCE, PageList, Refusal};
+use ktm_content::Placed;
 use ktm_types::{Change, Contents, Reply};
 use std::alloc::Global;
 use txf_opens::{OpenFile, reads, writes};
@@ -39,45 +42,23 @@ fn within_disk<V: Volume>(volume: &V, who: Option<Id>, plan: Plan, room: &Room) 
     unless_refused(refusal, plan)
 }
 
-// The bytes of a file from an offset on, at most so many. It takes the memory for those alone.
-fn bytes_from<V: Volume>(
-    alloc: Global,
-    volume: &V,
-    file: OpenFile,
-    offset: u64,
-    length: u64,
-) -> Result<Bytes, NoMemory>
-    ensures { IfOk result (λ bytes. bytes ≡ take length (drop offset (bytes_seen (V.files volume.now) file.transaction file.node))) }
-{
-    let mut bytes = Vec::new(alloc);
-    volume.read(file.transaction, file.node, offset, length, &mut bytes)?;
-    Ok(Bytes::new(bytes))
-}
-
-/// Reads at most so many bytes from an offset on.
-#[tactic(auto, unfolding(ktm_world::specs::FileCalls::read_file_tests, ktm_world::specs::FileCalls::read_file))]
-pub(crate) fn read<V: Volume>(
-    alloc: Global,
-    volume: &V,
-    file: OpenFile,
-    offset: u64,
-    length: u64,
-) -> Result<Plan, NoMemory>
-    ensures { (room : FileRoom) (who : _) → IfOk result (λ plan. plan ≡ file_outcome (V.files volume.now) room who (Read file offset length)) }
+/// Why a read of so many bytes is refused, if it is. The bytes are those that the volume lends.
+#[tactic(auto, unfolding(ktm_world::specs::FileCalls::read_file_tests))]
+pub fn read_refusal(file: OpenFile, length: u64) -> Option<Refusal>
+    ensures { result ≡ first_refusal (read_file_tests (open_of file) length) }
 {
     if length > MOST_AT_ONCE as u64 {
-        return Ok(Plan::refused(Refusal::InvalidParameter));
+        return Some(Refusal::InvalidParameter);
     }
     if !reads(file.access) {
-        return Ok(Plan::refused(Refusal::AccessDenied));
+        return Some(Refusal::AccessDenied);
     }
-    let bytes = bytes_from(alloc, volume, file, offset, length)?;
-    Ok(Plan::answering(Reply::Contents(bytes)))
+    None
 }
 
 // Puts bytes; none change nothing.
 #[tactic(auto, unfolding(ktm_world::specs::FileCalls::write_file))]
-fn put(file: OpenFile, offset: u64, bytes: Bytes) -> Plan
+fn put(file: OpenFile, offset: u64, bytes: Placed) -> Plan
     ensures { result ≡ write_file (open_of file) offset bytes }
 {
     if bytes.is_empty() {
@@ -90,25 +71,40 @@ fn put(file: OpenFile, offset: u64, bytes: Bytes) -> Plan
     })
 }
 
+/// Puts whole units, from the begin of one on.
+#[tactic(auto, unfolding(ktm_world::specs::FileCalls::write_units_tests))]
+pub(crate) fn write_units<V: Volume>(
+    volume: &V,
+    file: OpenFile,
+    start: u64,
+    contents: Placed,
+    room: &Room,
+) -> Plan
+    requires { IsOnFile (V.files volume.now) (open_of file) }
+    ensures { (who : _) → result ≡ file_outcome (V.files volume.now) room.now who (WriteUnits file start contents) }
+{
+    if !writes(file.access) {
+        return Plan::refused(Refusal::AccessDenied);
+    }
+    within_disk(volume, file.transaction, put(file, start, contents), room)
+}
+
 /// Writes bytes at an offset.
 #[tactic(auto, unfolding(ktm_world::specs::FileCalls::write_file_tests))]
 pub(crate) fn write<V: Volume>(
     volume: &V,
     file: OpenFile,
     offset: u64,
-    bytes: Bytes,
+    bytes: Placed,
     room: &Room,
 ) -> Plan
     requires { IsOnFile (V.files volume.now) (open_of file) }
     ensures { (who : _) → result ≡ file_outcome (V.files volume.now) room.now who (Write file offset bytes) }
 {
-    if bytes.len() > MOST_AT_ONCE {
+    if bytes.len() > MOST_AT_ONCE as u64 {
         return Plan::refused(Refusal::InvalidParameter);
     }
-    if !writes(file.access) {
-        return Plan::refused(Refusal::AccessDenied);
-    }
-    within_disk(volume, file.transaction, put(file, offset, bytes), room)
+    write_units(volume, file, offset, bytes, room)
 }
 
 // Makes the file so long.
@@ -123,8 +119,44 @@ fn cut(alloc: Global, file: OpenFile, size: u64) -> Plan
     })
 }
 
-/// Makes a file so long.
+// Why a file is refused to be made so long, if it is.
 #[tactic(auto, unfolding(ktm_world::specs::FileCalls::set_end_tests))]
+fn end_refusal<V: Volume>(
+    alloc: Global,
+    volume: &V,
+    file: OpenFile,
+    size: u64,
+    room: &Room,
+) -> Option<Refusal>
+    requires { IsOnFile (V.files volume.now) (open_of file) }
+    ensures { (who : _) → result ≡ first_refusal (file_tests (V.files volume.now) room.now who (SetEnd file size)) }
+{
+    if !writes(file.access) {
+        return Some(Refusal::AccessDenied);
+    }
+    let plan = cut(alloc, file, size);
+    disk_refusal(volume, file.transaction, &plan, room)
+}
+
+/// Why a file is refused to be made so long, if it is. So is then a put of whole units that makes it as long. Else so many bytes
+/// are no more than there are units for.
+pub fn set_end_refusal<V: Volume>(
+    alloc: Global,
+    volume: &V,
+    file: OpenFile,
+    size: u64,
+    room: &Room,
+) -> Option<Refusal>
+    requires orderly { IsOrderly (V.files volume.now) }
+    requires file { IsOnFile (V.files volume.now) (open_of file) }
+    ensures refusal { (who : _) → result ≡ first_refusal (file_tests (V.files volume.now) room.now who (SetEnd file size)) }
+    ensures units { IsForUnits (V.files volume.now) room.now file size result }
+    ensures small { result ≡ None → size ≤ room.now.units * UNIT_BYTES }
+{
+    end_refusal(alloc, volume, file, size, room)
+}
+
+/// Makes a file so long.
 pub(crate) fn set_end<V: Volume>(
     alloc: Global,
     volume: &V,
@@ -135,10 +167,50 @@ pub(crate) fn set_end<V: Volume>(
     requires { IsOnFile (V.files volume.now) (open_of file) }
     ensures { (who : _) → result ≡ file_outcome (V.files volume.now) room.now who (SetEnd file size) }
 {
-    if !writes(file.access) {
-        return Plan::refused(Refusal::AccessDenied);
+    let refusal = end_refusal(alloc, volume, file, size, room);
+    unless_refused(refusal, cut(alloc, file, size))
+}
+
+// So many units are there at most.
+fn units_in(room: &Room) -> u32
+    ensures units { result ≡ room.now.units }
+    ensures few { result < 2 ^ 32 }
+{
+    room.units
+}
+
+// The end of so many bytes at an offset, or the last one that a number says, which is beyond every disk.
+fn end_of(offset: u64, len: u64, room: &Room) -> u64
+    ensures end { result ≡ min (offset + len) (2 ^ 64 - 1) }
+    ensures few { room.now.units < 2 ^ 32 }
+{
+    let _ = units_in(room);
+    offset.saturating_add(len)
+}
+
+/// Why a write of so many bytes at an offset is refused, if it is, whatever the bytes are: it takes as much of the disk as a put of
+/// whole units that makes the file as long. If it is not, so many bytes are no more than there are units for.
+pub fn write_refusal<V: Volume>(
+    alloc: Global,
+    volume: &V,
+    file: OpenFile,
+    offset: u64,
+    len: u64,
+    room: &Room,
+) -> Option<Refusal>
+    requires orderly { IsOrderly (V.files volume.now) }
+    requires file { IsOnFile (V.files volume.now) (open_of file) }
+    requires some { 1 ≤ len }
+    ensures refusal { (who : _) (bytes : List ℕ) → length bytes ≡ len → result ≡ first_refusal (file_tests (V.files volume.now) room.now who (Write file offset bytes)) }
+    ensures units { result ≡ None → IsForUnits (V.files volume.now) room.now file (max (length (bytes_seen (V.files volume.now) file.transaction file.node)) (offset + len)) None }
+    ensures small { result ≡ None → max (length (bytes_seen (V.files volume.now) file.transaction file.node)) (offset + len) ≤ room.now.units * UNIT_BYTES }
+{
+    if len > MOST_AT_ONCE as u64 {
+        return Some(Refusal::InvalidParameter);
     }
-    within_disk(volume, file.transaction, cut(alloc, file, size), room)
+    let size = volume.bytes(file.transaction, file.node).len();
+    let end = end_of(offset, len, room);
+    set_end_refusal(alloc, volume, file, size.max(end), room)
 }
 
 /// Tells how many bytes a file has.
@@ -146,7 +218,7 @@ pub(crate) fn set_end<V: Volume>(
 pub(crate) fn size<V: Volume>(volume: &V, file: OpenFile) -> Plan
     ensures { (room : FileRoom) (who : _) → result ≡ file_outcome (V.files volume.now) room who (Size file) }
 {
-    Plan::answering(Reply::Size(volume.size(file.transaction, file.node)))
+    Plan::answering(Reply::Size(volume.bytes(file.transaction, file.node).len()))
 }
 
 /// Makes sure that what was written is safe: each plain change is, before it is answered.

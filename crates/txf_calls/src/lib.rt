@@ -18,6 +18,7 @@ mod volume;
 
 pub use call::{FileCall, Room};
 pub use forms::decide;
+pub use handle::{read_refusal, set_end_refusal, write_refusal};
 pub use plan::Plan;
 pub use txf_opens::OpenFile;
 pub use view::Seen;

@@ -1,7 +1,6 @@
 // What the calls ask of the files.
-ghost use Rattle.std.specs.Prelude.{◌≡◌, ◌∷◌, [], IfOk, Some, true, is_some, length, map};
+ghost use Rattle.std.specs.Prelude.{◌≡◌, ◌∷◌, [], IfOk, Some, true, is_some, map};
 ghost use Rattle.std.specs.Option.{option_map};
-ghost use Rattle.ktm_base.specs.Reading.{IsRead};
 ghost use Rattle.ktm_base.specs.declared.refusal.Refusal.TheVariants.{SharingViolation, TransactionalConflict};
 ghost use Rattle.ktm_world.specs.Conflicts.{conflicts};
 ghost use Rattle.ktm_world.specs.FileCalls.{entries, first_opening, listed};
@@ -17,6 +16,7 @@ use crate::call::Room;
 use crate::plan::Plan;
 use crate::view::Seen;
 use ktm_base::{Id, NoMemory, Refusal, TextList};
+use ktm_content::PlacedRef;
 use ktm_names::Pattern;
 use std::alloc::Global;
 use txf_opens::Act;
@@ -51,20 +51,9 @@ pub trait Volume {
     ) -> Result<TextList, NoMemory>
         ensures { IfOk result (λ names. names ≡ map listed (entries (tree_seen (files self.now) who) (Some directory) pattern.now.last)) };
 
-    /// How many bytes a file has that the caller sees.
-    fn size(&self, who: Option<Id>, file: u64) -> u64
-        ensures { result ≡ length (bytes_seen (files self.now) who file) };
-
-    /// Puts at most so many bytes of a file that the caller sees, from the offset on, behind those that are there.
-    fn read(
-        &self,
-        who: Option<Id>,
-        file: u64,
-        offset: u64,
-        most: u64,
-        onto: &mut Vec<u8>,
-    ) -> Result<(), NoMemory>
-        ensures { IsRead (bytes_seen (files self.now) who file) offset most onto.old onto.new result };
+    /// The bytes of a file that the caller sees, lent.
+    fn bytes(&self, who: Option<Id>, file: u64) -> PlacedRef<'_>
+        ensures { result ≡ bytes_seen (files self.now) who file };
 
     /// Does an open of the file make it the caller's first one: it is a transaction, and neither made the file nor opened it
     /// before.

@@ -26,7 +26,7 @@ fn units_put(change: &Change) -> u64
     ensures few { result ≤ 2 ^ 52 }
 {
     match change {
-        Change::Put { contents, .. } => (bytes_in(contents).len() as u64).div_ceil(UNIT_BYTES),
+        Change::Put { contents, .. } => bytes_in(contents).len().div_ceil(UNIT_BYTES),
         _ => 0,
     }
 }

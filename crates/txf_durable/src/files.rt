@@ -5,6 +5,7 @@ ghost use Rattle.ktm_world.specs.Changes.{applies, changes_apply, changes_bytes,
 ghost use Rattle.ktm_world.specs.Durable.{are_recorded_changes, is_new_in, next_after_all};
 ghost use Rattle.ktm_world.specs.Tree.{IsWellFormed, bytes_of, bytes_or_none, units_of};
 ghost use Rattle.txf_tree.specs.TreeState.{fits, tree_of, versions_of, KeepsRooms};
+ghost use Rattle.txf_tree.specs.UnitChanges.{CanAllBeMade, CanBeMade};
 ghost use Rattle.txf_durable.specs.State.{CanMake, CanMakeAll, IsCounted, IsMade};
 
 use crate::recorded::split_at_bytes;
@@ -85,6 +86,7 @@ fn prepare(tree: &mut Tree, units: u64, change: &Change) -> Result<bool, NoMemor
 // Makes a change for which the memory is there, and tells how many units there are then.
 fn restore(tree: &mut Tree, units: u64, change: Change) -> u64
     requires applies { applies (tree_of tree.old) change ≡ true }
+    requires units { CanBeMade (tree_of tree.old) change }
     requires fits { fits tree.old change ≡ true }
     requires counted { IsCounted tree.old units }
     requires few { units + 2 ^ 52 < 2 ^ 64 }
@@ -148,9 +150,10 @@ impl DurableFiles {
     }
 
     /// Makes changes in order, if they apply and none of them makes a node that is there before the first, and tells whether
-    /// that is so. It fails where it is out of memory, and where the files have nearly 2^64 units. Where not all changes were made
+    /// that is so. Contents change unit by unit. It fails where it is out of memory, and where the files have nearly 2^64 units. Where not all changes were made
     /// the files are of no use, since some of them may have been.
     pub fn commit(&mut self, changes: Vec<Change>) -> Result<bool, NoMemory>
+        requires { CanAllBeMade (tree_of self.old.tree) changes.items }
         ensures applies { IfOk result (λ all. all ≡ (changes_apply (tree_of self.old.tree) changes.items && list_all (is_new_in (tree_of self.old.tree)) changes.items)) }
         ensures after { result ≡ Ok true → (tree_of self.new.tree ≡ changed_all (tree_of self.old.tree) changes.items) × (self.new.next_node ≡ next_after_all self.old.next_node changes.items) }
         ensures enough { CanMakeAll self.old.tree changes.items → IsOk result }
@@ -168,6 +171,7 @@ impl DurableFiles {
 
     /// Makes one change, if it applies and makes no node that is there, and tells whether that is so. It fails where `commit` does.
     pub fn commit_one(&mut self, change: Change) -> Result<bool, NoMemory>
+        requires { CanBeMade (tree_of self.old.tree) change }
         ensures applies { IfOk result (λ done. done ≡ (changes_apply (tree_of self.old.tree) (change ∷ []) && list_all (is_new_in (tree_of self.old.tree)) (change ∷ []))) }
         ensures after { result ≡ Ok true → (tree_of self.new.tree ≡ changed_all (tree_of self.old.tree) (change ∷ [])) × (self.new.next_node ≡ next_after_all self.old.next_node (change ∷ [])) }
         ensures enough { CanMake self.old.tree change → IsOk result }
@@ -242,6 +246,7 @@ impl DurableFiles {
 
     // Makes a change if it applies, counts what it adds to the units and takes from them, and tells whether it applies.
     fn make(&mut self, change: Change) -> Result<bool, NoMemory>
+        requires { CanBeMade (tree_of self.old.tree) change }
         ensures applies { IfOk result (λ done. done ≡ applies (tree_of self.old.tree) change) }
         ensures after { result ≡ Ok true → IsMade self.old.tree self.new.tree change × (self.new.next_node ≡ next_after self.old.next_node change) }
         ensures enough { CanMake self.old.tree change → IsOk result }

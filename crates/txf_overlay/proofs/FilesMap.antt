@@ -17,9 +17,11 @@ use Rattle.std.specs.List.{flat_map}
 use Rattle.txf_overlay.specs.Files.{AreCounted, AreFiles, files_in, IsFilesMap}
 use Rattle.txf_overlay.specs.Written.{AreOver, AreFilesRising, bytes_at, bytes_or, file_of, first_from, with_bytes, with_file, without_file, total_units, units_in}
 use Rattle.txf_overlay.specs.Maps.{under, IsSet}
+use Rattle.txf_overlay.specs.Pages.{LieOnPages}
 use Rattle.txf_tree.specs.Places.{number_bytes}
 use Rattle.txf_overlay.specs.OverlayState.{Written, final_of}
 use Rattle.txf_overlay.proofs.Entries.{at-none, key_at-free, without-absent}
+use Rattle.txf_overlay.proofs.Pages.{lie-with, lie-without}
 use Rattle.txf_overlay.proofs.Numbers.{name_cmp-numbers, cmp-less, cmp-same, cmp-more}
 
 -- how the name of an entry stands to that of a number
@@ -313,13 +315,14 @@ free_name es file name are small none named =
     key_at-free es name (at-none es name (ap (under es) named ∙ under-bytes es file are small ∙ ap (option_map (file_of file)) none))
 
 -- the units of all files, once one of them has other bytes
-pub counted_edited : (es new : List (NamedItem Written)) (units units' file : ℕ) (was bytes : List ℕ) → AreCounted es units → IsEdited es new file bytes
+pub counted_edited : (es new : List (NamedItem Written)) (units units' file : ℕ) (was bytes : List ℕ) → AreCounted es units → IsEdited es new file bytes → LieOnPages bytes
     → bytes_or [] (bytes_at (files_in es) file) ≡ was → units' + units_of was ≡ units + units_of bytes → AreCounted new units'
-counted_edited es new units units' file was bytes is edit was_is after =
+counted_edited es new units units' file was bytes is edit lie was_is after =
     let known : units_at (files_in es) file ≡ units_of was = ap units_of was_is in
     record {
       map = edit.map;
       sum = rw edit.files (omega (arith, after, known, is.sum, units-with (files_in es) file bytes is.map.rise));
+      pages = rw edit.files (lie-with (files_in es) file bytes is.pages lie);
     }
 
 pub counted_without : (es new : List (NamedItem Written)) (units units' file : ℕ) (was : List ℕ) → AreCounted es units → file < 2 ^ 64 → new ≡ without_name es (number_bytes file)
@@ -329,6 +332,7 @@ counted_without es new units units' file was is small new_is was_is after =
     record {
       map = rw new_is (IsFilesMap-without es file is.map small);
       sum = rw (new_is, files-without es file is.map small) (omega (arith, after, known, is.sum, units-without (files_in es) file is.map.rise));
+      pages = rw (new_is, files-without es file is.map small) (lie-without (files_in es) file is.pages);
     }
 
 pub none_there : (o : Option (List ℕ)) (file : ℕ) → None ≡ option_map (file_of file) o → o ≡ None

@@ -7,8 +7,8 @@ pub mod Numbers
 pub mod Options
 pub mod OtherTrees
 pub mod OwnForms
+pub mod Pages
 pub mod Seats
 pub mod Trees
 pub mod Upward
 pub mod Views
-pub mod Zeros

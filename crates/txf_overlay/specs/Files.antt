@@ -1,8 +1,9 @@
 -- The files that are written, and how a map of them stands for them. No public clause cites this module.
-use Rattle.std.specs.Prelude.{◌≡◌, ℕ, ◌<◌, ◌^◌, List, [], ◌∷◌, map}
+use Rattle.std.specs.Prelude.{◌≡◌, ℕ, ◌<◌, ◌^◌, All, List, [], ◌∷◌, map}
 use Rattle.ktm_links.specs.Mapped.{NamedItem}
 use Rattle.txf_tree.specs.Places.{number_bytes}
 use Rattle.txf_overlay.specs.OverlayState.{Written}
+use Rattle.txf_overlay.specs.Pages.{LieOnPages}
 use Rattle.txf_overlay.specs.Written.{AreFilesRising, total_units}
 
 -- the file of an entry
@@ -23,10 +24,11 @@ pub record IsFilesMap (entries : List (NamedItem Written)) : Type 0 where
   pub are : AreFiles entries
   pub rise : AreFilesRising (files_in entries)
 
--- the map, and how many units all files take
+-- the map, how many units all files take, and that their bytes lie on pages
 pub record AreCounted (entries : List (NamedItem Written)) (units : ℕ) : Type 0 where
   pub map : IsFilesMap entries
   pub sum : units ≡ total_units (files_in entries)
+  pub pages : All (λ w. LieOnPages w.bytes) (files_in entries)
 
 -- the files by rising number, and how many can come without memory
 pub record FilesState : Type 0 where

@@ -7,6 +7,7 @@ pub mod Maps
 pub mod Names
 pub mod Nodes
 pub mod OverlayState
+pub mod Pages
 pub mod Sight
 pub mod Views
 pub mod Written

@@ -1,12 +1,14 @@
 // The files that a transaction wrote.
-ghost use Rattle.std.specs.Prelude.{◌≡◌, ◌<◌, ◌≤◌, ◌^◌, ◌+◌, ◌++◌, [], None, IsOk, OnOk, OnErr, IfNone, option_copied, option_to_list};
+ghost use Rattle.std.specs.Prelude.{◌≡◌, ◌<◌, ◌≤◌, ◌^◌, ◌+◌, ◌++◌, [], All, None, IsOk, OnOk, OnErr, IfNone, option_copied, option_to_list};
 ghost use Rattle.std.specs.Option.{option_map};
-ghost use Rattle.txf_overlay.specs.Edits.{edited, reach};
+ghost use Rattle.txf_overlay.specs.Edits.{edited, reach, CanEdit};
 ghost use Rattle.txf_overlay.specs.Files.{files_in, AreFiles};
+ghost use Rattle.txf_overlay.specs.Pages.{LieOnPages};
 ghost use Rattle.txf_overlay.specs.Written.{HasBytes, AreFilesRising, bytes_at, bytes_or, file_of, first_from, total_units, with_bytes, with_made, without_file};
 
 use crate::written::{Edit, WrittenFile};
 use ktm_base::NoMemory;
+use ktm_content::PlacedRef;
 use ktm_links::Chains;
 use ktm_types::NodeKind;
 use std::alloc::Global;
@@ -57,9 +59,10 @@ impl WrittenFiles {
         }
     }
 
-    /// The numbers rise.
-    pub(crate) fn law_of_numbers(&self)
-        ensures { AreFilesRising self.now.written }
+    /// The numbers rise, and the bytes lie on pages.
+    pub(crate) fn law_of_files(&self)
+        ensures rise { AreFilesRising self.now.written }
+        ensures pages { All (λ w. LieOnPages w.bytes) self.now.written }
     {
         let _ = &self.alloc;
     }
@@ -99,8 +102,8 @@ impl WrittenFiles {
     }
 
     /// All bytes of a file.
-    pub(crate) fn bytes(&self, file: u64) -> Option<&[u8]>
-        ensures { option_copied result ≡ bytes_at self.now.written file }
+    pub(crate) fn bytes(&self, file: u64) -> Option<PlacedRef<'_>>
+        ensures { result ≡ bytes_at self.now.written file }
     {
         match self.get(file) {
             Some(written) => Some(written.bytes()),
@@ -132,12 +135,13 @@ impl WrittenFiles {
         &mut self,
         room: usize,
         file: u64,
-        first: &[u8],
+        first: PlacedRef<'_>,
         edit: Edit<'_>,
     ) -> Result<(), NoMemory>
         requires room { 0 < room }
-        requires few { total_units (with_bytes self.old.written file (edited (bytes_or first.now (bytes_at self.old.written file)) edit)) < 2 ^ 64 }
-        ensures ok { OnOk result (self.new.written ≡ with_bytes self.old.written file (edited (bytes_or first.now (bytes_at self.old.written file)) edit.entry)) }
+        requires can { CanEdit (bytes_or first (bytes_at self.old.written file)) edit }
+        requires few { total_units (with_bytes self.old.written file (edited (bytes_or first (bytes_at self.old.written file)) edit)) < 2 ^ 64 }
+        ensures ok { OnOk result (self.new.written ≡ with_bytes self.old.written file (edited (bytes_or first.entry (bytes_at self.old.written file)) edit.entry)) }
         ensures err { OnErr result (self.new.written ≡ self.old.written) }
         ensures enough { HasBytes self.old.written file (reach edit.entry) → IsOk result }
         ensures spare { room ≤ self.old.spare + 1 → room ≤ self.new.spare + 1 }
@@ -159,13 +163,14 @@ impl WrittenFiles {
         &mut self,
         room: usize,
         file: u64,
-        first: &[u8],
+        first: PlacedRef<'_>,
         edit: Edit<'_>,
     ) -> Result<(), NoMemory>
         requires absent { bytes_at self.old.written file ≡ None }
         requires room { 0 < room }
-        requires few { total_units (with_bytes self.old.written file (edited first.now edit)) < 2 ^ 64 }
-        ensures ok { OnOk result (self.new.written ≡ with_bytes self.old.written file (edited first.now edit.entry)) }
+        requires can { CanEdit first edit }
+        requires few { total_units (with_bytes self.old.written file (edited first edit)) < 2 ^ 64 }
+        ensures ok { OnOk result (self.new.written ≡ with_bytes self.old.written file (edited first.entry edit.entry)) }
         ensures err { OnErr result (self.new.written ≡ self.old.written) }
         ensures spare { room ≤ self.old.spare + 1 → room ≤ self.new.spare + 1 }
     {
@@ -223,7 +228,7 @@ impl WrittenFiles {
         ensures none { IfNone result (self.new.written ≡ []) }
         ensures spare { self.old.spare ≤ self.new.spare }
     {
-        self.law_of_numbers();
+        self.law_of_files();
         let file = match self.first_from(0) {
             Some(written) => written.file(),
             None => return None,

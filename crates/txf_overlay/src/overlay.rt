@@ -1,17 +1,19 @@
 // What a transaction changed.
-ghost use Rattle.std.specs.Prelude.{◌≡◌, ◌<◌, ◌≤◌, ◌^◌, ◌+◌, [], true, length, not, IsOk, OnOk, OnErr, IfNone, ◌++◌, option_to_list};
+ghost use Rattle.std.specs.Prelude.{◌≡◌, ◌<◌, ◌≤◌, ◌^◌, ◌+◌, [], All, true, length, not, IsOk, OnOk, OnErr, IfNone, ◌++◌, option_to_list};
 ghost use Rattle.std.specs.List.{list_all};
 ghost use Rattle.std.specs.Option.{option_copied, option_map};
-ghost use Rattle.ktm_base.specs.Reading.{IsReadIf};
+ghost use Rattle.ktm_content.specs.Places.{CanBePut};
 ghost use Rattle.txf_overlay.specs.Written.{HasBytes, AreFilesRising, bytes_at, bytes_or, first_from, total_units, with_bytes};
 ghost use Rattle.txf_overlay.specs.OverlayState.{is_of_names, own_of};
+ghost use Rattle.txf_overlay.specs.Pages.{LieOnPages};
 ghost use Rattle.ktm_world.specs.Changes.{has_changes, has_made, nodes_made};
 ghost use Rattle.ktm_world.specs.Tree.{cut_to, put_over};
 
 use crate::files::WrittenFiles;
 use crate::node::{Nodes, seen};
 use crate::written::{Edit, WrittenFile};
-use ktm_base::{NoMemory, read_if};
+use ktm_base::NoMemory;
+use ktm_content::PlacedRef;
 use ktm_links::Chains;
 use ktm_types::Change;
 use std::alloc::Global;
@@ -74,8 +76,16 @@ impl Overlay {
         ensures only { list_all is_of_names self.now.names ≡ true }
         ensures rise { AreFilesRising self.now.written }
     {
-        self.files.law_of_numbers();
+        self.files.law_of_files();
         &self.names
+    }
+
+    /// The numbers of the files that it wrote rise, and their bytes lie on pages.
+    pub fn law_of_files(&self)
+        ensures rise { AreFilesRising self.now.written }
+        ensures pages { All (λ w. LieOnPages w.bytes) self.now.written }
+    {
+        self.files.law_of_files();
     }
 
     /// How many changes of names there are.
@@ -119,9 +129,9 @@ impl Overlay {
         }
     }
 
-    // All bytes of a file that it wrote.
-    fn bytes(&self, file: u64) -> Option<&[u8]>
-        ensures { option_copied result ≡ bytes_at self.now.written file }
+    /// All bytes of a file that it wrote, lent.
+    pub fn bytes(&self, file: u64) -> Option<PlacedRef<'_>>
+        ensures { result ≡ bytes_at self.now.written file }
     {
         self.files.bytes(file)
     }
@@ -131,22 +141,9 @@ impl Overlay {
         ensures { result ≡ option_map (λ bytes. length bytes) (bytes_at self.now.written file) }
     {
         match self.bytes(file) {
-            Some(bytes) => Some(bytes.len() as u64),
+            Some(bytes) => Some(bytes.len()),
             None => None,
         }
-    }
-
-    /// Puts at most so many bytes of a file that it wrote, from the offset on, behind those that are there.
-    pub fn read(
-        &self,
-        file: u64,
-        offset: u64,
-        most: u64,
-        onto: &mut Vec<u8>,
-    ) -> Option<Result<(), NoMemory>>
-        ensures { IsReadIf (bytes_at self.now.written file) offset most onto.old onto.new result }
-    {
-        read_if(self.bytes(file), offset, most, onto)
     }
 
     /// How many nodes there are that it made and did not drop.
@@ -194,33 +191,35 @@ impl Overlay {
         self.files.reserve(n)
     }
 
-    /// Puts bytes of a file over what is there, from the offset on; a gap is filled with zeros. A file that is not written
-    /// has these first bytes before. It fails where it is out of memory.
+    /// Puts a part over the bytes of a file, from the begin of a unit on. A file that is not written has these first bytes before,
+    /// on the same pages. It fails where it is out of memory.
     pub fn put(
         &mut self,
         file: u64,
-        first: &[u8],
-        offset: u64,
-        bytes: &[u8],
+        first: PlacedRef<'_>,
+        start: u64,
+        part: PlacedRef<'_>,
     ) -> Result<(), NoMemory>
-        requires few { total_units (with_bytes self.old.written file (put_over (bytes_or first.now (bytes_at self.old.written file)) offset bytes.now)) < 2 ^ 64 }
-        ensures ok { OnOk result (self.new.written ≡ with_bytes self.old.written file (put_over (bytes_or first.now (bytes_at self.old.written file)) offset bytes.now)) }
+        requires can { CanBePut (bytes_or first (bytes_at self.old.written file)) start part }
+        requires few { total_units (with_bytes self.old.written file (put_over (bytes_or first (bytes_at self.old.written file)) start part)) < 2 ^ 64 }
+        ensures ok { OnOk result (self.new.written ≡ with_bytes self.old.written file (put_over (bytes_or first.entry (bytes_at self.old.written file)) start part.entry)) }
         ensures err { OnErr result (self.new.written ≡ self.old.written) }
-        ensures enough { HasBytes self.old.written file (offset + length bytes.now) → IsOk result }
+        ensures enough { HasBytes self.old.written file (start + length part.entry) → IsOk result }
         ensures names { self.new.names ≡ self.old.names }
         ensures held { self.new.held ≡ self.old.held }
         ensures spare { self.old.spare ≤ self.new.spare }
     {
         let room = self.spare() + 1;
         self.files
-            .edit(room, file, first, Edit::Put { offset, bytes })
+            .edit(room, file, first, Edit::Put { start, part })
     }
 
-    /// Leaves so many bytes of a file: it is cut, or filled with zeros. A file that is not written has these first bytes
-    /// before. It fails where it is out of memory.
-    pub fn cut(&mut self, file: u64, first: &[u8], size: u64) -> Result<(), NoMemory>
-        requires few { total_units (with_bytes self.old.written file (cut_to (bytes_or first.now (bytes_at self.old.written file)) size)) < 2 ^ 64 }
-        ensures ok { OnOk result (self.new.written ≡ with_bytes self.old.written file (cut_to (bytes_or first.now (bytes_at self.old.written file)) size)) }
+    /// Leaves so many bytes of a file, and no more than it has. A file that is not written has these first bytes before, on the
+    /// same pages. It fails where it is out of memory.
+    pub fn cut(&mut self, file: u64, first: PlacedRef<'_>, size: u64) -> Result<(), NoMemory>
+        requires shorter { size ≤ length (bytes_or first (bytes_at self.old.written file)) }
+        requires few { total_units (with_bytes self.old.written file (cut_to (bytes_or first (bytes_at self.old.written file)) size)) < 2 ^ 64 }
+        ensures ok { OnOk result (self.new.written ≡ with_bytes self.old.written file (cut_to (bytes_or first.entry (bytes_at self.old.written file)) size)) }
         ensures err { OnErr result (self.new.written ≡ self.old.written) }
         ensures enough { HasBytes self.old.written file size → IsOk result }
         ensures names { self.new.names ≡ self.old.names }

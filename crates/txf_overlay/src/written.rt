@@ -1,19 +1,21 @@
 // A file whose bytes a transaction wrote.
-ghost use Rattle.std.specs.Prelude.{◌≡◌, ◌+◌, ◌-◌, ◌≤◌, ◌++◌, length, replicate, [], IfOk, IsOk, OnOk, OnErr};
-ghost use Rattle.ktm_base.specs.Bytes.{written};
+ghost use Rattle.std.specs.Prelude.{◌≡◌, ◌+◌, ◌<◌, ◌≤◌, ◌^◌, All, length, [], IfOk, IsOk, OnOk, OnErr};
+ghost use Rattle.ktm_content.specs.Places.{CanBePut};
 ghost use Rattle.ktm_world.specs.Tree.{cut_to, put_over, units_of};
-ghost use Rattle.txf_overlay.specs.Edits.{edited, reach};
+ghost use Rattle.txf_overlay.specs.Edits.{edited, reach, CanEdit};
+ghost use Rattle.txf_overlay.specs.Pages.{LieOnPages, pages_in};
 
-use ktm_base::{Bytes, NoMemory, UNIT_BYTES};
+use ktm_base::NoMemory;
+use ktm_content::{Content, Placed, PlacedRef};
 use std::alloc::Global;
 use std::marker::Model;
 
 /// What is done to the bytes of a file.
-#[derive(Clone, Copy)]
+#[derive(Drop)]
 pub(crate) enum Edit<'a> {
-    /// Bytes are put over what is there, from the offset on; a gap is filled with zeros.
-    Put { offset: u64, bytes: &'a [u8] },
-    /// So many are left: the file is cut, or filled with zeros.
+    /// A part is put over what is there, from the begin of a unit on.
+    Put { start: u64, part: PlacedRef<'a> },
+    /// So many are left, and no more than there are.
     Cut { size: u64 },
 }
 
@@ -21,7 +23,7 @@ pub(crate) enum Edit<'a> {
 #[derive(Drop)]
 pub struct WrittenFile {
     file: u64,
-    bytes: Vec<u8>,
+    content: Content,
 }
 
 impl Model for WrittenFile {
@@ -29,32 +31,15 @@ impl Model for WrittenFile {
 
     ghost Value = { Written };
 
-    ghost view = { λ w. record { file = w.file; bytes = w.bytes.items } };
+    ghost view = { λ w. record { file = w.file; bytes = w.content.bytes } };
 }
 
-// Adds zeros where there are not so many bytes from the start on.
-fn grow(bytes: &mut Vec<u8>, start: usize, many: usize) -> Result<(), NoMemory>
-    ensures ok { OnOk result (bytes.new.items ≡ bytes.old.items ++ replicate (start + many - length bytes.old.items) 0) }
-    ensures err { OnErr result (bytes.new.items ≡ bytes.old.items) }
-    ensures enough { start + many ≤ length bytes.old.items → IsOk result }
+// How many pages there are, of which each has a number of four bytes.
+fn count_of(pages: &[u32]) -> usize
+    ensures count { result ≡ length pages.now }
+    ensures fit { All (λ page. page < 2 ^ 32) pages.now }
 {
-    let had = bytes.len();
-    if start <= had && many <= had - start {
-        return Ok(());
-    }
-    let Some(end) = start.checked_add(many) else {
-        return Err(NoMemory);
-    };
-    bytes.resize(end, 0)?;
-    Ok(())
-}
-
-// Writes over what is there.
-fn write_over(bytes: &mut Vec<u8>, at: usize, piece: &[u8])
-    requires { at + length piece.now ≤ length bytes.old.items }
-    ensures { bytes.new.items ≡ written bytes.old.items at piece.now }
-{
-    bytes[at..at + piece.len()].copy_from_slice(piece);
+    pages.len()
 }
 
 impl WrittenFile {
@@ -64,16 +49,16 @@ impl WrittenFile {
     {
         WrittenFile {
             file,
-            bytes: Vec::new(alloc),
+            content: Content::new(alloc),
         }
     }
 
-    // A file with a copy of these bytes.
-    pub(crate) fn copy(alloc: Global, file: u64, bytes: &[u8]) -> Result<Self, NoMemory>
-        ensures { IfOk result (λ w. w ≡ record { file = file; bytes = bytes.now }) }
+    // A file with these bytes, on the same pages.
+    pub(crate) fn copy(alloc: Global, file: u64, bytes: PlacedRef<'_>) -> Result<Self, NoMemory>
+        ensures { IfOk result (λ w. w ≡ record { file = file; bytes = bytes.entry }) }
     {
-        let bytes = bytes.to_vec(alloc)?;
-        Ok(WrittenFile { file, bytes })
+        let content = bytes.copy(alloc)?;
+        Ok(WrittenFile { file, content })
     }
 
     /// The number of the file.
@@ -83,58 +68,68 @@ impl WrittenFile {
         self.file
     }
 
-    pub fn bytes(&self) -> &[u8]
-        ensures { result.now ≡ self.now.bytes }
+    pub fn bytes(&self) -> PlacedRef<'_>
+        ensures { result ≡ self.now.bytes }
     {
-        &self.bytes
+        self.content.lend()
+    }
+
+    /// The page of each unit.
+    pub fn pages(&self) -> &[u32]
+        ensures { result.now ≡ pages_in self.now.bytes }
+    {
+        self.content.pages()
     }
 
     /// The bytes, with their memory.
-    pub fn into_bytes(self) -> Bytes
+    pub fn into_bytes(self) -> Placed
         ensures { result ≡ self.bytes }
     {
-        let WrittenFile { bytes, .. } = self;
-        Bytes::new(bytes)
+        let WrittenFile { content, .. } = self;
+        Placed::new(content)
     }
 
     // How many units of 4,096 bytes they take.
     pub(crate) fn units(&self) -> u64
-        ensures { result ≡ units_of self.now.bytes }
+        ensures units { result ≡ units_of self.now.bytes }
+        ensures pages { LieOnPages self.now.bytes }
     {
-        (self.bytes.len() as u64).div_ceil(UNIT_BYTES)
+        count_of(self.content.pages()) as u64
     }
 
-    // Puts bytes over what is there, from the offset on.
-    fn put(&mut self, offset: u64, bytes: &[u8]) -> Result<(), NoMemory>
-        ensures ok { OnOk result (self.new ≡ record self.old { bytes = put_over self.old.bytes offset bytes.now }) }
+    // Puts a part over what is there, from the begin of a unit on.
+    fn put(&mut self, start: u64, part: PlacedRef<'_>) -> Result<(), NoMemory>
+        requires { CanBePut self.old.bytes start part }
+        ensures ok { OnOk result (self.new ≡ record self.old { bytes = put_over self.old.bytes start part.entry }) }
         ensures err { OnErr result (self.new ≡ self.old) }
-        ensures enough { offset + length bytes.now ≤ length self.old.bytes → IsOk result }
+        ensures enough { start + length part.entry ≤ length self.old.bytes → IsOk result }
     {
-        let start = offset as usize;
-        grow(&mut self.bytes, start, bytes.len())?;
-        write_over(&mut self.bytes, start, bytes);
+        self.content.reserve(start, part.len())?;
+        self.content.put(start, part);
         Ok(())
     }
 
     // Leaves so many bytes.
-    fn cut(&mut self, size: u64) -> Result<(), NoMemory>
-        ensures ok { OnOk result (self.new ≡ record self.old { bytes = cut_to self.old.bytes size }) }
-        ensures err { OnErr result (self.new ≡ self.old) }
-        ensures enough { size ≤ length self.old.bytes → IsOk result }
+    fn cut(&mut self, size: u64)
+        requires { size ≤ length self.old.bytes }
+        ensures { self.new ≡ record self.old { bytes = cut_to self.old.bytes size } }
     {
-        self.bytes.resize(size as usize, 0)?;
-        Ok(())
+        self.content.cut(size);
     }
 
     /// Changes the bytes. It fails where it is out of memory; a change within the bytes that are there takes none.
     pub(crate) fn edit(&mut self, edit: Edit<'_>) -> Result<(), NoMemory>
+        requires { CanEdit self.old.bytes edit }
         ensures ok { OnOk result (self.new ≡ record self.old { bytes = edited self.old.bytes edit.entry }) }
         ensures err { OnErr result (self.new ≡ self.old) }
         ensures enough { reach edit.entry ≤ length self.old.bytes → IsOk result }
     {
         match edit {
-            Edit::Put { offset, bytes } => self.put(offset, bytes),
-            Edit::Cut { size } => self.cut(size),
+            Edit::Put { start, part } => self.put(start, part),
+            Edit::Cut { size } => {
+                self.cut(size);
+                Ok(())
+            }
         }
     }
 }

@@ -1,17 +1,18 @@
 -- A file that is made and given its bytes.
-use Rattle.std.proofs.Common.{◌≡◌, ℕ, ◌+◌, ◌==◌, ◌&&◌, Bool, true, false, is_none, List, [], ◌∷◌, Option, Some, None, refl, sym, ◌∙◌, ap, inl, inr, append-nil}
+use Rattle.std.proofs.Common.{◌≡◌, ℕ, ◌+◌, ◌==◌, ◌&&◌, Bool, true, false, is_none, List, [], ◌∷◌, Option, Some, None, refl, sym, ◌∙◌, ap, inl, inr, append-nil, arith}
 use Rattle.std.specs.List.{list_all}
 use Rattle.std.specs.Prelude.{nat_lt, max}
 use Rattle.std.proofs.Math.Seq.{drop-nil}
 use Rattle.std.proofs.lemmas.Bool.{cases_Bool, eq-eqb}
 use Rattle.std.proofs.lemmas.Option.{none-some}
+use Rattle.ktm_content.specs.Places.{CanBePut}
 use Rattle.ktm_types.specs.declared.change.Change.{Change}
 use Rattle.ktm_types.specs.declared.change.Change.TheVariants.{Put}
 use Rattle.ktm_types.specs.declared.change.Contents.TheVariants.{Whole}
 use Rattle.ktm_types.specs.declared.recorded.Node.{Node}
 use Rattle.ktm_world.specs.Changes.{applies, changed_all, changes_apply, new_content}
 use Rattle.ktm_world.specs.Durable.{is_new_in, next_after_all}
-use Rattle.ktm_world.specs.Tree.{Tree, bytes_or_none, node_at, put_over, with_changed, with_node}
+use Rattle.ktm_world.specs.Tree.{Tree, bytes_of, bytes_or_none, content_of, node_at, put_over, with_changed, with_node}
 use Rattle.ktm_world.proofs.offered.Lookups.{node_at-with_node}
 use Rattle.txf_laws.proofs.offered.ChangeTests.{Applies-from, is_there-none}
 use Rattle.txf_saved.specs.Making.{kind_of, make_of}
@@ -79,3 +80,10 @@ pub fills : (tree tree' : Tree) (x : Node) (bytes : List ℕ) (done : Bool) → 
 fills tree tree' x bytes done is new made given =
     let there : node_at tree' x.number ≡ Some (unfilled x) = ap (λ (t : Tree). node_at t x.number) made ∙ node_at-with_node tree (unfilled x) x.number new ∙ rw (eq-eqb x.number x.number refl) refl in
     given ∙ rw (there, is) refl
+
+-- which has no bytes yet, so any can be put there unit by unit
+pub can-fill : (tree tree' : Tree) (x : Node) (bytes : List ℕ) → x.content ≡ Some bytes → node_at tree x.number ≡ None → tree' ≡ with_node tree (unfilled x) → CanBePut (bytes_of tree' x.number) 0 bytes
+can-fill tree tree' x bytes is new made =
+    let there : node_at tree' x.number ≡ Some (unfilled x) = ap (λ (t : Tree). node_at t x.number) made ∙ node_at-with_node tree (unfilled x) x.number new ∙ rw (eq-eqb x.number x.number refl) refl in
+    let none : bytes_of tree' x.number ≡ [] = ap (λ (o : Option Node). bytes_or_none (content_of o)) there ∙ ap (λ (o : Option (List ℕ)). bytes_or_none (new_content (kind_of o))) is in
+    rw none (record { begins = refl; reaches = omega arith; ends = inr (omega arith) })

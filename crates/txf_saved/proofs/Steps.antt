@@ -4,6 +4,7 @@ use Rattle.std.specs.Prelude.{reverse, max, nat_le, nat_lt}
 use Rattle.std.proofs.lemmas.Bool.{cases_Bool, cases_order, and_parts, eqb-true, ltb-true, true≢false}
 use Rattle.std.proofs.lemmas.Option.{none-some}
 use Rattle.ktm_base.specs.Names.{IsName}
+use Rattle.ktm_snapshot.specs.declared.node.ReadNode.{ReadNode}
 use Rattle.ktm_snapshot.specs.declared.node.ShownNode.{ShownNode}
 use Rattle.ktm_snapshot.specs.Shown.{node_of}
 use Rattle.ktm_types.specs.declared.recorded.Node.{Node}
@@ -16,7 +17,7 @@ use Rattle.txf_laws.proofs.offered.ChangeTests.{Applies-from, Good-from, is_ther
 use Rattle.txf_saved.proofs.Numbers.{behind-with_node}
 use Rattle.txf_saved.proofs.Parts.{all_made, can_make, keeps-with_node, made-there, part-with_node}
 use Rattle.txf_saved.proofs.Ways.{last_first, way-down}
-use Rattle.txf_saved.specs.Making.{make_of, nodes_of, AreAll, ArePart, Awaits, IsWay, IsWayMade, Keeps}
+use Rattle.txf_saved.specs.Making.{make_of, nodes_of, way_of, AreAll, ArePart, Awaits, IsWay, IsWayMade, Keeps}
 use Rattle.txf_saved.specs.Saved.{AreFiles, number_behind}
 use Rattle.txf_tree.specs.TreeState.{tree_of}
 
@@ -24,8 +25,8 @@ module _ (nodes : Tree) (number : ℕ) (files : DurableFilesState) (before way :
   abbrev pub tree : Tree
   tree = tree_of files.tree
 
-  ahead : IsWay nodes tree number awaits.leads.top (node_of x ∷ reverse (nodes_of way))
-  ahead = subst (IsWay nodes tree number awaits.leads.top) (ap (λ (w : List ShownNode). reverse (nodes_of w)) is ∙ last_first way x) awaits.leads.up
+  ahead : IsWay nodes tree number awaits.leads.top (node_of x ∷ reverse (way_of way))
+  ahead = subst (IsWay nodes tree number awaits.leads.top) (ap (λ (w : List ShownNode). reverse (way_of w)) is ∙ last_first way x) awaits.leads.up
 
   known : node_at nodes x.number ≡ Some (node_of x)
   known = ahead.0
@@ -62,7 +63,7 @@ module _ (nodes : Tree) (number : ℕ) (files : DurableFilesState) (before way :
       leads = record {
         top = x.number;
         there = rw tree' (made-there tree (node_of x) new);
-        up = rw tree' (way-down nodes tree (node_of x) known gone there number (reverse (nodes_of way)) ahead.3);
+        up = rw tree' (way-down nodes tree (node_of x) known gone there number (reverse (way_of way)) ahead.3);
       };
     }
 
@@ -73,7 +74,7 @@ module _ (nodes : Tree) (number : ℕ) (files : DurableFilesState) (before way :
 pub way_made : (nodes : Tree) (number : ℕ) (old files : DurableFilesState) (way : List ShownNode) → way ≡ [] → Awaits nodes number files way → Keeps (tree_of old.tree) (tree_of files.tree) → IsWayMade nodes number old files
 way_made nodes number old files way none awaits keeps = record {
   part = awaits.part;
-  there = ap (is_there (tree_of files.tree)) (sym (subst (λ (w : List ShownNode). IsWay nodes (tree_of files.tree) number awaits.leads.top (reverse (nodes_of w))) none awaits.leads.up)) ∙ awaits.leads.there;
+  there = ap (is_there (tree_of files.tree)) (sym (subst (λ (w : List ShownNode). IsWay nodes (tree_of files.tree) number awaits.leads.top (reverse (way_of w))) none awaits.leads.up)) ∙ awaits.leads.there;
   keeps = keeps;
 }
 
@@ -92,8 +93,8 @@ pub there-node : (tree : Tree) (n : ℕ) → (n == root) ≡ false → is_there 
 there-node tree n other there = rw other at there
 
 -- one node further
-pub further : (xs : List ShownNode) (nodes : Tree) (old new : DurableFilesState) (i n : ℕ) → ((d : ShownNode) → (get_or xs i d).number ≡ n) → (n == root) ≡ false → IsWayMade nodes n old new
-    → ((k : ℕ) (d : ShownNode) → k < i → is_some (node_at (tree_of old.tree) (get_or xs k d).number) ≡ true) → (k : ℕ) (d : ShownNode) → k < i + 1 → is_some (node_at (tree_of new.tree) (get_or xs k d).number) ≡ true
+pub further : (xs : List ReadNode) (nodes : Tree) (old new : DurableFilesState) (i n : ℕ) → ((d : ReadNode) → (get_or xs i d).number ≡ n) → (n == root) ≡ false → IsWayMade nodes n old new
+    → ((k : ℕ) (d : ReadNode) → k < i → is_some (node_at (tree_of old.tree) (get_or xs k d).number) ≡ true) → (k : ℕ) (d : ReadNode) → k < i + 1 → is_some (node_at (tree_of new.tree) (get_or xs k d).number) ≡ true
 further xs nodes old new i n at other made before k d low = elim (cases_order k i) [
   | inl is ↦ subst (λ (j : ℕ). is_some (node_at (tree_of new.tree) (get_or xs j d).number) ≡ true) (sym is) (subst (λ (m : ℕ). is_some (node_at (tree_of new.tree) m) ≡ true) (sym (at d)) (there-node (tree_of new.tree) n other made.there))
   | inr (inl less) ↦ made.keeps _ (before k d less)
@@ -105,15 +106,15 @@ pub root_given : (nodes : Tree) (n : ℕ) (x : Node) → node_at nodes n ≡ Som
 root_given nodes n x found is files = absurd (omega (arith, is, (Good-from nodes files.formed).numbers n x found))
 
 -- where a node stands
-place : (xs : List ShownNode) (n : ℕ) (x : Node) → node_at (nodes_of xs) n ≡ Some x → (k : ℕ) × (d : ShownNode) × (k < length xs) × ((get_or xs k d).number ≡ n)
+place : (xs : List ReadNode) (n : ℕ) (x : Node) → node_at (nodes_of xs) n ≡ Some x → (k : ℕ) × (d : ReadNode) × (k < length xs) × ((get_or xs k d).number ≡ n)
 place [] n x found = absurd (none-some x found)
 place (y ∷ ys) n x found = elim (cases_Bool (y.number == n)) [
   | inl is ↦ (0, y, omega arith, eqb-true _ _ is)
   | inr other ↦ let (k, d, within, at) = place ys n x (rw other at found) in (suc k, d, omega (arith, within), at)
 ]
 
-pub finish : (xs : List ShownNode) (files : DurableFilesState) → numbers_rise (nodes_of xs) ≡ true → IsWellFormed (tree_of files.tree) → ArePart (nodes_of xs) files
-    → ((k : ℕ) (d : ShownNode) → k < length xs → is_some (node_at (tree_of files.tree) (get_or xs k d).number) ≡ true) → AreAll (nodes_of xs) files
+pub finish : (xs : List ReadNode) (files : DurableFilesState) → numbers_rise (nodes_of xs) ≡ true → IsWellFormed (tree_of files.tree) → ArePart (nodes_of xs) files
+    → ((k : ℕ) (d : ReadNode) → k < length xs → is_some (node_at (tree_of files.tree) (get_or xs k d).number) ≡ true) → AreAll (nodes_of xs) files
 finish xs files rise formed part made = record {
   tree = same;
   are_files = record { formed = subst IsWellFormed same formed; numbers = omega (arith, ap number_behind same, part.next, part.numbers) };

@@ -11,12 +11,12 @@ use Rattle.ktm_types.specs.declared.recorded.Node.{Node}
 use Rattle.ktm_world.specs.Tree.{Tree, is_at_or_below, is_file, is_there, node_at, root, way_up, with_node}
 use Rattle.txf_laws.proofs.offered.ChangeTests.{Good-from, at-All, is_there-none, number-at}
 use Rattle.txf_saved.proofs.Parts.{there-with_node}
-use Rattle.txf_saved.specs.Making.{nodes_of, IsWay}
+use Rattle.txf_saved.specs.Making.{way_of, IsWay}
 use Rattle.txf_saved.specs.Saved.{AreFiles}
 
 -- the last of a way comes first
-pub last_first : (way : List ShownNode) (x : ShownNode) → reverse (nodes_of (way ++ x ∷ [])) ≡ node_of x ∷ reverse (nodes_of way)
-last_first way x = ap reverse (map-append node_of way (x ∷ [])) ∙ reverse-append (nodes_of way) (node_of x ∷ [])
+pub last_first : (way : List ShownNode) (x : ShownNode) → reverse (way_of (way ++ x ∷ [])) ≡ node_of x ∷ reverse (way_of way)
+last_first way x = ap reverse (map-append node_of way (x ∷ [])) ∙ reverse-append (way_of way) (node_of x ∷ [])
 
 -- ---- up
 
@@ -55,12 +55,12 @@ pub no_root : (tree : Tree) (n : ℕ) → is_there tree n ≡ false → (n == ro
 no_root tree n gone = (or_parts (n == root) (is_some (node_at tree n)) gone).0
 
 pub climbs : (nodes tree : Tree) (number top : ℕ) (way way' : List ShownNode) (x : ShownNode) → way' ≡ way ++ x ∷ [] → is_there tree top ≡ false → node_at nodes top ≡ Some (node_of x)
-    → IsWay nodes tree number top (reverse (nodes_of way)) → IsWay nodes tree number x.parent (reverse (nodes_of way'))
+    → IsWay nodes tree number top (reverse (way_of way)) → IsWay nodes tree number x.parent (reverse (way_of way'))
 climbs nodes tree number top way way' x is gone found rest =
     let at : x.number ≡ top = number-at nodes top (node_of x) found in
-    let ahead : IsWay nodes tree number x.parent (node_of x ∷ reverse (nodes_of way)) =
-    (ap (node_at nodes) at ∙ found, ap (is_there tree) at ∙ gone, refl, subst (λ n. IsWay nodes tree number n (reverse (nodes_of way))) (sym at) rest) in
-    subst (IsWay nodes tree number x.parent) (sym (ap (λ (w : List ShownNode). reverse (nodes_of w)) is ∙ last_first way x)) ahead
+    let ahead : IsWay nodes tree number x.parent (node_of x ∷ reverse (way_of way)) =
+    (ap (node_at nodes) at ∙ found, ap (is_there tree) at ∙ gone, refl, subst (λ n. IsWay nodes tree number n (reverse (way_of way))) (sym at) rest) in
+    subst (IsWay nodes tree number x.parent) (sym (ap (λ (w : List ShownNode). reverse (way_of w)) is ∙ last_first way x)) ahead
 
 -- ---- down
 

@@ -5,16 +5,21 @@ use Rattle.ktm_types.specs.declared.change.Change.TheVariants.{Make}
 use Rattle.ktm_types.specs.declared.change.NodeKind.{NodeKind}
 use Rattle.ktm_types.specs.declared.change.NodeKind.TheVariants.{File, Directory}
 use Rattle.ktm_types.specs.declared.recorded.Node.{Node}
+use Rattle.ktm_snapshot.specs.declared.node.ReadNode.{ReadNode}
 use Rattle.ktm_snapshot.specs.declared.node.ShownNode.{ShownNode}
-use Rattle.ktm_snapshot.specs.Shown.{node_of}
+use Rattle.ktm_snapshot.specs.Shown.{node_of, node_read}
 use Rattle.ktm_world.specs.Tree.{Tree, is_there, node_at}
 use Rattle.txf_durable.specs.State.{DurableFilesState}
 use Rattle.txf_saved.specs.Saved.{AreFiles, number_behind}
 use Rattle.txf_tree.specs.TreeState.{tree_of}
 
--- the nodes that are shown
-abbrev pub nodes_of : List ShownNode → Tree
-nodes_of shown = map node_of shown
+-- the nodes that were read
+abbrev pub nodes_of : List ReadNode → Tree
+nodes_of read = map node_read read
+
+-- the nodes of a way, which are shown
+abbrev pub way_of : List ShownNode → Tree
+way_of shown = map node_of shown
 
 -- what a node with this content is
 abbrev pub kind_of : Option (List ℕ) → NodeKind
@@ -44,7 +49,7 @@ IsWay nodes tree number top (x ∷ xs) = (node_at nodes x.number ≡ Some x) × 
 pub record LeadsTo (nodes tree : Tree) (number : ℕ) (way : List ShownNode) : Type 0 where
   pub top : ℕ
   pub there : is_there tree top ≡ true
-  pub up : IsWay nodes tree number top (reverse (nodes_of way))
+  pub up : IsWay nodes tree number top (reverse (way_of way))
 
 -- the files are a part of the nodes, and the way leads to the node with this number
 pub record Awaits (nodes : Tree) (number : ℕ) (files : DurableFilesState) (way : List ShownNode) : Type 0 where

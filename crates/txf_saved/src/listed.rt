@@ -8,11 +8,11 @@ ghost use Rattle.txf_saved.specs.Making.{nodes_of};
 
 use ktm_base::NoMemory;
 use ktm_codec::u32_at;
-use ktm_snapshot::{ShownNode, law_of_order, law_of_reading, node_at};
+use ktm_snapshot::{ReadNode, ShownNode, law_of_order, law_of_reading, node_at, show};
 use std::alloc::Global;
 
 // Does a node come behind those before it.
-fn comes_behind(nodes: &[ShownNode], node: &ShownNode) -> bool
+fn comes_behind(nodes: &[ReadNode], node: &ReadNode) -> bool
     requires { numbers_rise (nodes_of nodes.now) ≡ true }
     ensures { result ≡ numbers_rise (nodes_of (nodes.now ++ node.now ∷ [])) }
 {
@@ -23,12 +23,12 @@ fn comes_behind(nodes: &[ShownNode], node: &ShownNode) -> bool
     }
 }
 
-/// The nodes at a place, shown where they stand, and the place behind them.
+/// The nodes at a place, and the place behind them.
 pub(crate) fn nodes_at(
     alloc: Global,
     bytes: &[u8],
     at: usize,
-) -> Result<Option<(Vec<ShownNode<'_>>, usize)>, NoMemory>
+) -> Result<Option<(Vec<ReadNode<'_>>, usize)>, NoMemory>
     ensures { IfOk result (λ read. Reads AreNodesOf bytes.now at (option_map (λ read. (nodes_of read.0.items, read.1)) read)) }
 {
     law_of_reading();
@@ -38,7 +38,7 @@ pub(crate) fn nodes_at(
     let mut nodes = Vec::new(alloc);
     let mut end = start;
     'nodes: for _ in 0..count {
-        let Some((node, next)) = node_at(bytes, end) else {
+        let Some((node, next)) = node_at(alloc, bytes, end)? else {
             return Ok(None);
         };
         if !comes_behind(&nodes, &node) {
@@ -50,13 +50,13 @@ pub(crate) fn nodes_at(
     Ok(Some((nodes, end)))
 }
 
-/// The node with the number, by halves.
-pub(crate) fn find<'a>(nodes: &[ShownNode<'a>], number: u64) -> Option<ShownNode<'a>>
+/// The node with the number, by halves, shown.
+pub(crate) fn find<'b>(nodes: &'b [ReadNode<'_>], number: u64) -> Option<ShownNode<'b>>
     requires { numbers_rise (nodes_of nodes.now) ≡ true }
     ensures { option_map node_of result ≡ node_at (nodes_of nodes.now) number }
 {
     match nodes.binary_search_by(|node| node.number.cmp(&number)) {
-        Ok(place) => Some(nodes[place]),
+        Ok(place) => Some(show(&nodes[place])),
         Err(_) => None,
     }
 }

@@ -9,9 +9,10 @@ ghost use Rattle.txf_saved.specs.Saved.{AreFiles};
 ghost use Rattle.txf_tree.specs.TreeState.{tree_of};
 
 use crate::listed::find;
-use ktm_base::{Bytes, NoMemory, Text};
+use ktm_base::{NoMemory, Text};
+use ktm_content::Placed;
 use ktm_names::ROOT;
-use ktm_snapshot::ShownNode;
+use ktm_snapshot::{ReadNode, ShownNode};
 use ktm_types::{Change, Contents, NodeKind};
 use ktm_world::law_of_paths;
 use std::alloc::Global;
@@ -49,10 +50,10 @@ fn make_node(alloc: Global, files: &mut DurableFiles, node: &ShownNode) -> Resul
     if !files.commit_one(make)? {
         return Ok(false);
     }
-    let Some(contents) = node.content else {
+    let Some(contents) = &node.content else {
         return Ok(true);
     };
-    let contents = Bytes::new(contents.to_vec(alloc)?);
+    let contents = Placed::new(contents.copy(alloc)?);
     files.commit_one(Change::Put {
         node: node.number,
         offset: 0,
@@ -62,11 +63,11 @@ fn make_node(alloc: Global, files: &mut DurableFiles, node: &ShownNode) -> Resul
 
 // Puts the node with the number onto the way, and those that it is in, up to the first that is in the files, and tells whether
 // there is one.
-fn climb<'a>(
+fn climb<'b>(
     files: &DurableFiles,
-    nodes: &[ShownNode<'a>],
+    nodes: &'b [ReadNode<'_>],
     number: u64,
-    way: &mut Vec<ShownNode<'a>>,
+    way: &mut Vec<ShownNode<'b>>,
 ) -> Result<bool, NoMemory>
     requires rise { numbers_rise (nodes_of nodes.now) ≡ true }
     requires known { (x : Node) × (node_at (nodes_of nodes.now) number ≡ Some x) }
@@ -82,8 +83,8 @@ fn climb<'a>(
         let Some(node) = find(nodes, top) else {
             return Ok(false);
         };
-        way.push(node)?;
         top = node.parent;
+        way.push(node)?;
     }
     Ok(false)
 }
@@ -109,7 +110,7 @@ fn make_way(
 }
 
 /// Files of these nodes, if they are such as files can have.
-pub(crate) fn make_all(alloc: Global, nodes: &[ShownNode]) -> Result<Option<DurableFiles>, NoMemory>
+pub(crate) fn make_all(alloc: Global, nodes: &[ReadNode]) -> Result<Option<DurableFiles>, NoMemory>
     requires { numbers_rise (nodes_of nodes.now) ≡ true }
     ensures { IfOk result (λ made. MatchOption made (AreFiles (nodes_of nodes.now) → ⊥) (λ files. AreAll (nodes_of nodes.now) files)) }
 {

@@ -9,8 +9,8 @@ use ktm_base::NoMemory;
 use std::alloc::Global;
 use txf_durable::DurableFiles;
 
-/// The committed files that stand at a place of a snapshot, and the place behind them. Their bytes are copied, and the next node
-/// comes right behind them. None are there where no nodes are spelled, or where those that are spelled are no tree: a directory is
+/// The committed files that stand at a place of a snapshot, and the place behind them. The numbers of their pages are
+/// copied, and the next node comes right behind them. None are there where no nodes are spelled, or where those that are spelled are no tree: a directory is
 /// missing or is a file, a way up does not come to the root, two names in a directory are the same without case, or a name or a
 /// number is none that a node can have.
 pub fn read_files(

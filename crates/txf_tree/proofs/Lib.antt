@@ -1,4 +1,3 @@
-mod Filling
 mod Refilling
 pub use Rattle.txf_nodes.proofs.Digits
 pub use Rattle.txf_nodes.proofs.Listing

@@ -4,24 +4,25 @@ use Rattle.std.specs.Prelude.{IfOk}
 use Rattle.std.specs.Option.{option_map}
 use Rattle.std.proofs.lemmas.Bool.{cases_Bool, cases_eq, eqb-false, leb-true, le-leb}
 use Rattle.std.proofs.lemmas.List.{append-nil, drop_all}
+use Rattle.ktm_content.specs.Places.{ContentState}
 use Rattle.ktm_types.specs.declared.recorded.Node.{Node}
 use Rattle.ktm_world.specs.Changes.{changed_all}
 use Rattle.ktm_world.specs.Committed.{Version, final_bytes, versions_after}
 use Rattle.ktm_world.specs.Tree.{Tree, bytes_or_none, cut_to, is_file, put_over, with_changed}
 use Rattle.txf_nodes.specs.NodesState.{content_at, raised, IsInserted, IsRefilled, KeepsContents, SetsContent}
 use Rattle.txf_nodes.proofs.Trees.{with_changed-same}
-use Rattle.txf_tree.specs.TreeState.{ContentNow, TreeState, bytes_now, has_room, room_in, room_of, tree_of, KeepsRooms}
+use Rattle.txf_tree.specs.TreeState.{TreeState, bytes_now, has_room, room_in, room_of, tree_of, KeepsRooms}
 
 -- ---- the tree
 -- the bytes of the file are what f makes of those that it had
-pub tree-refilled : (old new : TreeState) (file changes : ℕ) (was content : ContentNow) (f : List ℕ → List ℕ) → Some was ≡ content_at old file → IsRefilled old new file changes content
+pub tree-refilled : (old new : TreeState) (file changes : ℕ) (was content : ContentState) (f : List ℕ → List ℕ) → Some was ≡ content_at old file → IsRefilled old new file changes content
     → content.bytes ≡ f was.bytes → tree_of new ≡ with_changed (tree_of old) file (λ n. record n { content = Some (f (bytes_or_none n.content)) })
 tree-refilled old new file changes was content f found refilled is =
     refilled.tree bytes_now (λ n. record n { content = Some (f (bytes_or_none n.content)) })
     (λ n had. ap (λ b. record n { content = Some b }) (ap (λ o. f (bytes_or_none o)) (had ∙ ap (option_map bytes_now) (sym found)) ∙ sym is))
 
 -- a file whose room alone is another
-pub tree-kept : (old new : TreeState) (file changes : ℕ) (was content : ContentNow) → Some was ≡ content_at old file → IsRefilled old new file changes content
+pub tree-kept : (old new : TreeState) (file changes : ℕ) (was content : ContentState) → Some was ≡ content_at old file → IsRefilled old new file changes content
     → content.bytes ≡ was.bytes → tree_of new ≡ tree_of old
 tree-kept old new file changes was content found refilled is =
     refilled.tree bytes_now (λ n. n)
@@ -50,7 +51,7 @@ put_over-nothing : (bytes : List ℕ) → put_over [] 0 bytes ≡ bytes
 put_over-nothing bytes = ap (λ l. bytes ++ l) (drop-nothing (0 + length bytes)) ∙ append-nil bytes
 
 -- a file has the bytes that a commit gives it
-pub tree-final : (old new : TreeState) (file changes : ℕ) (content : ContentNow) (bytes : List ℕ) → IsRefilled old new file changes content → content.bytes ≡ bytes
+pub tree-final : (old new : TreeState) (file changes : ℕ) (content : ContentState) (bytes : List ℕ) → IsRefilled old new file changes content → content.bytes ≡ bytes
     → tree_of new ≡ changed_all (tree_of old) (final_bytes file bytes)
 tree-final old new file changes content [] refilled is =
     refilled.tree bytes_now (λ n. record n { content = Some (cut_to (bytes_or_none n.content) 0) })
@@ -69,7 +70,7 @@ versions-final versions file [] = refl
 versions-final versions file (b ∷ bs) = refl
 
 -- ---- room
-pub rooms-set : (old new : TreeState) (file : ℕ) (was content : ContentNow) → Some was ≡ content_at old file → SetsContent old new file (Some content) → was.room ≤ content.room → KeepsRooms old new
+pub rooms-set : (old new : TreeState) (file : ℕ) (was content : ContentState) → Some was ≡ content_at old file → SetsContent old new file (Some content) → was.room ≤ content.room → KeepsRooms old new
 rooms-set old new file was content found sets more other =
     elim (cases_eq other file) [
       | inl same ↦
@@ -82,7 +83,7 @@ rooms-set old new file was content found sets more other =
 pub rooms-kept : (old new : TreeState) → KeepsContents old new → KeepsRooms old new
 rooms-kept old new keeps file = let later : room_of new file ≡ room_of old file = ap room_in (keeps file) in omega (arith, later)
 
-pub rooms-inserted : (old new : TreeState) (number parent : ℕ) (name : List ℕ) (content : Option ContentNow) → IsInserted old new number parent name content → KeepsRooms old new
+pub rooms-inserted : (old new : TreeState) (number parent : ℕ) (name : List ℕ) (content : Option ContentState) → IsInserted old new number parent name content → KeepsRooms old new
 rooms-inserted old new number parent name content inserted file =
     elim (cases_eq file number) [
       | inl same ↦ let before : room_of old file ≡ 0 = ap room_in (ap (content_at old) same ∙ inserted.was) in omega (arith, before)
@@ -94,11 +95,11 @@ rooms-without old new number sets file differs =
     let later : room_of new file ≡ room_of old file = ap room_in (sets.others file (λ same. eqb-false number file differs (sym same))) in
     omega (arith, later)
 
-pub other-rooms : (old new : TreeState) (file : ℕ) (content : Option ContentNow) → SetsContent old new file content → (other : ℕ) → (other ≡ file → ⊥) → room_of new other ≡ room_of old other
+pub other-rooms : (old new : TreeState) (file : ℕ) (content : Option ContentState) → SetsContent old new file content → (other : ℕ) → (other ≡ file → ⊥) → room_of new other ≡ room_of old other
 other-rooms old new file content sets other differs = ap room_in (sets.others other differs)
 
 -- a file that has room for so many bytes has it in its content
-pub room-there : (s : TreeState) (file size : ℕ) (content : ContentNow) → Some content ≡ content_at s file → is_file (tree_of s) file ≡ true → has_room s file size ≡ true
+pub room-there : (s : TreeState) (file size : ℕ) (content : ContentState) → Some content ≡ content_at s file → is_file (tree_of s) file ≡ true → has_room s file size ≡ true
     → size ≤ content.room
 room-there s file size content found is has =
     let room : nat_le size (room_of s file) ≡ true = rw is at has in
@@ -107,7 +108,7 @@ room-there s file size content found is has =
 pub room-none : (s : TreeState) (file size : ℕ) → is_file (tree_of s) file ≡ false → has_room s file size ≡ true
 room-none s file size none = ap (λ is. not is || nat_le size (room_of s file)) none
 
-pub room-made : {T E : Type 0} (s : TreeState) (file size : ℕ) (content : ContentNow) (result : Result T E) → content_at s file ≡ Some content
+pub room-made : {T E : Type 0} (s : TreeState) (file size : ℕ) (content : ContentState) (result : Result T E) → content_at s file ≡ Some content
     → OnOk result (size ≤ content.room) → OnOk result (has_room s file size ≡ true)
 room-made s file size content (Err e) found room = tt
 room-made s file size content (Ok v) found room =

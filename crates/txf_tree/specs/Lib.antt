@@ -1,3 +1,4 @@
 pub mod Children
 pub mod TreeState
+pub mod UnitChanges
 pub use Rattle.txf_nodes.specs.Places

@@ -1,5 +1,6 @@
 -- What a contract sees of the committed files and directories.
 use Rattle.std.specs.Prelude.{◌≡◌, ℕ, ◌+◌, ◌≤◌, ◌==◌, ◌&&◌, ◌||◌, not, Bool, true, false, List, length, nat_lt, nat_le, Option, Some, None, if◌then◌else◌}
+use Rattle.ktm_content.specs.Places.{ContentState}
 use Rattle.ktm_types.specs.declared.change.Change.{Change}
 use Rattle.ktm_types.specs.declared.change.Change.TheVariants.{Make, Put, Cut, Move, Drop}
 use Rattle.ktm_types.specs.declared.recorded.Node.{Node}
@@ -8,22 +9,17 @@ use Rattle.ktm_world.specs.Committed.{Version, versions_after}
 use Rattle.ktm_world.specs.Tree.{Tree, content_of, is_file, node_at}
 use Rattle.txf_nodes.specs.NodesState.{NodeOf, NodesState, content_at, node_by, tree_by, versions_in as versions_in_nodes}
 
--- the bytes of a file, and for how many there is room
-pub record ContentNow : Type 0 where
-  pub bytes : List ℕ
-  pub room : ℕ
-
 -- the bytes of a content
-abbrev pub bytes_now : ContentNow → List ℕ
+abbrev pub bytes_now : ContentState → List ℕ
 bytes_now content = content.bytes
 
 -- a node: a file has bytes and room for them; and how often they were changed since the restart
 abbrev pub NodeNow : Type 0
-NodeNow = NodeOf ContentNow
+NodeNow = NodeOf ContentState
 
 -- the nodes by rising number, and how many can come without memory
 abbrev pub TreeState : Type 0
-TreeState = NodesState ContentNow
+TreeState = NodesState ContentState
 
 -- the node alone
 abbrev pub plain : NodeNow → Node
@@ -42,7 +38,7 @@ abbrev pub versions_of : TreeState → List Version
 versions_of s = versions_in s.nodes
 
 -- for how many bytes a content has room; for none where there is no file
-abbrev pub room_in : Option ContentNow → ℕ
+abbrev pub room_in : Option ContentState → ℕ
 room_in None = 0
 room_in (Some content) = content.room
 

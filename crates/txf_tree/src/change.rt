@@ -2,6 +2,7 @@
 ghost use Rattle.std.specs.Prelude.{◌≡◌, ◌<◌, ◌^◌, true};
 ghost use Rattle.ktm_world.specs.Changes.{bytes_in, changes_bytes, is_drop, is_make, is_whole, next_after, node_of};
 
+use ktm_content::PlacedRef;
 use ktm_types::{Change, Contents};
 
 /// The number of the node that a change makes or changes.
@@ -58,13 +59,13 @@ pub fn next_after(next: u64, change: &Change) -> u64
     }
 }
 
-/// The bytes of contents; no image of the present layout has pages.
-pub fn bytes_in(contents: &Contents) -> &[u8]
-    ensures { result.now ≡ bytes_in contents.now }
+/// The bytes of contents that stand as they are, lent.
+pub fn bytes_in(contents: &Contents) -> PlacedRef<'_>
+    ensures { result ≡ bytes_in contents.now }
 {
     match contents {
-        Contents::Whole(bytes) => bytes.as_slice(),
-        Contents::Paged(_) => &[],
+        Contents::Whole(placed) => placed.lend(),
+        Contents::Paged { .. } => PlacedRef::none(),
     }
 }
 
@@ -74,6 +75,6 @@ pub fn is_whole(contents: &Contents) -> bool
 {
     match contents {
         Contents::Whole(_) => true,
-        Contents::Paged(_) => false,
+        Contents::Paged { .. } => false,
     }
 }

@@ -1,16 +1,13 @@
-//! The committed files and directories: nodes by number, children by directory and folded name, the bytes of each file
-//! and how often they changed.
+//! The committed files and directories: nodes by number, children by directory and folded name, the content of each file on its
+//! pages and how often it changed.
 #![tactic(auto)]
 
-mod bytes;
 mod change;
-mod content;
 mod node_ref;
 mod nodes;
 mod tree;
 
 pub use change::{bytes_in, changes_bytes, is_drop, is_make, is_whole, next_after, node_of};
-pub use content::Content;
 pub use node_ref::NodeRef;
 pub use nodes::Nodes;
 pub use tree::{Children, Tree};

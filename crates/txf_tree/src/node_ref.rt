@@ -4,26 +4,26 @@ ghost use Rattle.std.specs.Option.{option_map};
 ghost use Rattle.txf_tree.specs.Children.{node_seen};
 ghost use Rattle.txf_tree.specs.TreeState.{bytes_now, plain};
 
-use crate::content::Content;
+use ktm_content::{Content, PlacedRef};
 use txf_nodes::StoredNode;
 
 /// A node: its content, if it is a file, and its name are lent.
-#[derive(Clone, Copy)]
+#[derive(Drop)]
 pub struct NodeRef<'a> {
     pub number: u64,
     /// The number of the directory that it is in.
     pub parent: u64,
     pub name: &'a [u8],
     /// The bytes of a file; a directory has none.
-    pub content: Option<&'a [u8]>,
+    pub content: Option<PlacedRef<'a>>,
 }
 
 // The bytes of a node, if it is a file.
-fn bytes_of(node: &StoredNode<Content>) -> Option<&[u8]>
-    ensures { option_map (λ bytes. bytes.now) result ≡ option_map bytes_now node.now.content }
+fn bytes_of(node: &StoredNode<Content>) -> Option<PlacedRef<'_>>
+    ensures { result ≡ option_map bytes_now node.now.content }
 {
     match node.content() {
-        Some(content) => Some(content.as_slice()),
+        Some(content) => Some(content.lend()),
         None => None,
     }
 }

@@ -4,8 +4,8 @@ ghost use Rattle.std.specs.Option.{option_map};
 ghost use Rattle.txf_tree.specs.Children.{node_seen};
 ghost use Rattle.txf_tree.specs.TreeState.{plain};
 
-use crate::content::Content;
 use crate::node_ref::{NodeRef, node_ref};
+use ktm_content::Content;
 use std::marker::Model;
 use txf_nodes::ByNumber;
 

@@ -1,7 +1,7 @@
 // The tree.
 ghost use Rattle.std.specs.Prelude.{◌≡◌, ◌+◌, ◌-◌, ◌^◌, ◌<◌, ◌≤◌, ℕ, [], None, true, length, OnOk, IsOk, IfOk, fold, ◌≢◌};
 ghost use Rattle.std.specs.Option.{option_map};
-ghost use Rattle.ktm_base.specs.Reading.{IsRead};
+ghost use Rattle.ktm_content.specs.Places.{CanBePut};
 ghost use Rattle.ktm_types.specs.declared.change.Change.TheVariants.{Make, Put, Cut, Move, Drop};
 ghost use Rattle.ktm_links.specs.Mapped.{Begins};
 ghost use Rattle.ktm_world.specs.Changes.{applies, bytes_in, changed, changed_all, new_content, node_of};
@@ -10,12 +10,13 @@ ghost use Rattle.ktm_world.specs.Tree.{bytes_of, child_of, content_of, has_entri
 ghost use Rattle.txf_tree.specs.Children.{node_seen, entries_in, matching};
 ghost use Rattle.txf_tree.specs.Places.{entries_from, number_bytes};
 ghost use Rattle.txf_tree.specs.TreeState.{bytes_now, dropped, fits, room_of, has_room, takes, tree_of, versions_of, IsApplied, KeepsRoom, KeepsRooms};
+ghost use Rattle.txf_tree.specs.UnitChanges.{CanBeMade};
 
 use crate::change::{bytes_in, changes_bytes, is_whole, node_of};
-use crate::content::Content;
 use crate::node_ref::{NodeRef, node_ref};
 use crate::nodes::Nodes;
-use ktm_base::{Bytes, NoMemory, Text, read_at};
+use ktm_base::{NoMemory, Text};
+use ktm_content::{Content, Placed, PlacedRef};
 use ktm_names::Pattern;
 use ktm_types::{Change, Contents, NodeKind};
 use std::alloc::Global;
@@ -41,38 +42,29 @@ impl Model for Tree {
 pub type Children<'a> = txf_nodes::Children<'a, Content>;
 
 // How many changes give a file these bytes: it is cut, and they are put where there are any.
-fn changes_to(bytes: &Bytes) -> u64
+fn changes_to(bytes: &Placed) -> u64
     ensures changes { (file : ℕ) → result ≡ length (final_bytes file bytes.now) }
     ensures few { result ≤ 2 }
 {
     if bytes.is_empty() { 1 } else { 2 }
 }
 
-fn new_content(alloc: Global, kind: NodeKind) -> Option<Bytes>
-    ensures { result ≡ new_content kind }
+// What a new node of this kind contains.
+fn new_content(alloc: Global, kind: NodeKind) -> Option<Content>
+    ensures { option_map bytes_now result ≡ new_content kind }
 {
     match kind {
-        NodeKind::File => Some(Bytes::new(Vec::new(alloc))),
+        NodeKind::File => Some(Content::new(alloc)),
         NodeKind::Directory => None,
     }
 }
 
-// The content with these bytes, if there are any.
-fn content_of(bytes: Option<Bytes>) -> Option<Content>
-    ensures { option_map bytes_now result ≡ bytes }
-{
-    match bytes {
-        Some(bytes) => Some(Content::new(bytes)),
-        None => None,
-    }
-}
-
 // The bytes of the content, if there is one.
-fn bytes_of(content: Option<Content>) -> Option<Bytes>
+fn bytes_of(content: Option<Content>) -> Option<Placed>
     ensures { result ≡ option_map bytes_now content }
 {
     match content {
-        Some(content) => Some(content.into_bytes()),
+        Some(content) => Some(Placed::new(content)),
         None => None,
     }
 }
@@ -133,13 +125,13 @@ impl Tree {
         self.nodes.is_directory(number)
     }
 
-    /// The bytes of a file.
-    pub fn content(&self, file: u64) -> &[u8]
-        ensures { result.now ≡ bytes_of (tree_of self.now) file }
+    /// The bytes of a file, lent; none where there is no file.
+    pub fn content(&self, file: u64) -> PlacedRef<'_>
+        ensures { result ≡ bytes_of (tree_of self.now) file }
     {
         match self.nodes.content(file) {
-            Some(content) => content.as_slice(),
-            None => &[],
+            Some(content) => content.lend(),
+            None => PlacedRef::none(),
         }
     }
 
@@ -147,20 +139,7 @@ impl Tree {
     pub fn size(&self, file: u64) -> u64
         ensures { result ≡ length (bytes_of (tree_of self.now) file) }
     {
-        self.content(file).len() as u64
-    }
-
-    /// Puts at most so many bytes of a file, from the offset on, behind those that are there.
-    pub fn read(
-        &self,
-        file: u64,
-        offset: u64,
-        most: u64,
-        onto: &mut Vec<u8>,
-    ) -> Result<(), NoMemory>
-        ensures { IsRead (bytes_of (tree_of self.now) file) offset most onto.old onto.new result }
-    {
-        read_at(self.content(file), offset, most, onto)
+        self.content(file).len()
     }
 
     /// How often the bytes of a file were changed since the restart.
@@ -259,10 +238,11 @@ impl Tree {
         }
     }
 
-    /// Makes a change that applies and for which the memory is there, and hands out the bytes of a file that it drops. The
-    /// bytes of a Put are written where they go, and nothing else is copied.
-    pub fn apply(&mut self, change: Change) -> Option<Bytes>
+    /// Makes a change that applies and for which the memory is there, and hands out the bytes of a file that it drops. Contents
+    /// change unit by unit: the pages of a Put are written where they go, and nothing else is copied.
+    pub fn apply(&mut self, change: Change) -> Option<Placed>
         requires applies { applies (tree_of self.old) change ≡ true }
+        requires units { CanBeMade (tree_of self.old) change }
         requires fits { fits self.old change ≡ true }
         requires few { version_of (versions_of self.old) (node_of change) < 2 ^ 64 - 2 }
         ensures bytes { result ≡ dropped (tree_of self.old) change }
@@ -303,8 +283,9 @@ impl Tree {
 
     /// Makes a change of a log that is read again, which applies and for which the memory is there: the bytes of files count
     /// as never changed. It hands out the bytes of a file that it drops.
-    pub fn restore(&mut self, change: Change) -> Option<Bytes>
+    pub fn restore(&mut self, change: Change) -> Option<Placed>
         requires applies { applies (tree_of self.old) change ≡ true }
+        requires units { CanBeMade (tree_of self.old) change }
         requires fits { fits self.old change ≡ true }
         requires rest { versions_of self.old ≡ [] }
         ensures bytes { result ≡ dropped (tree_of self.old) change }
@@ -323,7 +304,7 @@ impl Tree {
     }
 
     /// Gives a file other bytes, which a commit has put together, and hands out those that it had. No byte is copied.
-    pub fn replace(&mut self, file: u64, bytes: Bytes) -> Bytes
+    pub fn replace(&mut self, file: u64, bytes: Placed) -> Placed
         requires file { is_file (tree_of self.old) file ≡ true }
         requires few { version_of (versions_of self.old) file < 2 ^ 64 - 2 }
         ensures bytes { result ≡ bytes_of (tree_of self.old) file }
@@ -333,9 +314,7 @@ impl Tree {
         ensures spare { self.new.spare ≡ self.old.spare }
     {
         let changes = changes_to(&bytes);
-        self.nodes
-            .replace(file, Content::new(bytes), changes)
-            .into_bytes()
+        Placed::new(self.nodes.replace(file, bytes.into_content(), changes))
     }
 
     // Makes a node, for which the memory is there.
@@ -344,32 +323,33 @@ impl Tree {
         requires fits { fits self.old (Make node parent kind name) ≡ true }
         ensures { IsApplied self.old self.new (Make node parent kind name) }
     {
-        let content = content_of(new_content(self.alloc, kind));
+        let content = new_content(self.alloc, kind);
         self.nodes.make(node, parent, name, content);
     }
 
-    // Puts bytes into a file that has room for them.
+    // Puts units into a file that has room for them.
     fn put(&mut self, node: u64, offset: u64, contents: &Contents)
         requires applies { applies (tree_of self.old) (Put node offset contents.now) ≡ true }
+        requires units { CanBePut (bytes_of (tree_of self.old) node) offset (bytes_in contents.now) }
         requires fits { fits self.old (Put node offset contents.now) ≡ true }
         requires few { version_of (versions_of self.old) node < 2 ^ 64 - 2 }
         ensures { IsApplied self.old self.new (Put node offset contents.now) }
     {
         match self.nodes.content_mut(node, 1) {
-            Some(content) => content.put(offset as usize, bytes_in(contents)),
+            Some(content) => content.put(offset, bytes_in(contents)),
             None => unreachable!(),
         }
     }
 
-    // Cuts a file, or fills it up within its room.
+    // Cuts a file.
     fn cut(&mut self, node: u64, size: u64)
         requires file { is_file (tree_of self.old) node ≡ true }
-        requires fits { fits self.old (Cut node size []) ≡ true }
+        requires shorter { size ≤ length (bytes_of (tree_of self.old) node) }
         requires few { version_of (versions_of self.old) node < 2 ^ 64 - 2 }
         ensures { IsApplied self.old self.new (Cut node size []) }
     {
         match self.nodes.content_mut(node, 1) {
-            Some(content) => content.cut(size as usize),
+            Some(content) => content.cut(size),
             None => unreachable!(),
         }
     }
@@ -394,7 +374,7 @@ impl Tree {
     }
 
     // Takes a node out, and hands out the bytes of a file.
-    fn remove(&mut self, node: u64) -> Option<Bytes>
+    fn remove(&mut self, node: u64) -> Option<Placed>
         ensures bytes { result ≡ content_of (node_at (tree_of self.old) node) }
         ensures applied { IsApplied self.old self.new (Drop node) }
     {
@@ -402,7 +382,7 @@ impl Tree {
     }
 
     // Takes the memory with which a file, if it is one, can have so many bytes from the offset on.
-    fn reserve_bytes(&mut self, file: u64, offset: u64, many: usize) -> Result<(), NoMemory>
+    fn reserve_bytes(&mut self, file: u64, offset: u64, many: u64) -> Result<(), NoMemory>
         ensures fits { OnOk result (has_room self.new file (offset + many) ≡ true) }
         ensures enough { has_room self.old file (offset + many) ≡ true → IsOk result }
         ensures tree { tree_of self.new ≡ tree_of self.old }

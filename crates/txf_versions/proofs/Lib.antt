@@ -5,3 +5,4 @@ pub mod NamesTold
 pub mod Ready
 pub mod Sorted
 pub mod Tests
+pub mod Walked

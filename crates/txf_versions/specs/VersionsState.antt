@@ -1,5 +1,5 @@
 -- What a contract sees of the versions.
-use Rattle.std.specs.Prelude.{◌≡◌, ℕ, ◌==◌, ◌&&◌, ◌||◌, not, Bool, true, false, List, [], ◌∷◌, nat_lt, filter, sum_by, if◌then◌else◌}
+use Rattle.std.specs.Prelude.{◌≡◌, ℕ, ◌==◌, ◌&&◌, ◌||◌, not, Bool, true, false, List, [], ◌∷◌, nat_lt, filter, map, sum_by, if◌then◌else◌}
 use Rattle.std.specs.List.{list_any}
 use Rattle.ktm_base.specs.declared.id.Id.{Id}
 use Rattle.ktm_world.specs.Transactions.{same_id}
@@ -57,6 +57,10 @@ version_units v = units_of v.bytes
 -- the units of all older versions
 abbrev pub older_units : List Older → ℕ
 older_units older = sum_by version_units older
+
+-- the bytes of all older versions
+abbrev pub older_contents : List Older → List (List ℕ)
+older_contents older = map (λ v. v.bytes) older
 
 -- a first open fixed each of these versions
 abbrev pub AreAllHeld : List Opened → List Older → Type 0

@@ -1,13 +1,15 @@
 // The bytes of versions that are no longer the last one.
-ghost use Rattle.std.specs.Prelude.{◌≡◌, ◌<◌, ◌≤◌, ◌+◌, ◌^◌, [], filter, find, length, not, None, IsOk, OnOk, option_copied};
+ghost use Rattle.std.specs.Prelude.{◌≡◌, ◌<◌, ◌≤◌, ◌+◌, ◌^◌, [], filter, find, length, not, None, IsOk, OnOk};
 ghost use Rattle.std.specs.Option.{option_map};
-ghost use Rattle.ktm_base.specs.Reading.{IsReadIf};
 ghost use Rattle.ktm_world.specs.Tree.{units_of};
-ghost use Rattle.txf_versions.specs.VersionsState.{is_version, older_units, version_units, with_older};
+ghost use Rattle.ktm_store.specs.Holding.{AreAllBelow, HoldsContents};
+ghost use Rattle.txf_versions.specs.VersionsState.{is_version, older_contents, older_units, version_units, with_older};
 
 use crate::name::{VersionName, version_name};
-use ktm_base::{Bytes, NoMemory, UNIT_BYTES, read_if};
+use ktm_base::NoMemory;
+use ktm_content::{Placed, PlacedRef};
 use ktm_links::Chains;
+use ktm_store::Store;
 use std::alloc::Global;
 use std::marker::Model;
 
@@ -16,7 +18,7 @@ use std::marker::Model;
 pub(crate) struct Older {
     pub(crate) file: u64,
     pub(crate) version: u64,
-    pub(crate) bytes: Bytes,
+    pub(crate) bytes: Placed,
 }
 
 /// The bytes of older versions, each once.
@@ -40,10 +42,10 @@ impl Model for Kept {
 }
 
 // The units of these bytes.
-fn units_of(bytes: &Bytes) -> u64
+fn units_of(bytes: &Placed) -> u64
     ensures { result ≡ units_of bytes.now }
 {
-    (bytes.len() as u64).div_ceil(UNIT_BYTES)
+    bytes.content().units() as u64
 }
 
 impl Kept {
@@ -58,12 +60,12 @@ impl Kept {
     }
 
     /// The bytes of the version, if they are here.
-    pub(crate) fn bytes(&self, file: u64, version: u64) -> Option<&[u8]>
-        ensures { option_copied result ≡ option_map (λ v. v.bytes) (find (is_version file version) self.now.older) }
+    pub(crate) fn bytes(&self, file: u64, version: u64) -> Option<PlacedRef<'_>>
+        ensures { result ≡ option_map (λ v. v.bytes) (find (is_version file version) self.now.older) }
     {
         match self.map.find(&version_name(file, version)) {
             Some(key) => match self.map.get(key) {
-                Some(older) => Some(older.bytes.as_slice()),
+                Some(older) => Some(older.bytes.lend()),
                 None => None,
             },
             None => None,
@@ -75,23 +77,9 @@ impl Kept {
         ensures { result ≡ option_map (λ bytes. length bytes) (option_map (λ v. v.bytes) (find (is_version file version) self.now.older)) }
     {
         match self.bytes(file, version) {
-            Some(bytes) => Some(bytes.len() as u64),
+            Some(bytes) => Some(bytes.len()),
             None => None,
         }
-    }
-
-    /// Puts at most so many bytes of the version, from the offset on, behind those that are there, if they are here.
-    pub(crate) fn read(
-        &self,
-        file: u64,
-        version: u64,
-        offset: u64,
-        most: u64,
-        onto: &mut Vec<u8>,
-    ) -> Option<Result<(), NoMemory>>
-        ensures { IsReadIf (option_map (λ v. v.bytes) (find (is_version file version) self.now.older)) offset most onto.old onto.new result }
-    {
-        read_if(self.bytes(file, version), offset, most, onto)
     }
 
     /// The units of all bytes that are here.
@@ -99,6 +87,17 @@ impl Kept {
         ensures { result ≡ older_units self.now.older }
     {
         self.units
+    }
+
+    /// Holds the pages of all bytes that are here.
+    pub(crate) fn hold_pages(&self, store: &mut Store)
+        requires { AreAllBelow store.old (older_contents self.now.older) }
+        ensures { HoldsContents (older_contents self.now.older) (older_units self.now.older) store.old store.new }
+    {
+        let mut left = self.map.walk_from(&[]);
+        'pages: while let Some(entry) = left.next() {
+            store.hold(entry.value.bytes.lend());
+        }
     }
 
     /// Makes room for so many more.

@@ -1,15 +1,17 @@
 // The versions that transactions first opened.
-ghost use Rattle.std.specs.Prelude.{◌≡◌, ℕ, ◌<◌, ◌≤◌, ◌+◌, ◌^◌, ◌++◌, ◌∷◌, ◌==◌, ◌&&◌, [], filter, find, length, true, false, None, Some, IsOk, OnOk, OnSome, option_copied};
+ghost use Rattle.std.specs.Prelude.{◌≡◌, ℕ, ◌<◌, ◌≤◌, ◌+◌, ◌^◌, ◌++◌, ◌∷◌, ◌==◌, ◌&&◌, [], filter, find, length, true, false, None, Some, IsOk, OnOk, OnSome};
 ghost use Rattle.std.specs.List.{list_any};
 ghost use Rattle.std.specs.Option.{option_map};
-ghost use Rattle.ktm_base.specs.Reading.{IsReadIf};
 ghost use Rattle.ktm_world.specs.Tree.{units_of};
-ghost use Rattle.txf_versions.specs.VersionsState.{is_held, is_open_of, is_own, is_pinned, is_version, older_units, with_older, without_transaction, AreHeld};
+ghost use Rattle.ktm_store.specs.Holding.{AreAllBelow, HoldsContents};
+ghost use Rattle.txf_versions.specs.VersionsState.{is_held, is_open_of, is_own, is_pinned, is_version, older_contents, older_units, with_older, without_transaction, AreHeld};
 
 use crate::kept::{Kept, Older};
 use crate::opened::Opened;
 use crate::opens::Opens;
-use ktm_base::{Bytes, Id, NoMemory};
+use ktm_base::{Id, NoMemory};
+use ktm_content::{Placed, PlacedRef};
+use ktm_store::Store;
 use std::alloc::Global;
 use std::marker::Model;
 
@@ -70,8 +72,8 @@ impl Versions {
     }
 
     /// The bytes of a version that is no longer the last one, if they were kept.
-    pub fn older_bytes(&self, file: u64, version: u64) -> Option<&[u8]>
-        ensures bytes { option_copied result ≡ option_map (λ v. v.bytes) (find (is_version file version) self.now.older) }
+    pub fn older_bytes(&self, file: u64, version: u64) -> Option<PlacedRef<'_>>
+        ensures bytes { result ≡ option_map (λ v. v.bytes) (find (is_version file version) self.now.older) }
         ensures pinned { OnSome result (is_pinned self.now.opens file version ≡ true) }
     {
         self.kept.bytes(file, version)
@@ -84,26 +86,20 @@ impl Versions {
         self.kept.size(file, version)
     }
 
-    /// Puts at most so many bytes of such a version, from the offset on, behind those that are there, if they were kept.
-    pub fn read_older(
-        &self,
-        file: u64,
-        version: u64,
-        offset: u64,
-        most: u64,
-        onto: &mut Vec<u8>,
-    ) -> Option<Result<(), NoMemory>>
-        ensures { IsReadIf (option_map (λ v. v.bytes) (find (is_version file version) self.now.older)) offset most onto.old onto.new result }
-    {
-        self.kept.read(file, version, offset, most, onto)
-    }
-
     /// The units of 4,096 bytes that the kept bytes take, those of each version rounded up.
     pub fn older_units(&self) -> u64
         ensures units { result ≡ older_units self.now.older }
         ensures held { AreHeld self.now.opens self.now.older }
     {
         self.kept.units()
+    }
+
+    /// Holds the pages of the bytes that are kept.
+    pub fn hold_pages(&self, store: &mut Store)
+        requires { AreAllBelow store.old (older_contents self.now.older) }
+        ensures { HoldsContents (older_contents self.now.older) (older_units self.now.older) store.old store.new }
+    {
+        self.kept.hold_pages(store);
     }
 
     /// How many first opens there are.
@@ -156,7 +152,7 @@ impl Versions {
 
     /// Keeps the bytes of a version that is about to be no longer the last one, once for all that fixed it. It takes no
     /// memory, and copies nothing.
-    pub fn keep(&mut self, file: u64, version: u64, bytes: Bytes)
+    pub fn keep(&mut self, file: u64, version: u64, bytes: Placed)
         requires pinned { is_pinned self.old.opens file version ≡ true }
         requires absent { find (is_version file version) self.old.older ≡ None }
         requires few { older_units self.old.older + units_of bytes < 2 ^ 64 }

@@ -22,6 +22,7 @@ use Rattle.ktm_world.specs.Tree.{Tree, bytes_of, bytes_or_none, content_of, is_f
 use Rattle.txf_overlay.specs.OverlayState.{OverlayState, Written, final_of, own_of, is_of_names}
 use Rattle.txf_overlay.specs.Written.{AreOver, units_in}
 use Rattle.txf_tree.specs.TreeState.{TreeState, dropped, takes, tree_of, versions_of}
+use Rattle.txf_tree.specs.UnitChanges.{CanBeMade}
 use Rattle.txf_versions.specs.VersionsState.{VersionsState, is_pinned, is_version, older_units as kept_units}
 use Rattle.txf_versions.specs.declared.kept.Older.{Older}
 use Rattle.txf_versions.specs.declared.opened.Opened.{Opened}
@@ -42,6 +43,14 @@ use Rattle.txf_volume.proofs.TreeUnits.{units-changed}
 use Rattle.txf_laws.proofs.offered.Versions.{version_of-without, version-elsewhere}
 
 -- ---- what can be made
+
+-- changes of names touch no unit
+pub names-can : (tree : Tree) (c : Change) → is_of_names c ≡ true → CanBeMade tree c
+names-can tree (Make node parent kind name) only = tt
+names-can tree (Put node offset contents) only = absurd (true≢false (sym only))
+names-can tree (Cut node size pages) only = absurd (true≢false (sym only))
+names-can tree (Move node parent name) only = tt
+names-can tree (Drop node) only = tt
 
 fresh-one : (opens : List Opened) (c : Change) → is_fresh opens c ≡ true → (p : Opened) → IsIn p opens → is_make c ≡ true → node_of c ≡ p.file → ⊥
 fresh-one opens c fresh p there make e =

@@ -1,16 +1,18 @@
 -- The files that a transaction wrote, as they are shown one after another.
-use Rattle.std.proofs.Common.{◌≡◌, ℕ, ◌+◌, ◌++◌, not, true, map, List, [], ◌∷◌, Option, Some, None, Bor, IfSome, refl, sym, ◌∙◌, ap, arith, inl, inr}
+use Rattle.std.proofs.Common.{◌≡◌, ℕ, ◌+◌, not, true, length, map, List, [], ◌∷◌, Option, Some, Bor, refl, sym, ◌∙◌, ap, arith, inl, inr}
 use Rattle.std.proofs.lemmas.Bool.{cases_Bool, and_from, le-ltb, lt-ltb, ltb-true, ltb-false}
+use Rattle.std.proofs.lemmas.List.Elements.{All-head, All-tail}
 use Rattle.std.specs.List.{flat_map, list_all}
 use Rattle.std.specs.Option.{option_copied, option_map}
-use Rattle.std.specs.Prelude.{nat_lt}
-use Rattle.ktm_event.specs.Work.{FinalFile, bytes_changes, changes_of_file, first_above, first_of}
+use Rattle.std.specs.Prelude.{All, nat_lt}
+use Rattle.ktm_event.specs.OnPages.{AreEach, IsRecordedChange}
+use Rattle.ktm_event.specs.Work.{FinalFile, changes_of_file, first_above, first_of, pages_changes}
+use Rattle.ktm_event.proofs.offered.Recorded.{each-both}
 use Rattle.ktm_world.specs.Committed.{final_bytes}
-use Rattle.ktm_world.specs.Tree.{Tree}
 use Rattle.txf_overlay.specs.OverlayState.{OverlayState, Written, final_of}
+use Rattle.txf_overlay.specs.Pages.{LieOnPages, pages_in}
 use Rattle.txf_overlay.specs.Written.{AreOver, AreFilesRising, first_from}
 use Rattle.txf_volume.specs.Shown.{are_rising, recorded_file, recorded_files, shown}
-use Rattle.txf_volume.specs.Ties.{IsOver}
 
 -- ---- rising numbers
 
@@ -25,11 +27,6 @@ over-all n (w ∷ ws) over = and_from _ _ (lt-ltb n w.file over.0) (over-all n w
 pub recorded-rise : (ws : List Written) → AreFilesRising ws → are_rising (map recorded_file ws) ≡ true
 recorded-rise [] rise = refl
 recorded-rise (w ∷ ws) rise = and_from _ _ (over-all w.file ws rise.0) (recorded-rise ws rise.1)
-
--- those of a transaction rise
-pub lent-rise : (tree : Tree) (found : Option (Bor OverlayState)) → IfSome found (λ overlay. IsOver tree overlay.now) → are_rising (recorded_files (option_copied found)) ≡ true
-lent-rise tree None over = refl
-lent-rise tree (Some overlay) over = recorded-rise overlay.now.written over.own.rise
 
 -- what a transaction changed is shown whole
 pub shown-now : (found : Option (Bor OverlayState)) (o : Bor OverlayState) (now : List FinalFile) → found ≡ Some o → recorded_files (option_copied found) ≡ now → are_rising (recorded_files (option_copied found)) ≡ true
@@ -54,11 +51,14 @@ behind-is (w ∷ ws) n = rw (not-below w.file n) (elim (cases_Bool (nat_lt n w.f
 
 -- ---- their changes
 
--- the changes that are recorded of a file are those that are committed
-changes-final : (file : ℕ) (bytes : List ℕ) → bytes_changes file bytes ≡ final_bytes file bytes
-changes-final file [] = refl
-changes-final file (b ∷ bytes) = refl
+-- the changes that are committed of a file, as they are recorded
+file-recorded : (file : ℕ) (bytes : List ℕ) → LieOnPages bytes → AreEach IsRecordedChange (final_bytes file bytes) (pages_changes file (length bytes) (pages_in bytes))
+file-recorded file [] on = (refl, tt)
+file-recorded file (b ∷ bytes) on = (refl, ((refl, refl, record { long = refl; lie = on.lie; fit = on.fit }), tt))
 
-pub files-final : (ws : List Written) → flat_map changes_of_file (map recorded_file ws) ≡ flat_map final_of ws
-files-final [] = refl
-files-final (w ∷ ws) = λ i. changes-final w.file w.bytes i ++ files-final ws i
+pub files-recorded : (ws : List Written) → All (λ (w : Written). LieOnPages w.bytes) ws → AreEach IsRecordedChange (flat_map final_of ws) (flat_map changes_of_file (map recorded_file ws))
+files-recorded [] all = tt
+files-recorded (w ∷ ws) all =
+    each-both IsRecordedChange (final_of w) (changes_of_file (recorded_file w)) (flat_map final_of ws) (flat_map changes_of_file (map recorded_file ws))
+    (file-recorded w.file w.bytes (All-head (λ (w : Written). LieOnPages w.bytes) w ws all))
+    (files-recorded ws (All-tail (λ (w : Written). LieOnPages w.bytes) w ws all))

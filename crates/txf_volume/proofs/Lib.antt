@@ -30,3 +30,7 @@ pub mod PlainKept
 pub mod PlainTies
 pub mod Restoring
 pub mod RestoringCounts
+pub mod Named
+pub mod Walked
+pub mod EachNamed
+pub mod HoldingPages

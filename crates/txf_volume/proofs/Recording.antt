@@ -1,8 +1,8 @@
 -- What a transaction changed, as it is recorded.
-use Rattle.std.proofs.Common.{◌≡◌, ℕ, ◌<◌, ◌^◌, ◌++◌, not, Bool, true, false, filter, List, [], ◌∷◌, Option, Some, None, All, refl, sym, ◌∙◌, ap}
+use Rattle.std.proofs.Common.{◌≡◌, ℕ, ◌<◌, ◌^◌, not, Bool, true, false, filter, map, List, [], ◌∷◌, Some, None, All, refl, sym, ◌∙◌, ap, subst}
 use Rattle.std.proofs.lemmas.Bool.{and_parts, ltb-true, true≢false}
 use Rattle.std.proofs.lemmas.List.Elements.{All-cons, All-nil}
-use Rattle.std.specs.List.{flat_map}
+use Rattle.std.specs.List.{flat_map, list_all}
 use Rattle.std.specs.Prelude.{nat_le, nat_lt}
 use Rattle.ktm_types.specs.declared.change.Change.{Change}
 use Rattle.ktm_types.specs.declared.change.Change.TheVariants.{Make, Put, Cut, Move, Drop}
@@ -13,11 +13,14 @@ use Rattle.ktm_world.specs.Files.{own_changes}
 use Rattle.ktm_world.specs.Tree.{Tree}
 use Rattle.txf_laws.proofs.offered.ChangeTests.{Applies-from}
 use Rattle.txf_overlay.specs.Laws.{IsOwn}
-use Rattle.txf_overlay.specs.OverlayState.{OverlayState, is_of_names, own_of}
+use Rattle.txf_overlay.specs.OverlayState.{OverlayState, Written, final_of, is_of_names, own_of}
+use Rattle.txf_overlay.specs.Pages.{LieOnPages}
 use Rattle.txf_volume.specs.Held.{FilesHeld, overlay_in, own_held}
-use Rattle.ktm_event.specs.Work.{changes_of, changes_of_file}
-use Rattle.txf_volume.specs.Shown.{recorded_files, shown}
-use Rattle.txf_volume.proofs.FilesShown.{files-final, recorded-rise, shown-all}
+use Rattle.ktm_event.specs.OnPages.{AreEach, IsRecordedChange}
+use Rattle.ktm_event.specs.Work.{FinalFile, changes_of, changes_of_file}
+use Rattle.ktm_event.proofs.offered.Recorded.{each-both}
+use Rattle.txf_volume.specs.Shown.{recorded_file, recorded_files, shown}
+use Rattle.txf_volume.proofs.FilesShown.{files-recorded, recorded-rise, shown-all}
 use Rattle.txf_volume.proofs.Seen.{changes_in, own_changes-held}
 use Rattle.txf_volume.proofs.Steady.{names-own}
 
@@ -47,6 +50,21 @@ next-names (Cut node size pages ∷ cs) next = next-names cs next
 next-names (Move node parent name ∷ cs) next = next-names cs next
 next-names (Drop node ∷ cs) next = next-names cs next
 
+-- ---- changes of names as they are recorded
+
+names-recorded : (cs : List Change) → list_all is_of_names cs ≡ true → AreEach IsRecordedChange cs cs
+names-recorded [] only = tt
+names-recorded (c ∷ cs) only =
+    let parts = and_parts (is_of_names c) (list_all is_of_names cs) only in
+    (same c parts.0, names-recorded cs parts.1)
+  where
+    same : (c : Change) → is_of_names c ≡ true → IsRecordedChange c c
+    same (Make node parent kind name) names = refl
+    same (Put node offset contents) names = absurd (true≢false (sym names))
+    same (Cut node size pages) names = refl
+    same (Move node parent name) names = refl
+    same (Drop node) names = refl
+
 -- ---- what the model has
 
 module _ (h : FilesHeld) (id : Id) where
@@ -67,13 +85,24 @@ module _ (h : FilesHeld) (id : Id) where
       not-not true = refl
       not-not false = refl
 
-  -- with its names the files are its changes
-  pub written-is : (now : Option OverlayState) → overlay_in h.overlays id ≡ now → ((o : OverlayState) → now ≡ Some o → IsOwn o)
-      → own_changes (own_held h.overlays) id ≡ changes_of (filter is_of_names (own_changes (own_held h.overlays) id)) (shown (recorded_files now))
-  written-is None is own = own-none is ∙ (λ i. filter is_of_names (sym (own-none is) i) ++ [])
-  written-is (Some o) is own =
-      let files = ap (flat_map changes_of_file) (shown-all (recorded_files (Some o)) (recorded-rise o.written (own o refl).rise)) ∙ files-final o.written in
-      own-some o is ∙ (λ i. sym (names-some o is (own o refl)) i ++ sym files i)
+  -- with its names the files are its changes as they are recorded
+  abbrev pub AreItsChanges : List FinalFile → Type 0
+  AreItsChanges files = AreEach IsRecordedChange (own_changes (own_held h.overlays) id) (changes_of (filter is_of_names (own_changes (own_held h.overlays) id)) (shown files))
+
+  pub written-none : (files : List FinalFile) → overlay_in h.overlays id ≡ None → shown files ≡ [] → AreItsChanges files
+  written-none files none empty =
+      subst (λ (cs : List Change). AreEach IsRecordedChange cs (changes_of (filter is_of_names cs) (shown files))) (sym (own-none none))
+      (subst (λ (fs : List FinalFile). AreEach IsRecordedChange [] (flat_map changes_of_file fs)) (sym empty) tt)
+
+  pub written-some : (o : OverlayState) → overlay_in h.overlays id ≡ Some o → IsOwn o → All (λ (w : Written). LieOnPages w.bytes) o.written → AreItsChanges (recorded_files (Some o))
+  written-some o there own on =
+      let files = map recorded_file o.written in
+      let recorded : AreEach IsRecordedChange (own_of o) (changes_of o.names files) =
+      each-both IsRecordedChange o.names o.names (flat_map final_of o.written) (flat_map changes_of_file files) (names-recorded o.names own.only) (files-recorded o.written on) in
+      let is : changes_of (filter is_of_names (own_changes (own_held h.overlays) id)) (shown files) ≡ changes_of o.names files =
+      (λ i. changes_of (names-some o there own i) (shown-all files (recorded-rise o.written own.rise) i)) in
+      subst (λ (cs : List Change). AreEach IsRecordedChange cs (changes_of (filter is_of_names (own_changes (own_held h.overlays) id)) (shown files))) (sym (own-some o there))
+      (subst (AreEach IsRecordedChange (own_of o)) (sym is) recorded)
 
   pub next-none : (next : ℕ) → overlay_in h.overlays id ≡ None → next ≡ next_after_all next (own_changes (own_held h.overlays) id)
   next-none next none = sym (ap (next_after_all next) (own-none none))

@@ -12,7 +12,7 @@ use Rattle.ktm_types.specs.declared.change.NodeKind.TheVariants.{File, Directory
 use Rattle.ktm_world.specs.Changes.{applies, bytes_in, changed_all, changes_apply, has_made, is_empty_list, is_make, is_whole, next_after, node_of}
 use Rattle.ktm_world.specs.Committed.{changes_to_commit, written_after, written_files}
 use Rattle.ktm_world.specs.Durable.{are_recorded_changes}
-use Rattle.ktm_world.specs.Files.{FilesNow, OwnChanges, bytes_after, bytes_with, changes_with, first_bytes, fixed_bytes, first_open_of, own_changes, tree_seen, with_own_changes}
+use Rattle.ktm_world.specs.Files.{FilesNow, OwnChanges, bytes_after, bytes_seen, bytes_with, changes_with, first_bytes, fixed_bytes, first_open_of, own_changes, tree_seen, with_own_changes}
 use Rattle.ktm_world.specs.Holds.{is_in}
 use Rattle.ktm_world.specs.Transactions.{same_id}
 use Rattle.ktm_world.specs.Tree.{Tree, bytes_of, cut_to, put_over}
@@ -28,6 +28,7 @@ use Rattle.txf_laws.proofs.offered.CommitsOfOthers.{IsIn-with_number, changes_ap
 use Rattle.txf_laws.proofs.offered.Elements.{IsIn-filter, list_all-at, list_any-at, list_any-from}
 use Rattle.txf_laws.proofs.offered.NormalForms.{bytes-final, changes_apply-second, cut-none, ends-elsewhere, ends_of, filter-append, is_of_file, names-final, names-of-no-file, put-none}
 use Rattle.txf_laws.proofs.offered.Tables.{same_id-from}
+use Rattle.txf_tree.specs.UnitChanges.{CanBeMadeOver}
 use Rattle.txf_volume.specs.Restoring.{CanBeRestored, begun, begun_own, files_restored}
 use Rattle.txf_volume.proofs.OwnBytes.{after-one, after-other, one, one-bytes}
 use Rattle.txf_volume.proofs.OwnTables.{own_changes-new}
@@ -214,6 +215,23 @@ module _ (files : FilesNow) (id : Id) (changes : List Change) (can : CanBeRestor
         ∙ ap (λ ds. applies (changed_all files.tree ds) c) (names-final done (put_bytes done))
         ∙ applies-names files.tree done c next.is next.files (changes_apply-first files.tree done (c ∷ rest) apply-both)
         (and_parts (applies (changed_all files.tree done) c) _ (changes_apply-second files.tree done (c ∷ rest) apply-both)).0
+
+    -- it can be made unit by unit: contents come first in their file
+    pub units-next : CanBeMadeOver (bytes_seen (begun files id done) (Some id)) c
+    units-next = go c next.is
+      where
+        -- what the transaction sees of a file that they write
+        seen : (f : ℕ) → IsIn f (written_files done) → bytes_seen (begun files id done) (Some id) f ≡ put_bytes done f
+        seen f there =
+            let own = own_changes (begun files id done).table.own id in
+            ap (λ cs. bytes_after (first_bytes (begun files id done) id own f) f cs) (own-begun done) ∙ there-bytes done f (first_bytes (begun files id done) id own f) there
+
+        go : (d : Change) → IsNextOf done d → CanBeMadeOver (bytes_seen (begun files id done) (Some id)) d
+        go (Make node parent kind name) is = tt
+        go (Put node offset contents) is = rw (seen node is.2 ∙ is.1, is.0) (record { begins = refl; reaches = omega arith; ends = inr (omega arith) })
+        go (Cut node size pages) is = rw is.0 (omega arith)
+        go (Move node parent name) is = tt
+        go (Drop node) is = tt
 
     -- with it the changes have the form in which they are committed
     form-with : changes_with (begun files id done) id c ≡ final_form (done ++ c ∷ [])

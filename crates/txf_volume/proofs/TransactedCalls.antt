@@ -1,10 +1,10 @@
 -- The files in memory while a call of a transaction is kept.
-use Rattle.std.proofs.Common.{◌≡◌, ℕ, ◌<◌, ◌≤◌, ◌^◌, ◌==◌, ◌&&◌, not, Bool, true, false, find, is_some, map, List, [], ◌∷◌, sum_by, Option, Some, None, Bor, OnSome, refl, sym, ◌∙◌, ap, subst, arith, inl, inr}
+use Rattle.std.proofs.Common.{◌≡◌, ℕ, ◌<◌, ◌≤◌, ◌^◌, ◌==◌, ◌&&◌, not, Bool, true, false, find, is_some, map, List, [], ◌∷◌, sum_by, Option, Some, None, OnSome, refl, sym, ◌∙◌, ap, subst, arith, inl, inr}
 use Rattle.std.proofs.lemmas.Bool.{and_parts, eq-eqb, eqb-true, true≢false}
 use Rattle.std.proofs.lemmas.List.{append-nil}
 use Rattle.std.specs.List.{list_all}
 use Rattle.std.proofs.lemmas.Option.{none-some}
-use Rattle.std.specs.Option.{option_copied, option_map}
+use Rattle.std.specs.Option.{option_map}
 use Rattle.ktm_base.specs.declared.id.Id.{Id}
 use Rattle.txf_laws.specs.OwnChange.{owned}
 use Rattle.ktm_types.specs.declared.change.Change.{Change}
@@ -182,9 +182,9 @@ none-open None first none = refl
 none-open (Some o) first none = absurd (cc)
 
 -- a version that is found to be no older one
-pub no-older : (bytes : Option (Bor (List ℕ))) (found : Option Older) {P : Type 0} {b : Bool} → option_copied bytes ≡ option_map (λ (v : Older). v.bytes) found → OnSome bytes P → (P → is_some found ≡ false) → is_some bytes ≡ not b → b ≡ false → ⊥
+pub no-older : (bytes : Option (List ℕ)) (found : Option Older) {P : Type 0} {b : Bool} → bytes ≡ option_map (λ (v : Older). v.bytes) found → OnSome bytes P → (P → is_some found ≡ false) → is_some bytes ≡ not b → b ≡ false → ⊥
 no-older None found {P} {b} is pinned kept some fails = absurd (true≢false (sym (some ∙ ap not fails)))
-no-older (Some bytes) None is pinned kept some fails = none-some bytes.now (sym is)
+no-older (Some bytes) None is pinned kept some fails = none-some bytes (sym is)
 no-older (Some bytes) (Some v) is pinned kept some fails = true≢false (kept pinned)
 
 module _ (h : FilesHeld) (units : ℕ) (counts : Counts) (tied : AreTied h units counts) (id : Id) (file : ℕ) (is : IsNotOpened (files_of h) id file) where

@@ -14,7 +14,7 @@ use Rattle.ktm_types.specs.declared.change.Contents.TheVariants.{Whole}
 use Rattle.ktm_types.specs.declared.change.NodeKind.TheVariants.{File, Directory}
 use Rattle.ktm_world.specs.Changes.{bytes_in, changed, changed_all, changes_bytes, has_made, is_make, next_after, node_of}
 use Rattle.ktm_world.specs.Committed.{changes_to_commit, final_bytes, written_files}
-use Rattle.ktm_world.specs.Files.{bytes_after, bytes_with, changes_with, first_bytes, first_open_of, fixed_bytes, own_changes, tree_seen, with_own_changes}
+use Rattle.ktm_world.specs.Files.{bytes_after, bytes_seen, bytes_with, changes_with, first_bytes, first_open_of, fixed_bytes, own_changes, tree_seen, with_own_changes}
 use Rattle.ktm_world.specs.Holds.{Place, directories_of, dropped_directory, each_change, holds_by, is_in, is_place_in, moved_directory, places_of, same_place}
 use Rattle.ktm_world.specs.Transactions.{same_id}
 use Rattle.ktm_world.specs.Tree.{Tree, cut_to, put_over}
@@ -24,8 +24,10 @@ use Rattle.txf_overlay.specs.Written.{AreFilesRising, bytes_at, bytes_or, total_
 use Rattle.txf_overlay.proofs.FilesMap.{AreFilesRising-with, AreFilesRising-without}
 use Rattle.txf_reserve.specs.ReserveState.{IsSameHold, Keeps, ReserveState, holds_in}
 use Rattle.txf_tree.specs.TreeState.{tree_of, versions_of}
+use Rattle.txf_tree.specs.UnitChanges.{CanBeMadeOver}
+use Rattle.ktm_content.specs.Places.{CanBePut}
 use Rattle.txf_volume.specs.Held.{FilesHeld, OwnHeld, files_of, names_held, overlay_in, own_held}
-use Rattle.txf_volume.specs.OwnParts.{HoldsChange, IsChangedIn, IsCounted, counts_of, or_unchanged, starts, unchanged, with_overlay, written_next}
+use Rattle.txf_volume.specs.OwnParts.{HoldsChange, IsChangedIn, IsCounted, bytes_over, counts_of, or_unchanged, starts, unchanged, with_overlay, written_next}
 use Rattle.txf_volume.specs.Ties.{AreCounts, AreFew, AreTied, IsOver, held_by_two}
 use Rattle.txf_volume.specs.Transacted.{HasTreeRoom}
 use Rattle.txf_volume.specs.declared.counts.Counted.{Counted}
@@ -38,7 +40,7 @@ use Rattle.txf_laws.specs.FinalChanges.{names_of}
 use Rattle.txf_laws.proofs.offered.Tables.{same_id-equal, same_id-sym}
 use Rattle.txf_volume.proofs.OwnCounts.{counts-with, sum-in, sum-with}
 use Rattle.txf_volume.proofs.OwnTables.{own_changes-new, own_changes-other}
-use Rattle.txf_volume.proofs.Seen.{changes-own, has_made-own, made-append, over-in, own_changes-held}
+use Rattle.txf_volume.proofs.Seen.{changes-own, has_made-own, made-append, over-in, own_changes-held, seen-none, seen-some}
 use Rattle.txf_volume.proofs.Steady.{few-counted, names-own}
 use Rattle.txf_volume.proofs.TransactedParts.{overlay-with}
 
@@ -278,6 +280,14 @@ made-there (d ∷ cs) c make = ap (λ b. (is_make d && node_of d == node_of c) |
     or-true true = refl
     or-true false = refl
 
+-- a change can be made over the same bytes of its file
+over-same : (old new : ℕ → List ℕ) (c : Change) → old (node_of c) ≡ new (node_of c) → CanBeMadeOver old c → CanBeMadeOver new c
+over-same old new (Make node parent kind name) same can = tt
+over-same old new (Put node offset contents) same can = subst (λ bs. CanBePut bs offset (bytes_in contents)) same can
+over-same old new (Cut node size pages) same can = subst (λ (bs : List ℕ). size ≤ length bs) same can
+over-same old new (Move node parent name) same can = tt
+over-same old new (Drop node) same can = tt
+
 -- ---- the files
 
 module _ (h : FilesHeld) (units : ℕ) (counts : Counts) (tied : AreTied h units counts) (law : OwnFormLaw) (id : Id) (c : Change) (fixed : List ℕ) (file : ℕ) (of_it : file ≡ node_of c)
@@ -301,6 +311,19 @@ module _ (h : FilesHeld) (units : ℕ) (counts : Counts) (tied : AreTied h units
 
   pub seen-is : tree_seen (files_of h) (Some id) ≡ seen (tree_of h.tree) old
   seen-is = ap (λ cs. changed_all (tree_of h.tree) (names_of cs)) old-is ∙ ap (changed_all (tree_of h.tree)) (names-own old old-own)
+
+  -- what the transaction sees of the file
+  seen-over : bytes_seen (files_of h) (Some id) (node_of c) ≡ bytes_over old fixed (node_of c)
+  seen-over = go (overlay_in h.overlays id) refl
+    where
+      go : (now : Option OverlayState) → overlay_in h.overlays id ≡ now → bytes_seen (files_of h) (Some id) (node_of c) ≡ bytes_over (or_unchanged now) fixed (node_of c)
+      go None is = seen-none h id (node_of c) is ∙ sym fixed_is
+      go (Some o) is =
+          seen-some h id (node_of c) o is (over-in (tree_of h.tree) h.overlays id o tied.over is).own
+          ∙ ap (λ bs. bytes_or (if has_made o.names (node_of c) then [] else bs) (bytes_at o.written (node_of c))) (sym fixed_is)
+
+  pub units-over : CanBeMadeOver (bytes_seen (files_of h) (Some id)) c → CanBeMadeOver (bytes_over old fixed) c
+  units-over can = over-same (bytes_seen (files_of h) (Some id)) (bytes_over old fixed) c seen-over can
 
   -- the bytes from which files start
   abbrev first : ℕ → List ℕ

@@ -10,14 +10,15 @@ use Rattle.ktm_world.specs.Transactions.{same_id}
 use Rattle.ktm_world.specs.Tree.{Tree, IsWellFormed}
 use Rattle.txf_laws.proofs.offered.Tables.{same_id-from}
 use Rattle.txf_overlay.specs.Laws.{written_with}
-use Rattle.txf_overlay.specs.Written.{total_units}
+use Rattle.txf_overlay.specs.Written.{bytes_at, bytes_or, total_units}
 use Rattle.txf_overlay.specs.Nodes.{last_of}
 use Rattle.txf_overlay.specs.OverlayState.{OverlayState, is_of_names}
 use Rattle.txf_overlay.specs.Views.{StandsOver, last_seat, seat_at, seats_of}
 use Rattle.txf_reserve.specs.ReserveState.{ReserveState}
+use Rattle.txf_tree.specs.UnitChanges.{CanBeMadeOver}
 use Rattle.txf_volume.specs.Held.{OwnHeld, overlay_in}
 use Rattle.txf_volume.specs.declared.counts.Counted.{Counted}
-use Rattle.txf_volume.specs.OwnParts.{HoldsChange, IsChanged, IsChangedIn, IsCounted, IsPlace, bare, bare_own, counts_of, or_unchanged, owners, unchanged, with_overlay, written_next}
+use Rattle.txf_volume.specs.OwnParts.{HoldsChange, IsChanged, IsChangedIn, IsCounted, IsPlace, bare, bare_own, bytes_over, counts_of, or_unchanged, owners, unchanged, with_overlay, written_next}
 
 -- ---- a node that is seen
 
@@ -50,6 +51,11 @@ changed-from tree fixed id c o p o' r r' names written is = record {
 
 pub few-new : (o : OverlayState) (fixed : List ℕ) (c : Change) → o.names ≡ [] → o.written ≡ [] → total_units (written_next unchanged fixed c) < 2 ^ 64 → total_units (written_next o fixed c) < 2 ^ 64
 few-new o fixed c names written few = subst (λ n. n < 2 ^ 64) (sym (λ i. total_units (written_with (λ file. if has_made (names i) file then [] else fixed) (written i) c))) few
+
+-- and so do the bytes of files that it sees
+pub units-from : (o p : OverlayState) (fixed : List ℕ) (c : Change) → o.names ≡ p.names → o.written ≡ p.written → CanBeMadeOver (bytes_over p fixed) c → CanBeMadeOver (bytes_over o fixed) c
+units-from o p fixed c names written can =
+    subst (λ (bytes : ℕ → List ℕ). CanBeMadeOver bytes c) (sym (λ i file. bytes_or (if has_made (names i) file then [] else fixed) (bytes_at (written i) file))) can
 
 pub bare-same : (o o' : OverlayState) → o'.names ≡ o.names → o'.held ≡ o.held → o'.written ≡ o.written → bare o' ≡ bare o
 bare-same o o' names held written = λ i. record { names = names i; held = held i; written = written i; spare = 0 }

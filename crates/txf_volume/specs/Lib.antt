@@ -5,6 +5,7 @@ pub mod Ties
 pub mod Transacted
 pub mod OwnParts
 pub mod Making
+pub mod Pages
 pub mod Plain
 pub mod Restoring
 pub mod Shown

@@ -10,7 +10,8 @@ use Rattle.ktm_world.specs.Tree.{Tree}
 use Rattle.txf_overlay.specs.Laws.{written_with}
 use Rattle.txf_overlay.specs.OverlayState.{OverlayState, Written, is_of_names, seen}
 use Rattle.txf_overlay.specs.Views.{StandsOver}
-use Rattle.txf_overlay.specs.Written.{total_units}
+use Rattle.txf_overlay.specs.Written.{bytes_at, bytes_or, total_units}
+use Rattle.txf_tree.specs.UnitChanges.{CanBeMadeOver}
 use Rattle.txf_reserve.specs.ReserveState.{ReserveState, HoldsToo}
 use Rattle.txf_volume.specs.declared.counts.Counted.{Counted}
 use Rattle.txf_volume.specs.declared.counts.Counts.{Counts}
@@ -67,6 +68,10 @@ pub record IsCounted (overlays overlays' : List OwnHeld) (id : Id) (counted : Co
 abbrev pub starts : OverlayState → List ℕ → ℕ → List ℕ
 starts o fixed file = if has_made o.names file then [] else fixed
 
+-- the bytes of a file that the transaction sees
+abbrev pub bytes_over : OverlayState → List ℕ → ℕ → List ℕ
+bytes_over o fixed file = bytes_or (starts o fixed file) (bytes_at o.written file)
+
 -- the files that are written once a change is made
 abbrev pub written_next : OverlayState → List ℕ → Change → List Written
 written_next o fixed c = written_with (starts o fixed) o.written c
@@ -75,10 +80,11 @@ written_next o fixed c = written_with (starts o fixed) o.written c
 abbrev pub HoldsChange : Tree → Change → Id → ReserveState → ReserveState → Type 0
 HoldsChange tree c id r r' = HoldsToo (node_of c ∷ []) (places_of tree c) (dropped_directory tree c) (list_any (λ node. true) (moved_directory tree c)) id r r'
 
--- a change of a transaction applies to what that sees, and leaves files whose units can be counted; all that was changed stands over the tree
+-- a change of a transaction applies to what that sees, can be made unit by unit, and leaves files whose units can be counted; all that was changed stands over the tree
 pub record CanChange (tree : Tree) (fixed : List ℕ) (id : Id) (c : Change) (os : List OwnHeld) : Type 0 where
   pub over : All (λ o. IsOver tree o.overlay) os
   pub applies : applies (seen tree (or_unchanged (overlay_in os id))) c ≡ true
+  pub units : CanBeMadeOver (bytes_over (or_unchanged (overlay_in os id)) fixed) c
   pub few : total_units (written_next (or_unchanged (overlay_in os id)) fixed c) < 2 ^ 64
 
 -- a transaction has made a change, and holds it

@@ -1,15 +1,16 @@
 -- The files that a transaction wrote, as they are recorded.
-use Rattle.std.specs.Prelude.{◌≡◌, ℕ, Bool, true, false, List, [], ◌∷◌, map, nat_lt, Option, Some, None, if◌then◌else◌}
+use Rattle.std.specs.Prelude.{◌≡◌, ℕ, Bool, true, false, List, [], ◌∷◌, length, map, nat_lt, Option, Some, None, if◌then◌else◌}
 use Rattle.std.specs.List.{list_all}
 use Rattle.std.proofs.Common.{refl}
 use Rattle.std.proofs.lemmas.Bool.{and_parts, ltb-true}
 use Rattle.ktm_event.specs.Work.{AreAbove, AreRising, FinalFile}
 use Rattle.txf_laws.specs.Elements.{each_pair}
 use Rattle.txf_overlay.specs.OverlayState.{OverlayState, Written}
+use Rattle.txf_overlay.specs.Pages.{pages_in}
 
--- a file with all of its bytes
+-- a file with the pages of all of its bytes
 abbrev pub recorded_file : Written → FinalFile
-recorded_file w = record { file = w.file; bytes = w.bytes }
+recorded_file w = record { file = w.file; len = length w.bytes; pages = pages_in w.bytes }
 
 -- the files of what a transaction changed, if it changed anything
 abbrev pub recorded_files : Option OverlayState → List FinalFile

@@ -10,7 +10,8 @@ ghost use Rattle.txf_volume.specs.Held.{files_of};
 
 use crate::change::units_in;
 use crate::files::{Files, end_version, law_of_older};
-use ktm_base::{Bytes, Id};
+use ktm_base::Id;
+use ktm_content::Placed;
 use ktm_types::Change;
 use txf_laws::law_of_forms;
 use txf_overlay::{Overlay, WrittenFile, law_of_other_trees};
@@ -18,7 +19,7 @@ use txf_tree::{Tree, node_of};
 use txf_versions::Versions;
 
 // The units of these bytes.
-fn units_of(bytes: &Bytes) -> u128
+fn units_of(bytes: &Placed) -> u128
     ensures units { result ≡ units_of bytes.now }
     ensures few { result < 2 ^ 66 }
 {

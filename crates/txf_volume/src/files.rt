@@ -1,7 +1,6 @@
 // The files in memory.
-ghost use Rattle.std.specs.Prelude.{◌≡◌, ◌+◌, ◌<◌, ◌^◌, [], IfSome, None, Some, find, length, true};
+ghost use Rattle.std.specs.Prelude.{◌≡◌, ◌+◌, ◌<◌, ◌^◌, [], IfSome, None, Some, find, true};
 ghost use Rattle.std.specs.Option.{option_copied};
-ghost use Rattle.ktm_base.specs.Reading.{IsRead};
 ghost use Rattle.ktm_world.specs.Files.{bytes_seen, first_open_of, fixed_bytes};
 ghost use Rattle.ktm_world.specs.Tree.{units_of, IsWellFormed};
 ghost use Rattle.txf_tree.specs.TreeState.{tree_of, versions_of};
@@ -13,7 +12,8 @@ ghost use Rattle.txf_volume.specs.Held.{files_begun, files_of, overlay_in, tree_
 
 use crate::counts::Counts;
 use crate::own::Overlays;
-use ktm_base::{Bytes, Id, NoMemory, read_at};
+use ktm_base::Id;
+use ktm_content::{Placed, PlacedRef};
 use std::alloc::Global;
 use std::marker::Model;
 use txf_opens::Opens;
@@ -72,40 +72,17 @@ pub(crate) fn law_of_older(versions: &Versions)
 }
 
 // The bytes of a version of a file.
-fn version_bytes<'a>(tree: &'a Tree, versions: &'a Versions, file: u64, version: u64) -> &'a [u8]
-    ensures { result.now ≡ version_bytes (tree_of tree.now) versions.now.older file version }
+fn version_bytes<'a>(
+    tree: &'a Tree,
+    versions: &'a Versions,
+    file: u64,
+    version: u64,
+) -> PlacedRef<'a>
+    ensures { result ≡ version_bytes (tree_of tree.now) versions.now.older file version }
 {
     match versions.older_bytes(file, version) {
         Some(bytes) => bytes,
         None => tree.content(file),
-    }
-}
-
-// How many bytes a version of a file has.
-fn version_size(tree: &Tree, versions: &Versions, file: u64, version: u64) -> u64
-    ensures { result ≡ length (version_bytes (tree_of tree.now) versions.now.older file version) }
-{
-    match versions.older_size(file, version) {
-        Some(size) => size,
-        None => tree.size(file),
-    }
-}
-
-// Puts at most so many bytes of a version of a file, from the offset on, behind those that are there.
-fn read_version(
-    tree: &Tree,
-    versions: &Versions,
-    file: u64,
-    version: u64,
-    offset: u64,
-    most: u64,
-    onto: &mut Vec<u8>,
-) -> Result<(), NoMemory>
-    ensures { IsRead (version_bytes (tree_of tree.now) versions.now.older file version) offset most onto.old onto.new result }
-{
-    match versions.read_older(file, version, offset, most, onto) {
-        Some(read) => read,
-        None => tree.read(file, offset, most, onto),
     }
 }
 
@@ -115,8 +92,8 @@ pub(crate) fn fixed_bytes<'a>(
     versions: &'a Versions,
     transaction: Id,
     file: u64,
-) -> &'a [u8]
-    ensures { (h : FilesHeld) → h.tree ≡ tree.now → h.versions ≡ versions.now → result.now ≡ fixed_bytes (files_of h) file (first_open_of (files_of h).first_opens transaction file) }
+) -> PlacedRef<'a>
+    ensures { (h : FilesHeld) → h.tree ≡ tree.now → h.versions ≡ versions.now → result ≡ fixed_bytes (files_of h) file (first_open_of (files_of h).first_opens transaction file) }
 {
     match versions.first_open(transaction, file) {
         Some(version) => version_bytes(tree, versions, file, version),
@@ -124,36 +101,8 @@ pub(crate) fn fixed_bytes<'a>(
     }
 }
 
-// How many bytes a transaction found in a file as it first opened it, or else how many are committed.
-fn fixed_size(tree: &Tree, versions: &Versions, transaction: Id, file: u64) -> u64
-    ensures { (h : FilesHeld) → h.tree ≡ tree.now → h.versions ≡ versions.now → result ≡ length (fixed_bytes (files_of h) file (first_open_of (files_of h).first_opens transaction file)) }
-{
-    match versions.first_open(transaction, file) {
-        Some(version) => version_size(tree, versions, file, version),
-        None => tree.size(file),
-    }
-}
-
-// Puts at most so many of those bytes, from the offset on, behind those that are there.
-fn read_fixed(
-    tree: &Tree,
-    versions: &Versions,
-    transaction: Id,
-    file: u64,
-    offset: u64,
-    most: u64,
-    onto: &mut Vec<u8>,
-) -> Result<(), NoMemory>
-    ensures { (h : FilesHeld) → h.tree ≡ tree.now → h.versions ≡ versions.now → IsRead (fixed_bytes (files_of h) file (first_open_of (files_of h).first_opens transaction file)) offset most onto.old onto.new result }
-{
-    match versions.first_open(transaction, file) {
-        Some(version) => read_version(tree, versions, file, version, offset, most, onto),
-        None => tree.read(file, offset, most, onto),
-    }
-}
-
 /// Keeps the bytes of a version that is no longer the last one, where somebody first opened it.
-pub(crate) fn end_version(versions: &mut Versions, file: u64, version: u64, bytes: Bytes)
+pub(crate) fn end_version(versions: &mut Versions, file: u64, version: u64, bytes: Placed)
     requires absent { is_pinned versions.old.opens file version ≡ true → find (is_version file version) versions.old.older ≡ None }
     requires few { is_pinned versions.old.opens file version ≡ true → older_units versions.old.older + units_of bytes < 2 ^ 64 }
     ensures { IsEnded versions.old versions.new file version bytes }
@@ -200,81 +149,26 @@ impl Files {
         self.overlays.of(transaction)
     }
 
-    // How many bytes a file has that a transaction sees where it has changed something.
-    fn size_over(&self, overlay: &Overlay, transaction: Id, file: u64) -> u64
+    // The bytes of a file that a transaction sees where it has changed something.
+    fn bytes_over<'a>(&'a self, overlay: &'a Overlay, transaction: Id, file: u64) -> PlacedRef<'a>
         requires there { overlay_in self.now.overlays transaction ≡ Some overlay.now }
         requires own { IsOwn overlay.now }
-        ensures { result ≡ length (bytes_seen (files_of self.now) (Some transaction) file) }
+        ensures { result ≡ bytes_seen (files_of self.now) (Some transaction) file }
     {
-        match overlay.size(file) {
-            Some(size) => size,
-            None if overlay.has_made(file) => 0,
-            None => fixed_size(&self.tree, &self.versions, transaction, file),
+        match overlay.bytes(file) {
+            Some(bytes) => bytes,
+            None if overlay.has_made(file) => PlacedRef::none(),
+            None => fixed_bytes(&self.tree, &self.versions, transaction, file),
         }
     }
 
-    // How many bytes a file has that a transaction sees.
-    pub(crate) fn size_in(&self, transaction: Id, file: u64) -> u64
-        ensures { result ≡ length (bytes_seen (files_of self.now) (Some transaction) file) }
+    // The bytes of a file that a transaction sees.
+    pub(crate) fn bytes_in(&self, transaction: Id, file: u64) -> PlacedRef<'_>
+        ensures { result ≡ bytes_seen (files_of self.now) (Some transaction) file }
     {
         match self.overlay(transaction) {
-            Some(overlay) => self.size_over(overlay, transaction, file),
-            None => fixed_size(&self.tree, &self.versions, transaction, file),
-        }
-    }
-
-    // Puts at most so many bytes of a file that a transaction sees where it has changed something, from the offset on,
-    // behind those that are there.
-    fn read_over(
-        &self,
-        overlay: &Overlay,
-        transaction: Id,
-        file: u64,
-        offset: u64,
-        most: u64,
-        onto: &mut Vec<u8>,
-    ) -> Result<(), NoMemory>
-        requires there { overlay_in self.now.overlays transaction ≡ Some overlay.now }
-        requires own { IsOwn overlay.now }
-        ensures { IsRead (bytes_seen (files_of self.now) (Some transaction) file) offset most onto.old onto.new result }
-    {
-        match overlay.read(file, offset, most, onto) {
-            Some(read) => read,
-            None if overlay.has_made(file) => read_at(&[], offset, most, onto),
-            None => read_fixed(
-                &self.tree,
-                &self.versions,
-                transaction,
-                file,
-                offset,
-                most,
-                onto,
-            ),
-        }
-    }
-
-    // Puts at most so many bytes of a file that a transaction sees, from the offset on, behind those that are there.
-    pub(crate) fn read_in(
-        &self,
-        transaction: Id,
-        file: u64,
-        offset: u64,
-        most: u64,
-        onto: &mut Vec<u8>,
-    ) -> Result<(), NoMemory>
-        ensures { IsRead (bytes_seen (files_of self.now) (Some transaction) file) offset most onto.old onto.new result }
-    {
-        match self.overlay(transaction) {
-            Some(overlay) => self.read_over(overlay, transaction, file, offset, most, onto),
-            None => read_fixed(
-                &self.tree,
-                &self.versions,
-                transaction,
-                file,
-                offset,
-                most,
-                onto,
-            ),
+            Some(overlay) => self.bytes_over(overlay, transaction, file),
+            None => fixed_bytes(&self.tree, &self.versions, transaction, file),
         }
     }
 }

@@ -14,6 +14,7 @@ mod limits;
 mod names;
 mod own;
 mod own_change;
+mod pages;
 mod participant;
 mod plain;
 mod recorded;

@@ -118,7 +118,7 @@ impl Files {
         ensures { (o : FileOutcome) → o.change ≡ Some change.now → opens_file (tree_of self.now.tree) o.first ≡ true → result ≡ units_used (files_after (files_of self.now) (Some transaction) o) }
     {
         let file = node_of(change);
-        let added = gain(self.size_in(transaction, file), change);
+        let added = gain(self.bytes_in(transaction, file).len(), change);
         self.units_used() + added - loss(self.own_size(transaction, file), change)
     }
 

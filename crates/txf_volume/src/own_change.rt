@@ -9,14 +9,16 @@ ghost use Rattle.txf_overlay.specs.Views.{StandsOver};
 ghost use Rattle.txf_overlay.specs.Written.{total_units, HasBytes};
 ghost use Rattle.txf_reserve.specs.Acts.{listed};
 ghost use Rattle.txf_tree.specs.TreeState.{tree_of};
+ghost use Rattle.txf_tree.specs.UnitChanges.{CanBeMadeOver};
 ghost use Rattle.txf_volume.specs.Held.{overlay_in};
-ghost use Rattle.txf_volume.specs.OwnParts.{bare, bare_own, counts_of, owners, starts, unchanged, written_next, CanChange, IsChanged, IsChangedIn, IsCounted, IsPlace};
+ghost use Rattle.txf_volume.specs.OwnParts.{bare, bare_own, bytes_over, counts_of, owners, starts, unchanged, written_next, CanChange, IsChanged, IsChangedIn, IsCounted, IsPlace};
 ghost use Rattle.txf_volume.specs.Transacted.{CanAdd, IsWithin};
 
 use crate::counts::{Counted, Counts};
 use crate::holding::{hold_dropped, hold_file, hold_made, hold_moved};
 use crate::own::{Overlays, Own};
 use ktm_base::{Id, NoMemory, Text};
+use ktm_content::PlacedRef;
 use ktm_types::{Change, Contents, NodeKind};
 use txf_durable::{is_file_seen, place_seen};
 use txf_laws::law_of_forms;
@@ -26,10 +28,14 @@ use txf_reserve::Reserve;
 use txf_tree::{Tree, bytes_in};
 
 // The bytes from which changes of a file start.
-fn starts<'a>(overlay: &Overlay, fixed: &'a [u8], file: u64) -> &'a [u8]
-    ensures { result.now ≡ starts overlay.now fixed.now file }
+fn starts<'a>(overlay: &Overlay, fixed: PlacedRef<'a>, file: u64) -> PlacedRef<'a>
+    ensures { result ≡ starts overlay.now fixed.entry file }
 {
-    if overlay.has_made(file) { &[] } else { fixed }
+    if overlay.has_made(file) {
+        PlacedRef::none()
+    } else {
+        fixed
+    }
 }
 
 // Puts bytes of a file, which then is held.
@@ -37,14 +43,15 @@ fn put(
     reserve: &mut Reserve,
     overlay: &mut Overlay,
     transaction: Id,
-    fixed: &[u8],
+    fixed: PlacedRef<'_>,
     node: u64,
     offset: u64,
     contents: &Contents,
 ) -> Result<(), NoMemory>
     requires spare { 0 < reserve.old.spare }
-    requires few { total_units (written_next overlay.old fixed.now (Put node offset contents.now)) < 2 ^ 64 }
-    ensures ok { OnOk result ((tree : Nodes) → StandsOver tree overlay.old → IsChanged tree fixed.now transaction (Put node offset contents.now) overlay.old overlay.new reserve.old reserve.new) }
+    requires units { CanBeMadeOver (bytes_over overlay.old fixed) (Put node offset contents.now) }
+    requires few { total_units (written_next overlay.old fixed (Put node offset contents.now)) < 2 ^ 64 }
+    ensures ok { OnOk result ((tree : Nodes) → StandsOver tree overlay.old → IsChanged tree fixed.entry transaction (Put node offset contents.now) overlay.old overlay.new reserve.old reserve.new) }
     ensures err { OnErr result (bare overlay.new ≡ bare overlay.old) }
     ensures same { OnErr result (reserve.new ≡ reserve.old) }
     ensures enough { HasBytes overlay.old.written node (offset + length (bytes_in contents.now)) → IsOk result }
@@ -62,13 +69,14 @@ fn cut(
     reserve: &mut Reserve,
     overlay: &mut Overlay,
     transaction: Id,
-    fixed: &[u8],
+    fixed: PlacedRef<'_>,
     node: u64,
     size: u64,
 ) -> Result<(), NoMemory>
     requires spare { 0 < reserve.old.spare }
-    requires few { (pages : List ℕ) → total_units (written_next overlay.old fixed.now (Cut node size pages)) < 2 ^ 64 }
-    ensures ok { OnOk result ((tree : Nodes) (pages : List ℕ) → StandsOver tree overlay.old → IsChanged tree fixed.now transaction (Cut node size pages) overlay.old overlay.new reserve.old reserve.new) }
+    requires shorter { size ≤ length (bytes_over overlay.old fixed node) }
+    requires few { (pages : List ℕ) → total_units (written_next overlay.old fixed (Cut node size pages)) < 2 ^ 64 }
+    ensures ok { OnOk result ((tree : Nodes) (pages : List ℕ) → StandsOver tree overlay.old → IsChanged tree fixed.entry transaction (Cut node size pages) overlay.old overlay.new reserve.old reserve.new) }
     ensures err { OnErr result (bare overlay.new ≡ bare overlay.old) }
     ensures same { OnErr result (reserve.new ≡ reserve.old) }
     ensures enough { HasBytes overlay.old.written node size → IsOk result }
@@ -162,15 +170,16 @@ fn change_overlay(
     reserve: &mut Reserve,
     overlay: &mut Overlay,
     transaction: Id,
-    fixed: &[u8],
+    fixed: PlacedRef<'_>,
     change: Change,
 ) -> Result<(), NoMemory>
     requires spare { 0 < reserve.old.spare }
     requires room { 0 < overlay.old.spare }
     requires stands { StandsOver (tree_of tree.now) overlay.old }
     requires applies { applies (seen (tree_of tree.now) overlay.old) change ≡ true }
-    requires few { total_units (written_next overlay.old fixed.now change) < 2 ^ 64 }
-    ensures ok { OnOk result (IsChanged (tree_of tree.now) fixed.now transaction change overlay.old overlay.new reserve.old reserve.new) }
+    requires units { CanBeMadeOver (bytes_over overlay.old fixed) change }
+    requires few { total_units (written_next overlay.old fixed change) < 2 ^ 64 }
+    ensures ok { OnOk result (IsChanged (tree_of tree.now) fixed.entry transaction change overlay.old overlay.new reserve.old reserve.new) }
     ensures err { OnErr result (bare overlay.new ≡ bare overlay.old) }
     ensures same { OnErr result (reserve.new ≡ reserve.old) }
     ensures enough { IsWithin (Some overlay.old) change → IsOk result }
@@ -217,14 +226,15 @@ fn make_room_and_change(
     reserve: &mut Reserve,
     overlay: &mut Overlay,
     transaction: Id,
-    fixed: &[u8],
+    fixed: PlacedRef<'_>,
     change: Change,
 ) -> Result<Counted, NoMemory>
     requires spare { 0 < reserve.old.spare }
     requires stands { StandsOver (tree_of tree.now) overlay.old }
     requires applies { applies (seen (tree_of tree.now) overlay.old) change ≡ true }
-    requires few { total_units (written_next overlay.old fixed.now change) < 2 ^ 64 }
-    ensures ok { OnOk result (IsChanged (tree_of tree.now) fixed.now transaction change overlay.old overlay.new reserve.old reserve.new) }
+    requires units { CanBeMadeOver (bytes_over overlay.old fixed) change }
+    requires few { total_units (written_next overlay.old fixed change) < 2 ^ 64 }
+    ensures ok { OnOk result (IsChanged (tree_of tree.now) fixed.entry transaction change overlay.old overlay.new reserve.old reserve.new) }
     ensures err { OnErr result (bare overlay.new ≡ bare overlay.old) }
     ensures same { OnErr result (reserve.new ≡ reserve.old) }
     ensures before { IfOk result (λ counted. counted.before ≡ counts_of overlay.old) }
@@ -251,13 +261,13 @@ fn change_at(
     entries: &mut Vec<Own>,
     place: usize,
     transaction: Id,
-    fixed: &[u8],
+    fixed: PlacedRef<'_>,
     change: Change,
 ) -> Result<Counted, NoMemory>
     requires spare { 0 < reserve.old.spare }
     requires place { IsPlace entries.old.items transaction place }
-    requires can { CanChange (tree_of tree.now) fixed.now transaction change entries.old.items }
-    ensures ok { OnOk result (IsChangedIn (tree_of tree.now) fixed.now transaction change entries.old.items entries.new.items reserve.old reserve.new) }
+    requires can { CanChange (tree_of tree.now) fixed transaction change entries.old.items }
+    ensures ok { OnOk result (IsChangedIn (tree_of tree.now) fixed.entry transaction change entries.old.items entries.new.items reserve.old reserve.new) }
     ensures counted { IfOk result (IsCounted entries.old.items entries.new.items transaction) }
     ensures err { OnErr result (map bare_own entries.new.items ≡ map bare_own entries.old.items) }
     ensures same { OnErr result (reserve.new ≡ reserve.old) }
@@ -275,15 +285,16 @@ impl Overlays {
         tree: &Tree,
         reserve: &mut Reserve,
         transaction: Id,
-        fixed: &[u8],
+        fixed: PlacedRef<'_>,
         change: Change,
     ) -> Result<Counted, NoMemory>
         requires spare { 0 < reserve.old.spare }
         requires first { overlay_in self.old transaction ≡ None }
         requires formed { IsWellFormed (tree_of tree.now) }
         requires applies { applies (tree_of tree.now) change ≡ true }
-        requires few { total_units (written_next unchanged fixed.now change) < 2 ^ 64 }
-        ensures ok { OnOk result (IsChangedIn (tree_of tree.now) fixed.now transaction change self.old self.new reserve.old reserve.new) }
+        requires units { CanBeMadeOver (bytes_over unchanged fixed) change }
+        requires few { total_units (written_next unchanged fixed change) < 2 ^ 64 }
+        ensures ok { OnOk result (IsChangedIn (tree_of tree.now) fixed.entry transaction change self.old self.new reserve.old reserve.new) }
         ensures counted { IfOk result (IsCounted self.old self.new transaction) }
         ensures err { OnErr result (self.new ≡ self.old) }
         ensures same { OnErr result (reserve.new ≡ reserve.old) }
@@ -316,13 +327,13 @@ impl Overlays {
         tree: &Tree,
         reserve: &mut Reserve,
         transaction: Id,
-        fixed: &[u8],
+        fixed: PlacedRef<'_>,
         change: Change,
     ) -> Result<Counted, NoMemory>
         requires spare { 0 < reserve.old.spare }
         requires formed { IsWellFormed (tree_of tree.now) }
-        requires can { CanChange (tree_of tree.now) fixed.now transaction change self.old }
-        ensures ok { OnOk result (IsChangedIn (tree_of tree.now) fixed.now transaction change self.old self.new reserve.old reserve.new) }
+        requires can { CanChange (tree_of tree.now) fixed transaction change self.old }
+        ensures ok { OnOk result (IsChangedIn (tree_of tree.now) fixed.entry transaction change self.old self.new reserve.old reserve.new) }
         ensures counted { IfOk result (IsCounted self.old self.new transaction) }
         ensures err { OnErr result (map bare_own self.new ≡ map bare_own self.old) }
         ensures same { OnErr result (reserve.new ≡ reserve.old) }

@@ -1,5 +1,5 @@
 // What a plain call makes of the files, in two steps: it takes its memory, and once its change is recorded it is made.
-ghost use Rattle.std.specs.Prelude.{◌≡◌, ◌+◌, ◌-◌, ◌<◌, ◌^◌, ℕ, ◌≤◌, None, Some, All, IfOk, IsOk, OnOk, is_some, sum_by, true, if◌then◌else◌};
+ghost use Rattle.std.specs.Prelude.{◌≡◌, ◌+◌, ◌-◌, ◌<◌, ◌^◌, ℕ, ◌≤◌, None, Some, All, IfOk, IfSome, IsOk, OnOk, is_some, sum_by, true, if◌then◌else◌};
 ghost use Rattle.std.specs.Option.{option_map};
 ghost use Rattle.ktm_world.specs.Changes.{applies, changed, changes_bytes, next_after, node_of};
 ghost use Rattle.ktm_world.specs.Committed.{version_of, versions_after};
@@ -8,6 +8,7 @@ ghost use Rattle.ktm_world.specs.Tree.{is_file, numbers_rise};
 ghost use Rattle.txf_opens.specs.Acts.{open_of};
 ghost use Rattle.txf_opens.specs.declared.file.OpenFile.{OpenFile as Kept};
 ghost use Rattle.txf_tree.specs.TreeState.{fits, takes, tree_of, versions_of};
+ghost use Rattle.txf_tree.specs.UnitChanges.{CanBeMade};
 ghost use Rattle.txf_versions.specs.VersionsState.{is_pinned};
 ghost use Rattle.txf_volume.specs.Held.{files_of, names_held, tree_units};
 ghost use Rattle.txf_laws.specs.FileEffects.{IsPlain, IsPlainChange, IsPlainOpen, LeavesOwn, CanBeCounted};
@@ -16,7 +17,8 @@ ghost use Rattle.txf_volume.specs.Ties.{IsKeptOpen};
 
 use crate::change::{gain, loss};
 use crate::files::{Files, end_version, law_of_older};
-use ktm_base::{Bytes, NoMemory};
+use ktm_base::NoMemory;
+use ktm_content::Placed;
 use ktm_types::Change;
 use std::alloc::Global;
 use std::marker::Model;
@@ -27,10 +29,11 @@ use txf_overlay::law_of_other_trees;
 use txf_tree::{Tree, changes_bytes, next_after, node_of};
 use txf_versions::Versions;
 
-/// A plain call for which the memory is there: a copy of the bytes that its change ends, where they have to be kept.
+/// A plain call for which the memory is there: a copy of the content that its change ends, on the same pages, where it has
+/// to be kept.
 #[derive(Drop)]
 pub struct Ready {
-    kept: Option<Bytes>,
+    kept: Option<Placed>,
 }
 
 impl Model for Ready {
@@ -54,8 +57,9 @@ fn units_after(tree: &Tree, units: u64, change: &Change) -> u64
 }
 
 // Makes a change, and keeps the bytes that it ends, where somebody first opened them.
-fn apply(tree: &mut Tree, versions: &mut Versions, change: Change, copy: Option<Bytes>)
+fn apply(tree: &mut Tree, versions: &mut Versions, change: Change, copy: Option<Placed>)
     requires does_apply { applies (tree_of tree.old) change ≡ true }
+    requires units { CanBeMade (tree_of tree.old) change }
     requires fits { fits tree.old change ≡ true }
     requires few { version_of (versions_of tree.old) (node_of change) < 2 ^ 64 - 2 }
     requires opened { All (IsKeptOpen tree.old versions.old.older) versions.old.opens }
@@ -92,7 +96,7 @@ fn prepare_beside(tree: &mut Tree, waiting: u64, change: &Change) -> Result<(), 
     }
 }
 
-// A copy of the bytes that a change ends, where they have to be kept and are not handed out by it.
+// A copy of the content that a change ends, where it has to be kept and is not handed out by it.
 fn copy_for(
     alloc: Global,
     tree: &Tree,
@@ -106,17 +110,15 @@ fn copy_for(
     if !changes_bytes(change) || !versions.is_pinned(file, tree.version(file)) {
         return Ok(Ready { kept: None });
     }
-    match tree.content(file).to_vec(alloc) {
-        Ok(bytes) => Ok(Ready {
-            kept: Some(Bytes::new(bytes)),
-        }),
-        Err(_) => Err(NoMemory),
-    }
+    let content = tree.content(file).copy(alloc)?;
+    Ok(Ready {
+        kept: Some(Placed::new(content)),
+    })
 }
 
 impl Files {
-    /// Takes the memory that a plain call needs, and leaves to the changes that wait the room that they took. The bytes of a
-    /// file that it changes are copied where somebody first opened them, and else nothing is copied.
+    /// Takes the memory that a plain call needs, and leaves to the changes that wait the room that they took. The numbers
+    /// of the pages of a file that it changes are copied where somebody first opened it, and else nothing is copied.
     pub fn prepare(&mut self, plan: &Plan) -> Result<Ready, NoMemory>
         ensures same { files_of self.new ≡ files_of self.old }
         ensures ready { IfOk result (λ ready. IsReady self.new plan.now ready) }
@@ -142,8 +144,9 @@ impl Files {
     }
 
     // Makes the change of a plain call.
-    fn commit_plain(&mut self, change: Change, copy: Option<Bytes>)
+    fn commit_plain(&mut self, change: Change, copy: Option<Placed>)
         requires plain { IsPlainChange (files_of self.old) change }
+        requires can { CanBeMade (tree_of self.old.tree) change }
         requires fits { fits self.old.tree change ≡ true }
         requires room { sum_by names_held self.old.overlays + takes change ≤ self.old.tree.spare }
         requires copied { copy ≡ copied_for self.old.tree self.old.versions.opens change }
@@ -175,6 +178,7 @@ impl Files {
     /// Makes what a plain call comes to, once its change is recorded. It takes no memory.
     pub fn settle(&mut self, plan: Plan, ready: Ready)
         requires plain { IsPlain (files_of self.old) plan }
+        requires units { IfSome plan.change (CanBeMade (files_of self.old).tree) }
         requires ready { IsReady self.old plan ready }
         requires left { LeavesOwn (files_of self.old) (files_after (files_of self.old) None plan) }
         requires counted { CanBeCounted (files_after (files_of self.old) None plan) }

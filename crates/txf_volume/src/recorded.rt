@@ -1,5 +1,6 @@
-// What a transaction changed, as it is recorded: its changes of names, and the bytes of the files that it wrote.
+// What a transaction changed, as it is recorded: its changes of names, and the pages of the files that it wrote.
 ghost use Rattle.std.specs.Prelude.{◌≡◌, ◌<◌, ◌≤◌, ◌^◌, All, filter, true};
+ghost use Rattle.ktm_event.specs.OnPages.{AreEach, IsRecordedChange};
 ghost use Rattle.ktm_event.specs.Work.{changes_of};
 ghost use Rattle.ktm_world.specs.Changes.{has_changes, is_make, node_of};
 ghost use Rattle.ktm_world.specs.Durable.{next_after_all};
@@ -47,13 +48,19 @@ impl Files {
         }
     }
 
-    /// The files that the transaction wrote or made, by rising number, with all of their bytes, shown where they stand. With
-    /// what it made, moved and dropped they are its changes in the form in which they are recorded.
+    /// The files that the transaction wrote or made, by rising number, with the pages of all of their bytes, shown where they
+    /// stand. With what it made, moved and dropped they are its changes as they are recorded.
     pub fn written(&self, transaction: Id) -> Written<'_>
-        ensures { own_changes (files_of self.now).table.own transaction ≡ changes_of (filter is_of_names (own_changes (files_of self.now).table.own transaction)) (shown result) }
+        ensures { AreEach IsRecordedChange (own_changes (files_of self.now).table.own transaction) (changes_of (filter is_of_names (own_changes (files_of self.now).table.own transaction)) (shown result)) }
     {
-        Written {
-            overlay: self.overlay(transaction),
+        match self.overlay(transaction) {
+            Some(overlay) => {
+                overlay.law_of_files();
+                Written {
+                    overlay: Some(overlay),
+                }
+            }
+            None => Written::none(),
         }
     }
 

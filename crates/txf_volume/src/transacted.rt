@@ -5,9 +5,10 @@ ghost use Rattle.txf_laws.specs.OwnChange.{owned};
 ghost use Rattle.ktm_types.specs.declared.change.Change.{Change as Made};
 ghost use Rattle.ktm_world.specs.Changes.{applies};
 ghost use Rattle.ktm_world.specs.FileOutcome.{files_after};
-ghost use Rattle.ktm_world.specs.Files.{tree_seen};
+ghost use Rattle.ktm_world.specs.Files.{bytes_seen, tree_seen};
 ghost use Rattle.txf_opens.specs.Acts.{open_of};
 ghost use Rattle.txf_opens.specs.declared.file.OpenFile.{OpenFile as Kept};
+ghost use Rattle.txf_tree.specs.UnitChanges.{CanBeMadeOver};
 ghost use Rattle.txf_volume.specs.Held.{files_of};
 ghost use Rattle.txf_volume.specs.Restoring.{files_restored, CanBeRestored};
 ghost use Rattle.txf_laws.specs.FileEffects.{forgotten, IsNextOpen, IsNotOpened, IsPlanOf, CanBeCounted};
@@ -62,6 +63,7 @@ impl Files {
         requires spare { 0 < self.old.reserve.spare }
         requires tree { HasTreeRoom self.old (Some change) }
         requires applies { applies (tree_seen (files_of self.old) (Some transaction)) change ≡ true }
+        requires units { CanBeMadeOver (bytes_seen (files_of self.old) (Some transaction)) change }
         requires counted { CanBeCounted (owned (files_of self.old) transaction change) }
         ensures done { OnOk result (files_of self.new ≡ owned (files_of self.old) transaction change) }
         ensures same { OnErr result (files_of self.new ≡ files_of self.old) }
@@ -88,6 +90,7 @@ impl Files {
     // Takes the memory that a call needs. Then a change, if there is one, is the transaction's own and holds what it names.
     fn own_if(&mut self, transaction: Id, change: Option<Change>) -> Result<(), NoMemory>
         requires applies { (c : Made) → change ≡ Some c → applies (tree_seen (files_of self.old) (Some transaction)) c ≡ true }
+        requires units { (c : Made) → change ≡ Some c → CanBeMadeOver (bytes_seen (files_of self.old) (Some transaction)) c }
         requires counted { CanBeCounted (changed_by (files_of self.old) transaction change) }
         ensures done { OnOk result (files_of self.new ≡ changed_by (files_of self.old) transaction change) }
         ensures same { OnErr result (files_of self.new ≡ files_of self.old) }
@@ -160,7 +163,8 @@ impl Files {
     /// a file that it opens first is fixed at its last version; a file is open. Where memory fails, nothing has changed; a
     /// call finds the room that was left, and bytes over those that the transaction wrote take none.
     pub fn keep(&mut self, transaction: Id, plan: Plan) -> Result<(), NoMemory>
-        requires { IsPlanOf (files_of self.old) transaction plan }
+        requires plan { IsPlanOf (files_of self.old) transaction plan }
+        requires units { (c : Made) → plan.change ≡ Some c → CanBeMadeOver (bytes_seen (files_of self.old) (Some transaction)) c }
         ensures done { OnOk result (files_of self.new ≡ files_after (files_of self.old) (Some transaction) plan) }
         ensures same { OnErr result (files_of self.new ≡ files_of self.old) }
         ensures enough { HasRoom self.old → plan.change ≡ None → IsOk result }

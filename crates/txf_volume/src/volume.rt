@@ -4,6 +4,7 @@ ghost use Rattle.txf_volume.specs.Held.{files_of};
 use crate::files::Files;
 use crate::limits::lacks_handles;
 use ktm_base::{Id, NoMemory, Refusal, TextList};
+use ktm_content::PlacedRef;
 use ktm_names::Pattern;
 use std::alloc::Global;
 use txf_calls::{Plan, Room, Seen, Volume};
@@ -45,24 +46,10 @@ impl Volume for Files {
         listed_names(alloc, &entries)
     }
 
-    fn size(&self, who: Option<Id>, file: u64) -> u64 {
+    fn bytes(&self, who: Option<Id>, file: u64) -> PlacedRef<'_> {
         match who {
-            Some(transaction) => self.size_in(transaction, file),
-            None => self.tree.size(file),
-        }
-    }
-
-    fn read(
-        &self,
-        who: Option<Id>,
-        file: u64,
-        offset: u64,
-        most: u64,
-        onto: &mut Vec<u8>,
-    ) -> Result<(), NoMemory> {
-        match who {
-            Some(transaction) => self.read_in(transaction, file, offset, most, onto),
-            None => self.tree.read(file, offset, most, onto),
+            Some(transaction) => self.bytes_in(transaction, file),
+            None => self.tree.content(file),
         }
     }
 

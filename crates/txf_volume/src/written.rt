@@ -4,11 +4,11 @@ ghost use Rattle.std.specs.Option.{option_copied, option_map};
 ghost use Rattle.ktm_event.specs.Work.{final_file};
 ghost use Rattle.txf_volume.specs.Shown.{recorded_file, shown};
 
-use ktm_event::{FileBytes, WrittenFiles};
+use ktm_event::{FilePages, WrittenFiles};
 use std::marker::Model;
 use txf_overlay::{Overlay, WrittenFile};
 
-/// The files that a transaction wrote or made, by rising number, with all of their bytes, shown where they stand.
+/// The files that a transaction wrote or made, by rising number, with the pages of all of their bytes, shown where they stand.
 #[derive(Drop)]
 pub struct Written<'a> {
     // What it changed, if it changed anything.
@@ -38,13 +38,14 @@ impl<'a> Written<'a> {
 }
 
 // A file, if there is one, as it is shown.
-fn file_bytes(written: Option<&WrittenFile>) -> Option<FileBytes<'_>>
+fn file_pages(written: Option<&WrittenFile>) -> Option<FilePages<'_>>
     ensures { option_map final_file result ≡ option_map recorded_file (option_copied written.entry) }
 {
     match written {
-        Some(written) => Some(FileBytes {
+        Some(written) => Some(FilePages {
             file: written.file(),
-            bytes: written.bytes(),
+            len: written.bytes().len(),
+            pages: written.pages(),
         }),
         None => None,
     }
@@ -61,16 +62,16 @@ impl<'a> WrittenFiles for Written<'a> {
         self.first().is_none()
     }
 
-    fn first(&self) -> Option<FileBytes<'_>> {
+    fn first(&self) -> Option<FilePages<'_>> {
         match self.overlay {
-            Some(overlay) => file_bytes(overlay.written_from(0)),
+            Some(overlay) => file_pages(overlay.written_from(0)),
             None => None,
         }
     }
 
-    fn behind(&self, file: u64) -> Option<FileBytes<'_>> {
+    fn behind(&self, file: u64) -> Option<FilePages<'_>> {
         match self.overlay {
-            Some(overlay) => file_bytes(overlay.written_behind(file)),
+            Some(overlay) => file_pages(overlay.written_behind(file)),
             None => None,
         }
     }

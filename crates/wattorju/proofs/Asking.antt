@@ -1,20 +1,15 @@
 -- What a command that was answered leaves.
-use Rattle.std.proofs.Common.{◌≡◌, ◌⊎◌, ◌≤◌, true, Option, Result, Ok, Err, IfOk, OnErr, sym, ◌∙◌, ap, subst, inl, inr, arith}
-use Rattle.std.specs.Prelude.{IfSome}
+use Rattle.std.proofs.Common.{◌≡◌, ◌⊎◌, Option, Result, Ok, Err, IfOk, OnErr, sym, subst, inl, inr}
 use Rattle.ktm_base.specs.declared.fault.NoMemory.{NoMemory}
 use Rattle.ktm_base.specs.declared.refusal.Refusal.TheVariants.{MachineDown}
 use Rattle.ktm_base.specs.Disk.{DiskState, DiskStatus}
 use Rattle.ktm_forms.specs.Tells.{IsTold, RepliesLaw, Telling, tells}
-use Rattle.ktm_journal.specs.Image.{IsHeaded, JournalState}
 use Rattle.ktm_kernel.specs.Answers.{CallLeaves, IsAsItWas}
 use Rattle.ktm_kernel.specs.Stands.{IsReady, KernelState}
 use Rattle.ktm_log.specs.OnDisk.{OnDisk}
-use Rattle.ktm_slots.specs.Owed.{owed_slots}
-use Rattle.ktm_standing.specs.Standing.{IsStandingNow}
 use Rattle.ktm_types.specs.declared.command.Command.{Command}
 use Rattle.ktm_types.specs.declared.reply.Reply.{Reply}
 use Rattle.ktm_types.specs.declared.reply.Reply.TheVariants.{Refused}
-use Rattle.ktm_world.specs.Present.{Present}
 use Rattle.wattorju.specs.Calls.{own}
 
 -- a reply that is the outcome's, or says that the machine is down, is told where the outcome's is
@@ -27,23 +22,10 @@ pub asked_told : RepliesLaw → (command : Command) (old new : OnDisk KernelStat
 asked_told law command old new (Ok reply) leaves telling is = subst (λ t. IsTold reply t) is (says_told _ (tells command) (law old.it.now own command) reply leaves.says)
 asked_told law command old new (Err fault) leaves telling is = tt
 
--- a machine that holds what it held, with room for no fewer notifications
-ready_with : (old new : KernelState) (told : Option DiskState) (status : DiskStatus) → IsAsItWas old new → IsReady old told status → IsReady new told status
-ready_with old new told status same ready =
-    let was = λ (up : new.now.machine.is_up ≡ true). ap (λ (x : Present). x.machine.is_up) (sym same.now) ∙ up in
-    record {
-      powered = record {
-        power = λ up. ready.powered.power (was up);
-        settled = λ up. ready.powered.settled (was up);
-        image = λ up. subst (λ (j : JournalState). IfSome told (λ s. IsHeaded j.units j.image j.selector s.seen)) (sym same.journal) (ready.powered.image (was up));
-      };
-      standing = λ up. subst IsStandingNow (sym same.now) (ready.standing (was up));
-      slots = λ up. subst (λ (x : Present). owed_slots x ≤ new.slots) (sym same.now) (let before = ready.slots (was up) in omega (arith, before, same.slots));
-    }
-
+-- a machine that was ready is ready then
 pub asked_ready : (command : Command) (old new : OnDisk KernelState) (answer : Result Reply NoMemory) → CallLeaves own command old new answer → OnErr answer (IsAsItWas old.it new.it)
     → IsReady old.it old.told old.status → IsReady new.it new.told new.status
 asked_ready command old new (Ok reply) leaves same ready = leaves.ready
 asked_ready command old new (Err fault) leaves same ready =
     subst (λ (told : Option DiskState). IsReady new.it told new.status) (sym leaves.told)
-    (subst (λ (status : DiskStatus). IsReady new.it old.told status) (sym leaves.status) (ready_with old.it new.it old.told old.status same ready))
+    (subst (λ (status : DiskStatus). IsReady new.it old.told status) (sym leaves.status) (same.ready old.told old.status ready))

@@ -5,7 +5,7 @@ use Rattle.std.proofs.lemmas.Bool.Decides.{nat_tests}
 use Rattle.std.proofs.lemmas.Grind.{same_number_lists}
 use Rattle.std.proofs.lemmas.List.{drop-map, get_or-drop, get_or-map, get_or-take, length-map, map-append, take-map}
 use Rattle.ktm_page.specs.Row.{page_of}
-use Rattle.ktm_world.specs.Tree.{cut_to, put_over}
+use Rattle.ktm_content.specs.Contents.{cut_to, put_over}
 use Rattle.ktm_content.specs.Places.{LieOn, byte_at, places_of, places_on}
 use Rattle.ktm_content.proofs.offered.Placing.{get_or-places, get_or-places_on, length-places, length-places_on}
 

@@ -16,7 +16,8 @@ use Rattle.ktm_types.specs.declared.object.Phase.{Phase}
 use Rattle.ktm_types.specs.declared.object.Phase.TheVariants.{Active}
 use Rattle.ktm_types.specs.declared.object.Transaction.{Transaction}
 use Rattle.ktm_types.specs.declared.reply.Reply.TheVariants.{Done}
-use Rattle.ktm_world.specs.Decide.{caller, of_keys, events_of, of_files, bound_file, opening, on_file, transacted}
+use Rattle.ktm_world.specs.Decide.{caller, of_keys, events_of, of_files, bound_file, opening, on_file, on_file_tests, own_tests, transacted}
+use Rattle.ktm_world.specs.FileCalls.{write_file_tests, write_units_tests}
 use Rattle.ktm_world.specs.FileOutcome.{FileOutcome, own_after, table_after}
 use Rattle.ktm_world.specs.Files.{FilesNow, OwnChanges, OpenFile, own_changes, with_own_changes, changes_with}
 use Rattle.ktm_world.specs.KeyCalls.{KeyOutcome, with_setting}
@@ -25,6 +26,7 @@ use Rattle.ktm_world.specs.Labels.{holds_of, transaction_named, file_named, file
 use Rattle.ktm_world.specs.Present.{Present}
 use Rattle.ktm_world.specs.Transactions.{same_id, transaction_at, is_active}
 use Rattle.ktm_world.specs.Phases.{is_single_phase}
+use Rattle.ktm_world.specs.Uses.{file_room}
 use Rattle.txf_laws.specs.Elements.{IsIn}
 use Rattle.ktm_courses.specs.SoundCourse.{IsSoundCourse}
 use Rattle.txf_laws.proofs.offered.Tables.{same_id-equal, same_id-from}
@@ -165,6 +167,22 @@ file-active x process label o sound is passes = record {
 pub passes-left : (a b : List (Bool × Refusal)) → Passes (a ++ b) → Passes a
 passes-left [] b passes = record { none = refl }
 passes-left (test ∷ a) b passes = let first = passed passes in record { none = rw first.0 ((passes-left a b first.1).none) }
+
+-- of tests in a row the last ones
+pub passes-right : (a b : List (Bool × Refusal)) → Passes (a ++ b) → Passes b
+passes-right [] b passes = passes
+passes-right (test ∷ a) b passes = passes-right a b (passed passes).1
+
+-- what passes the tests of WriteFile passes those of a put of whole units
+pub units-pass : (x : Present) (process : Pid) (label : Label) (offset : ℕ) (bytes : List ℕ) → Passes (on_file_tests x process label (λ o. write_file_tests x.files (file_room x) o offset bytes))
+    → Passes (on_file_tests x process label (λ o. write_units_tests x.files (file_room x) o offset bytes))
+unfolding write_file_tests
+units-pass x process label offset bytes passes = go (file_named x process label) (file_tests x process label) passes
+  where
+    go : (o : Option OpenFile) (tests : List (Bool × Refusal)) → Passes (tests ++ own_tests o (λ o. write_file_tests x.files (file_room x) o offset bytes)) → Passes (tests ++ own_tests o (λ o. write_units_tests x.files (file_room x) o offset bytes))
+    go None tests passes' = passes'
+    go (Some o) [] passes' = (passed passes').1
+    go (Some o) (test ∷ tests) passes' = let first = passed passes' in record { none = rw first.0 ((go (Some o) tests first.1).none) }
 
 pub sound-on_file : (x : Present) (process : Pid) (label : Label) (call : OpenFile → FileOutcome) → IsSoundCourse x → Passes (file_tests x process label)
     → IsSoundOutcome x (on_file x (file_named x process label) call)

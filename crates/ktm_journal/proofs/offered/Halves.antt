@@ -6,13 +6,13 @@ use Rattle.ktm_log.proofs.Parts.{same_part}
 use Rattle.ktm_types.specs.Sizes.{area_len}
 use Rattle.ktm_journal.specs.declared.half.Half.{Half}
 use Rattle.ktm_journal.specs.declared.half.Half.TheVariants.{A, B}
-use Rattle.ktm_journal.specs.Image.{HasSnapshot, IsHeaded, half_at, image_len, log_area}
+use Rattle.ktm_journal.specs.Image.{HasSnapshot, IsHeaded, half_at, log_area, pages_at}
 
 pub half_low : (units : ℕ) (half : Half) → 4096 ≤ half_at units half
 half_low units A = omega arith
 half_low units B = omega arith
 
-pub half_high : (units : ℕ) (half : Half) → half_at units half + 2 * area_len units ≤ image_len units
+pub half_high : (units : ℕ) (half : Half) → half_at units half + 2 * area_len units ≤ pages_at units
 half_high units A = omega arith
 half_high units B = omega arith
 

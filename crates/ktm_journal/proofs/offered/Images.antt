@@ -4,16 +4,19 @@ use Rattle.std.proofs.Common.{◌≡◌, inl, inr, ℕ, ◌+◌, ◌<◌, Option
 use Rattle.ktm_base.specs.Disk.{DiskState, MayLeave}
 use Rattle.ktm_base.specs.Told.{Goes}
 use Rattle.ktm_base.proofs.offered.Images.{safe_law}
+use Rattle.ktm_base.proofs.offered.ToldSteps.{Goes-map}
 use Rattle.ktm_log.specs.declared.area.Area.{Area}
 use Rattle.ktm_log.specs.Log.{LogState, IsLog, Rests, LeavesEither, SameElsewhere, area_bytes}
 use Rattle.ktm_log.proofs.Parts.{not_covered}
 use Rattle.ktm_types.specs.Groups.{Group}
 use Rattle.ktm_types.specs.Sizes.{area_len}
 use Rattle.ktm_types.specs.EventGrammar.{IsGroupOf}
-use Rattle.ktm_journal.specs.Image.{IsFormatted, IsHeaded, HoldGroups, IsImage, JournalState, JournalAt, LeavesGroupOrNot, half_at, half_of, log_area}
-use Rattle.ktm_journal.proofs.offered.Halves.{half_low, headed_same, snapshot_same}
+use Rattle.ktm_journal.specs.Image.{IsFormatted, IsHeaded, HoldGroups, IsImage, JournalState, JournalAt, LeavesGroupOrNot, half_at, half_of, log_area, row_of}
+use Rattle.ktm_journal.specs.Pages.{KeepsPages, LeavesPages}
+use Rattle.ktm_journal.proofs.offered.Halves.{half_high, half_low, headed_same, snapshot_same}
+use Rattle.ktm_journal.proofs.offered.Rows.{row_kept}
 
--- header and snapshot lie elsewhere than the log
+-- header, snapshot and pages lie elsewhere than the log
 module _ (units image selector : ℕ) (old new : List ℕ) (same : SameElsewhere (log_area units (half_of selector)) old new) where
   other : (place : ℕ) → (place < half_at units (half_of selector) + area_len units) → get_or new place 0 ≡ get_or old place 0
   other place before = same.others place (not_covered (half_at units (half_of selector) + area_len units) (area_len units) place (inl before))
@@ -28,6 +31,9 @@ module _ (units image selector : ℕ) (old new : List ℕ) (same : SameElsewhere
     headed = headed_elsewhere was.headed;
     has = snapshot_same old new same.same_length units (half_of selector) snapshot was.has (λ place low high. other place high);
   }
+
+  row_elsewhere : row_of units new ≡ row_of units old
+  row_elsewhere = row_kept units (log_area units (half_of selector)).at (log_area units (half_of selector)).len old new (omega (arith, half_high units (half_of selector))) same
 
 -- one group more
 pub groups-push : (log : List Group) (ps : List (List ℕ)) (events : Group) (p : List ℕ) → HoldGroups log ps → IsGroupOf events p → HoldGroups (log ++ events ∷ []) (ps ++ p ∷ [])
@@ -58,6 +64,20 @@ module _ (j : JournalState) where
   stays_headed None (Some b) at was same = absurd same
   stays_headed (Some a) None at was same = absurd same
   stays_headed (Some a) (Some b) at was same = headed_elsewhere j.units j.image j.selector a.seen b.seen (subst (λ (x : Area). SameElsewhere x a.seen b.seen) at same) was
+
+  -- the pages stay
+  pub keeps_pages : (old new : Option DiskState) → j.log.area ≡ log_area j.units (half_of j.selector) → IfSome old (λ s. IsHeaded j.units j.image j.selector s.seen)
+      → Goes (λ a b. SameElsewhere j.log.area a.seen b.seen) old new → Goes (KeepsPages j.units) old new
+  keeps_pages old new at headed same =
+      Goes-map old new (λ (s : DiskState). IsHeaded j.units j.image j.selector s.seen) headed same
+      (λ a b is elsewhere. row_elsewhere j.units j.image j.selector a.seen b.seen (subst (λ (x : Area). SameElsewhere x a.seen b.seen) at elsewhere))
+
+  pub leaves_pages : (snapshot : List ℕ) (log : List Group) (p : List ℕ) (old new : Option DiskState) → IsSomeAnd old (JournalAt j snapshot log)
+      → ((ps : List (List ℕ)) → IsSomeAnd old (Rests j.log.area ps j.log.end) → Goes (λ a b. LeavesEither j.log.area ps p a.seen b) old new) → Goes (LeavesPages j.units) old new
+  leaves_pages snapshot log p None new at leaves = absurd at
+  leaves_pages snapshot log p (Some a) None at leaves = absurd (leaves at.payloads at.rests)
+  leaves_pages snapshot log p (Some a) (Some b) at leaves = λ image left.
+      row_elsewhere j.units j.image j.selector a.seen image (subst (λ (x : Area). SameElsewhere x a.seen image) at.area (leaves at.payloads at.rests image left).1)
 
   module _ (snapshot : List ℕ) (log : List Group) (events : Group) (p : List ℕ) (is : IsGroupOf events p) where
     pub group_added : (l : LogState) (count : ℕ) (old new : Option DiskState) → l.area ≡ j.log.area → IsSomeAnd old (JournalAt j snapshot log)

@@ -1,5 +1,5 @@
 -- Bytes are one image at most.
-use Rattle.std.proofs.Common.{◌≡◌, ℕ, ◌+◌, List, [], ◌∷◌, take, drop, refl, sym, ◌∙◌, ap, subst}
+use Rattle.std.proofs.Common.{◌≡◌, ℕ, ◌+◌, List, [], ◌∷◌, length, take, drop, refl, sym, ◌∙◌, ap, subst, arith}
 use Rattle.ktm_log.specs.Log.{IsLog, area_bytes}
 use Rattle.ktm_log.proofs.GoodOrBad.{one_log}
 use Rattle.ktm_event.proofs.OneEvent.{one_group}
@@ -24,7 +24,8 @@ one_header u v i j a b bytes left right = (sym left.units_are ∙ right.units_ar
 -- a half has one snapshot
 pub one_snapshot : (units : ℕ) (half : Half) (s t : List ℕ) (bytes : List ℕ) → HasSnapshot units half s bytes → HasSnapshot units half t bytes → s ≡ t
 one_snapshot units half s t bytes left right =
-    sym left.is ∙ ap (λ n. take n (drop ((snapshot_area units half).at + 8) bytes)) (sym left.length_is ∙ right.length_is) ∙ right.is
+    let long : length s ≡ length t = omega (arith, sym left.length_is ∙ right.length_is) in
+    sym left.is ∙ ap (λ n. take n (drop ((snapshot_area units half).at + 8) bytes)) long ∙ right.is
 
 -- where these payloads were read of the log of the half that counts, they are those of its groups
 pub image_payloads : (units image selector : ℕ) (snapshot : List ℕ) (log : List Group) (payloads : List (List ℕ)) (bytes : List ℕ) → IsHeaded units image selector bytes → IsImage units image snapshot log bytes

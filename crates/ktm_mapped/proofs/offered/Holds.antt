@@ -4,6 +4,7 @@ use Rattle.std.specs.Prelude.{option_map, if◌then◌else◌}
 use Rattle.std.specs.List.{list_any, list_all}
 use Rattle.ktm_types.specs.declared.change.Change.{Change}
 use Rattle.ktm_types.specs.declared.change.Change.TheVariants.{Make, Put, Cut, Move, Drop}
+use Rattle.ktm_types.specs.declared.change.Contents.TheVariants.{Whole, Paged}
 use Rattle.ktm_types.specs.declared.recorded.Node.{Node}
 use Rattle.ktm_world.specs.Changes.{changed, changes_bytes, has_changes, has_made, is_drop, is_make, is_move, next_after, node_of, nodes_made}
 use Rattle.ktm_world.specs.Committed.{written_after, written_files}
@@ -13,7 +14,7 @@ use Rattle.ktm_world.specs.Tree.{Tree, node_at, is_directory}
 use Rattle.txf_laws.specs.Contents.{is_made_below, puts_some}
 use Rattle.ktm_mapped.specs.Mapped.{IsBlank, mapped_node, mapped_tree, mapped_change}
 use Rattle.ktm_mapped.proofs.offered.Lists.{fold-mapped, list_any-mapped, filter-mapped, map-same}
-use Rattle.ktm_mapped.proofs.offered.Trees.{is_some-content, node_at-mapped, is_some-node, is_directory-mapped, puts_none-mapped, changed-mapped}
+use Rattle.ktm_mapped.proofs.offered.Trees.{is_some-content, node_at-mapped, is_some-node, is_directory-mapped, is_empty-mapped, changed-mapped}
 
 module _ (f : ℕ → ℕ) where
   -- ---- what a change is
@@ -47,7 +48,8 @@ module _ (f : ℕ → ℕ) where
   is_made_below-mapped next _ = refl
 
   pub puts_some-mapped : (c : Change) → puts_some (mapped_change f c) ≡ puts_some c
-  puts_some-mapped (Put node offset contents) = λ i. not (puts_none-mapped f contents i)
+  puts_some-mapped (Put node offset (Whole bytes)) = λ i. not (is_empty-mapped f bytes i)
+  puts_some-mapped (Put node offset (Paged len pages)) = refl
   puts_some-mapped _ = refl
 
   pub is_new_in-mapped : (tree : Tree) (c : Change) → is_new_in (mapped_tree f tree) (mapped_change f c) ≡ is_new_in tree c

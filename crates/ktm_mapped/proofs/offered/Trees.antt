@@ -106,18 +106,15 @@ module _ (f : ℕ → ℕ) where
 
   pub bytes_in-mapped : (contents : Contents) → bytes_in (mapped_contents f contents) ≡ map f (bytes_in contents)
   bytes_in-mapped (Whole bytes) = refl
-  bytes_in-mapped (Paged pages) = refl
+  bytes_in-mapped (Paged len pages) = refl
 
   is_whole-mapped : (contents : Contents) → is_whole (mapped_contents f contents) ≡ is_whole contents
   is_whole-mapped (Whole bytes) = refl
-  is_whole-mapped (Paged pages) = refl
+  is_whole-mapped (Paged len pages) = refl
 
   pub is_empty-mapped : (bytes : List ℕ) → is_empty_list (map f bytes) ≡ is_empty_list bytes
   is_empty-mapped [] = refl
   is_empty-mapped (b ∷ bs) = refl
-
-  pub puts_none-mapped : (contents : Contents) → is_empty_list (bytes_in (mapped_contents f contents)) ≡ is_empty_list (bytes_in contents)
-  puts_none-mapped contents = ap is_empty_list (bytes_in-mapped contents) ∙ is_empty-mapped (bytes_in contents)
 
   new_content-mapped : (kind : NodeKind) → new_content kind ≡ mapped_content f (new_content kind)
   new_content-mapped File = refl

@@ -8,7 +8,7 @@ use Rattle.ktm_base.specs.declared.refusal.Refusal.{Refusal}
 use Rattle.ktm_base.specs.declared.refusal.Refusal.TheVariants.{MachineDown}
 use Rattle.std.specs.Prelude.{option_and_then}
 use Rattle.ktm_types.specs.declared.command.Command.{Command}
-use Rattle.ktm_types.specs.declared.command.Command.TheVariants.{CreateFile, CreateFileTransacted, WriteFile, SetEndOfFile, DeleteFileTransacted, CreateDirectoryTransacted, RemoveDirectoryTransacted, MoveFileTransacted, Exit, CloseHandle, MoveFile, RemoveDirectory, CreateDirectory, DeleteFile, OpenTransaction, CommitTransaction, RollbackTransaction, GetTransactionInformation, CreateResourceManager, OpenResourceManager, RecoverResourceManager, GetNotificationResourceManager, CreateEnlistment, OpenEnlistment, RecoverEnlistment, PrePrepareComplete, PrepareComplete, ReadOnlyEnlistment, CommitComplete, RollbackComplete, SinglePhaseReject, RollbackEnlistment, PrePrepareEnlistment, PrepareEnlistment, CommitEnlistment, SetEnlistmentRecoveryInformation, GetEnlistmentRecoveryInformation, ReadFile, GetFileSizeEx, FlushFileBuffers, FindFiles, FindFilesTransacted, KvSet, KvUnset, KvGet, KvList, DuplicateHandle, CreateTransaction}
+use Rattle.ktm_types.specs.declared.command.Command.TheVariants.{CreateFile, CreateFileTransacted, WriteFile, SetEndOfFile, WriteUnits, DeleteFileTransacted, CreateDirectoryTransacted, RemoveDirectoryTransacted, MoveFileTransacted, Exit, CloseHandle, MoveFile, RemoveDirectory, CreateDirectory, DeleteFile, OpenTransaction, CommitTransaction, RollbackTransaction, GetTransactionInformation, CreateResourceManager, OpenResourceManager, RecoverResourceManager, GetNotificationResourceManager, CreateEnlistment, OpenEnlistment, RecoverEnlistment, PrePrepareComplete, PrepareComplete, ReadOnlyEnlistment, CommitComplete, RollbackComplete, SinglePhaseReject, RollbackEnlistment, PrePrepareEnlistment, PrepareEnlistment, CommitEnlistment, SetEnlistmentRecoveryInformation, GetEnlistmentRecoveryInformation, ReadFile, GetFileSizeEx, FlushFileBuffers, FindFiles, FindFilesTransacted, KvSet, KvUnset, KvGet, KvList, DuplicateHandle, CreateTransaction}
 use Rattle.ktm_types.specs.declared.input.PhaseInput.{PhaseInput}
 use Rattle.ktm_types.specs.declared.object.Object.{Object}
 use Rattle.ktm_types.specs.declared.object.Transaction.{Transaction}
@@ -35,6 +35,7 @@ use Rattle.txf_laws.specs.Footprint.{ListsLaw}
 use Rattle.ktm_owned.specs.FilesKept.{FilesKeptLaw}
 use Rattle.ktm_courses.specs.SoundCourse.{IsSoundCourse, is_counted}
 use Rattle.ktm_courses.proofs.offered.Calls.{Passes, passed, transaction_at-found, of-answering}
+use Rattle.ktm_courses.proofs.offered.FileSteps.{units-pass}
 use Rattle.txf_laws.proofs.offered.Elements.{list_all-at, filter-true}
 use Rattle.ktm_courses.proofs.offered.NewObjects.{counted-before}
 use Rattle.ktm_owned.proofs.offered.OpenCalls.{creates-file, creates-own, writes-file, sets-end}
@@ -252,9 +253,11 @@ module _ (lists : ListsLaw) (formed : FormedLaw) where
       (up-passes x process (CreateFileTransacted label path access share disposition transaction) none)
       (λ id may passes. creates-own lists formed x order sound process label id may path access share disposition (passed passes).1)
   effect x process (WriteFile file offset bytes) course none = λ order sound.
-      writes-file lists formed x process file offset bytes order sound (up-passes x process (WriteFile file offset bytes) none)
+      writes-file lists formed x process file offset bytes order sound (units-pass x process file offset bytes (up-passes x process (WriteFile file offset bytes) none))
   effect x process (SetEndOfFile file size) course none = λ order sound.
       sets-end lists formed x process file size order sound (up-passes x process (SetEndOfFile file size) none)
+  effect x process (WriteUnits file start contents) course none = λ order sound.
+      writes-file lists formed x process file start contents order sound (up-passes x process (WriteUnits file start contents) none)
   effect x process (DeleteFileTransacted path transaction) course none = λ order sound.
       made-in-one x process transaction (λ who. delete_file_tests x.files (file_room x) who path) (λ who. of_files x who (delete_file x.files who path)) course
       (up-passes x process (DeleteFileTransacted path transaction) none)

@@ -24,7 +24,7 @@ use Rattle.ktm_types.specs.declared.reply.Reply.TheVariants.{Done}
 use Rattle.ktm_world.specs.Changes.{changed, applies, changes_bytes, is_drop, is_make, node_of, has_made}
 use Rattle.ktm_world.specs.Conflicts.{conflicts, holds_now, writes}
 use Rattle.ktm_world.specs.Decide.{of_files, on_file, on_file_tests, opening, own_tests}
-use Rattle.ktm_world.specs.FileCalls.{Whereabouts, no_path, no_way, free, at_root, at_node, find_path, conflict_test, create_act, create_at, create_file, create_file_tests, emptying, empties, is_at_directory, new_open, write_file, write_file_tests, set_end, set_end_tests}
+use Rattle.ktm_world.specs.FileCalls.{Whereabouts, no_path, no_way, free, at_root, at_node, find_path, conflict_test, create_act, create_at, create_file, create_file_tests, emptying, empties, is_at_directory, new_open, write_file, write_units_tests, set_end, set_end_tests}
 use Rattle.ktm_world.specs.FileOutcome.{FileOutcome, FileRoom, answering, changing, lacks_quota, openings_of}
 use Rattle.ktm_world.specs.Files.{FilesNow, FirstOpen, OpenFile, OwnChanges, own_changes, first_open_of, is_last_version, tree_of, tree_seen, with_own_changes, bytes_with, changes_with, committed_files, first_open}
 use Rattle.ktm_world.specs.HandleCalls.{has_handle, same_object}
@@ -167,18 +167,18 @@ module _ (lists : ListsLaw) (formed : FormedLaw) where
   pub own-passes : (x : Present) (process : Pid) (label : Label) (tests : OpenFile → List (Bool × Refusal)) → Passes (on_file_tests x process label tests) → Passes (own_tests (file_named x process label) tests)
   own-passes x process label tests passes = (passed (passed (passed passes).1).1).1
 
-  pub writes-file : (x : Present) (process : Pid) (label : Label) (offset : ℕ) (bytes : List ℕ) → AreInOrder x → IsSoundFiles x → Passes (on_file_tests x process label (λ o. write_file_tests x.files (file_room x) o offset bytes))
+  pub writes-file : (x : Present) (process : Pid) (label : Label) (offset : ℕ) (bytes : List ℕ) → AreInOrder x → IsSoundFiles x → Passes (on_file_tests x process label (λ o. write_units_tests x.files (file_room x) o offset bytes))
       → IsSoundFiles (apply x (on_file x (file_named x process label) (λ o. write_file o offset bytes)))
-  unfolding write_file write_file_tests
+  unfolding write_file write_units_tests
   writes-file x process label offset bytes order sound passes = go (file_named x process label) refl (own-passes x process label _ passes)
     where
       put : (o : OpenFile) → IsIn o x.files.table.opens → writes o.access ≡ true → (bytes : List ℕ) → IsSoundFiles (apply x (of_files x o.transaction (write_file o offset bytes)))
       put o there may [] = answers_file lists formed x o.transaction (answering Done) refl refl refl order sound
       put o there may (b ∷ bs) = writes-change x sound o there may (Put o.node offset (Whole (b ∷ bs))) refl refl refl (λ tree file. applies-from tree (Put o.node offset (Whole (b ∷ bs))) (file, refl))
 
-      go : (o : Option OpenFile) → file_named x process label ≡ o → Passes (own_tests o (λ o. write_file_tests x.files (file_room x) o offset bytes)) → IsSoundFiles (apply x (on_file x o (λ o. write_file o offset bytes)))
+      go : (o : Option OpenFile) → file_named x process label ≡ o → Passes (own_tests o (λ o. write_units_tests x.files (file_room x) o offset bytes)) → IsSoundFiles (apply x (on_file x o (λ o. write_file o offset bytes)))
       go None found tests = answers_file lists formed x None (answering Done) refl refl refl order sound
-      go (Some o) found tests = put o (file-in x process label o found) (not-not (writes o.access) (passed (passed tests).1).0) bytes
+      go (Some o) found tests = put o (file-in x process label o found) (not-not (writes o.access) (passed tests).0) bytes
 
   pub sets-end : (x : Present) (process : Pid) (label : Label) (size : ℕ) → AreInOrder x → IsSoundFiles x → Passes (on_file_tests x process label (λ o. set_end_tests x.files (file_room x) o size))
       → IsSoundFiles (apply x (on_file x (file_named x process label) (λ o. set_end o size)))

@@ -95,7 +95,7 @@ ends-tail least (Cut node size [] ∷ Cut other size' pages' ∷ cs) spelled fin
     let parts = cut-parts least node size (Cut other size' pages' ∷ cs) final in
     subst (λ n. Ends least (Cut node n [] ∷ Cut other size' pages' ∷ cs)) (sym parts.1)
     (ends-front least node [] (Cut other size' pages' ∷ cs) parts.0 (ends-tail (node + 1) (Cut other size' pages' ∷ cs) spelled parts.2))
-ends-tail least (Cut node size [] ∷ Put other offset (Paged pages) ∷ cs) spelled final = absurd (true≢false (sym (and_parts false (list_all is_spelled cs) spelled).0))
+ends-tail least (Cut node size [] ∷ Put other offset (Paged len pages) ∷ cs) spelled final = absurd (true≢false (sym (and_parts false (list_all is_spelled cs) spelled).0))
 ends-tail least (Cut node size [] ∷ Put other offset (Whole []) ∷ cs) spelled final = absurd (true≢false (sym (and_parts false (list_all is_spelled cs) spelled).0))
 ends-tail least (Cut node size [] ∷ Put other offset (Whole (b ∷ bs)) ∷ cs) spelled final =
     let parts = cut-parts least node size (Put other offset (Whole (b ∷ bs)) ∷ cs) final in

@@ -6,7 +6,7 @@ use Rattle.std.proofs.lemmas.List.Sums.{length-filter}
 use Rattle.std.proofs.lemmas.Nat.{le-div}
 use Rattle.ktm_base.specs.declared.limits.TheConstants.{MOST_UNITS, MOST_NAME_BYTES}
 use Rattle.ktm_base.specs.declared.id.Id.{Id}
-use Rattle.ktm_event.specs.Spelling.{AreSpellableChanges, AreSpellableSettings, IsSpellableChange, IsSpellableSetting}
+use Rattle.ktm_event.specs.Spelling.{AreSpellableChanges, AreSpellablePages, AreSpellableSettings, IsSpellableChange, IsSpellableSetting}
 use Rattle.ktm_keyed.specs.declared.keyed.Keyed.{Keyed}
 use Rattle.ktm_types.specs.declared.change.Change.{Change}
 use Rattle.ktm_types.specs.declared.change.Change.TheVariants.{Make, Put, Cut, Move, Drop}
@@ -219,10 +219,14 @@ spelled-names [] tree all c there names = absurd there
 spelled-names (d ∷ ds) tree all c (inl e) names = subst IsSpellableChange e (spelled-name tree d (and_parts (applies tree d) (changes_apply (changed tree d) ds) all).0 (subst (λ b. not (changes_bytes b) ≡ true) (sym e) names))
 spelled-names (d ∷ ds) tree all c (inr there) names = spelled-names ds (changed tree d) (and_parts (applies tree d) (changes_apply (changed tree d) ds) all).1 c there names
 
+-- no pages have bytes
+pub no-pages : AreSpellablePages []
+no-pages = record { few = omega arith; each = All-nil _ }
+
 spelled-end : (f : ℕ) (bs : List ℕ) → length bs < 2 ^ 32 → (c : Change) → IsIn c (final_bytes f bs) → IsSpellableChange c
-spelled-end f [] few c (inl e) = subst IsSpellableChange e refl
+spelled-end f [] few c (inl e) = subst IsSpellableChange e no-pages
 spelled-end f [] few c (inr none) = absurd none
-spelled-end f (b ∷ bs) few c (inl e) = subst IsSpellableChange e refl
+spelled-end f (b ∷ bs) few c (inl e) = subst IsSpellableChange e no-pages
 spelled-end f (b ∷ bs) few c (inr (inl e)) = subst IsSpellableChange e (omega arith, few)
 spelled-end f (b ∷ bs) few c (inr (inr none)) = absurd none
 

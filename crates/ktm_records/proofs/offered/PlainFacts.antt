@@ -15,7 +15,7 @@ use Rattle.ktm_types.specs.declared.options.Disposition.{Disposition}
 use Rattle.ktm_types.specs.declared.options.ShareMode.{ShareMode}
 use Rattle.ktm_world.specs.Conflicts.{writes}
 use Rattle.ktm_world.specs.Decide.{bound_file, events_of, of_files, on_file, on_file_tests, opening, own_tests}
-use Rattle.ktm_world.specs.FileCalls.{Whereabouts, no_path, no_way, free, at_root, at_node, find_path, conflict_test, create_act, create_at, create_file, create_file_tests, empties, is_at_directory, set_end, set_end_tests, write_file, write_file_tests}
+use Rattle.ktm_world.specs.FileCalls.{Whereabouts, no_path, no_way, free, at_root, at_node, find_path, conflict_test, create_act, create_at, create_file, create_file_tests, empties, is_at_directory, set_end, set_end_tests, write_file, write_units_tests}
 use Rattle.ktm_world.specs.FileOutcome.{FileOutcome, FileRoom, changing, lacks_quota}
 use Rattle.ktm_world.specs.Files.{OpenFile}
 use Rattle.ktm_world.specs.Labels.{file_named}
@@ -97,17 +97,17 @@ module _ (lists : ListsLaw) (formed : FormedLaw) (x : Present) (sound : IsSoundF
       (no _ (inr (inr (inr (inr (inr (inl refl))))))) (no _ (inr (inr (inr (inr (inr (inr (inl refl)))))))) (no _ (inr (inr (inr (inr (inr (inr (inr (inr (inl refl))))))))))
 
   module _ (agrees : Agrees x) (process : Pid) (label : Label) where
-    pub facts-write : (offset : ℕ) (bytes : List ℕ) → Passes (on_file_tests x process label (λ o. write_file_tests x.files (file_room x) o offset bytes)) → facts_apply x.recorded (on_file x (file_named x process label) (λ o. write_file o offset bytes)).events ≡ true
-    unfolding write_file write_file_tests
+    pub facts-write : (offset : ℕ) (bytes : List ℕ) → Passes (on_file_tests x process label (λ o. write_units_tests x.files (file_room x) o offset bytes)) → facts_apply x.recorded (on_file x (file_named x process label) (λ o. write_file o offset bytes)).events ≡ true
+    unfolding write_file write_units_tests
     facts-write offset bytes passes = go (file_named x process label) refl (own-passes lists formed x process label _ passes)
       where
         put : (o : OpenFile) → IsIn o x.files.table.opens → writes o.access ≡ true → (bytes : List ℕ) → o.transaction ≡ None → MayLand x (write_file o offset bytes).change
         put o there may [] plain = lands-none x
         put o there may (b ∷ bs) plain = let c = Put o.node offset (Whole (b ∷ bs)) in lands-one x c (lands-written lists formed x sound o there may c refl refl (λ tree file. applies-from tree c (file, refl)) plain)
 
-        go : (o : Option OpenFile) → file_named x process label ≡ o → Passes (own_tests o (λ o. write_file_tests x.files (file_room x) o offset bytes)) → facts_apply x.recorded (on_file x o (λ o. write_file o offset bytes)).events ≡ true
+        go : (o : Option OpenFile) → file_named x process label ≡ o → Passes (own_tests o (λ o. write_units_tests x.files (file_room x) o offset bytes)) → facts_apply x.recorded (on_file x o (λ o. write_file o offset bytes)).events ≡ true
         go None found tests = refl
-        go (Some o) found tests = facts-of_files x o.transaction (write_file o offset bytes) sound agrees (put o (file-in lists formed x process label o found) (not-not (writes o.access) (passed (passed tests).1).0) bytes)
+        go (Some o) found tests = facts-of_files x o.transaction (write_file o offset bytes) sound agrees (put o (file-in lists formed x process label o found) (not-not (writes o.access) (passed tests).0) bytes)
 
     pub facts-set_end : (size : ℕ) → Passes (on_file_tests x process label (λ o. set_end_tests x.files (file_room x) o size)) → facts_apply x.recorded (on_file x (file_named x process label) (λ o. set_end o size)).events ≡ true
     unfolding set_end set_end_tests

@@ -7,7 +7,7 @@ use Rattle.ktm_base.specs.declared.id.Pid.{Pid}
 use Rattle.ktm_base.specs.declared.refusal.Refusal.{Refusal}
 use Rattle.ktm_base.specs.declared.refusal.Refusal.TheVariants.{MachineDown}
 use Rattle.ktm_types.specs.declared.command.Command.{Command}
-use Rattle.ktm_types.specs.declared.command.Command.TheVariants.{CreateTransaction, OpenTransaction, CommitTransaction, RollbackTransaction, GetTransactionInformation, CreateResourceManager, OpenResourceManager, RecoverResourceManager, GetNotificationResourceManager, CreateEnlistment, OpenEnlistment, RecoverEnlistment, PrePrepareComplete, PrepareComplete, ReadOnlyEnlistment, CommitComplete, RollbackComplete, SinglePhaseReject, RollbackEnlistment, PrePrepareEnlistment, PrepareEnlistment, CommitEnlistment, SetEnlistmentRecoveryInformation, GetEnlistmentRecoveryInformation, CreateFile, CreateFileTransacted, ReadFile, WriteFile, SetEndOfFile, GetFileSizeEx, FlushFileBuffers, DeleteFile, CreateDirectory, RemoveDirectory, MoveFile, DeleteFileTransacted, CreateDirectoryTransacted, RemoveDirectoryTransacted, MoveFileTransacted, FindFiles, FindFilesTransacted, KvSet, KvUnset, KvGet, KvList, CloseHandle, DuplicateHandle, Exit}
+use Rattle.ktm_types.specs.declared.command.Command.TheVariants.{CreateTransaction, OpenTransaction, CommitTransaction, RollbackTransaction, GetTransactionInformation, CreateResourceManager, OpenResourceManager, RecoverResourceManager, GetNotificationResourceManager, CreateEnlistment, OpenEnlistment, RecoverEnlistment, PrePrepareComplete, PrepareComplete, ReadOnlyEnlistment, CommitComplete, RollbackComplete, SinglePhaseReject, RollbackEnlistment, PrePrepareEnlistment, PrepareEnlistment, CommitEnlistment, SetEnlistmentRecoveryInformation, GetEnlistmentRecoveryInformation, CreateFile, CreateFileTransacted, ReadFile, WriteFile, SetEndOfFile, WriteUnits, GetFileSizeEx, FlushFileBuffers, DeleteFile, CreateDirectory, RemoveDirectory, MoveFile, DeleteFileTransacted, CreateDirectoryTransacted, RemoveDirectoryTransacted, MoveFileTransacted, FindFiles, FindFilesTransacted, KvSet, KvUnset, KvGet, KvList, CloseHandle, DuplicateHandle, Exit}
 use Rattle.ktm_types.specs.declared.command.View.TheVariants.{Plain, Transaction as Through}
 use Rattle.ktm_types.specs.declared.input.PhaseInput.{PhaseInput}
 use Rattle.ktm_types.specs.declared.object.Object.{Object}
@@ -24,7 +24,7 @@ use Rattle.ktm_courses.proofs.offered.HandlesAndTime.{Closes, close_handle-so, e
 use Rattle.ktm_world.specs.HandleCalls.{close_handle, exit, bind_to, duplicate_handle, duplicate_handle_tests}
 use Rattle.ktm_world.specs.Handles.{object_at}
 use Rattle.ktm_world.specs.Transactions.{is_undecided}
-use Rattle.ktm_world.specs.FileCalls.{Whereabouts, free, at_node, find_path, conflict_test, create_act, delete_act, make_act, remove_act, move_act, create_at, drop_at, make_at, move_at, create_file, create_file_tests, read_file, read_file_tests, write_access_test, write_file, write_file_tests, set_end, set_end_tests, get_size, flush_file, delete_file, delete_file_tests, create_directory, create_directory_tests, remove_directory, remove_directory_tests, move_file, move_file_tests, find_files, find_files_tests}
+use Rattle.ktm_world.specs.FileCalls.{Whereabouts, free, at_node, find_path, conflict_test, create_act, delete_act, make_act, remove_act, move_act, create_at, drop_at, make_at, move_at, create_file, create_file_tests, read_file, read_file_tests, write_access_test, write_file, write_file_tests, write_units_tests, set_end, set_end_tests, get_size, flush_file, delete_file, delete_file_tests, create_directory, create_directory_tests, remove_directory, remove_directory_tests, move_file, move_file_tests, find_files, find_files_tests}
 use Rattle.ktm_world.specs.FileOutcome.{FileOutcome, FileRoom}
 use Rattle.ktm_world.specs.Files.{FilesNow, OpenFile, tree_seen, without_transaction}
 use Rattle.ktm_world.specs.Keys.{without_own}
@@ -219,7 +219,7 @@ on_file_up None tests up = refl
 on_file_up (Some o) tests up = up o
 
 tests_of_up : (x : Present) (process : Pid) (command : Command) → none_of_down (command_tests x process command) ≡ true
-unfolding is_of_down none_of_down create_transaction_tests open_transaction_tests create_resource_manager_tests open_resource_manager_tests create_enlistment_tests open_enlistment_tests duplicate_handle_tests read_file_tests write_file_tests set_end_tests find_files_tests
+unfolding is_of_down none_of_down create_transaction_tests open_transaction_tests create_resource_manager_tests open_resource_manager_tests create_enlistment_tests open_enlistment_tests duplicate_handle_tests read_file_tests write_file_tests write_units_tests set_end_tests find_files_tests
 tests_of_up x process (CreateTransaction label timeout) = refl
 tests_of_up x process (OpenTransaction label guid) = refl
 tests_of_up x process (CommitTransaction label) = refl
@@ -249,6 +249,7 @@ tests_of_up x process (CreateFileTransacted label path access share disposition 
 tests_of_up x process (ReadFile file offset many) = on_file_up (file_named x process file) (λ o. read_file_tests o many) (λ o. refl)
 tests_of_up x process (WriteFile file offset bytes) = on_file_up (file_named x process file) (λ o. write_file_tests x.files (file_room x) o offset bytes) (λ o. refl)
 tests_of_up x process (SetEndOfFile file size) = on_file_up (file_named x process file) (λ o. set_end_tests x.files (file_room x) o size) (λ o. refl)
+tests_of_up x process (WriteUnits file start contents) = on_file_up (file_named x process file) (λ o. write_units_tests x.files (file_room x) o start contents) (λ o. refl)
 tests_of_up x process (GetFileSizeEx file) = refl
 tests_of_up x process (FlushFileBuffers file) = on_file_up (file_named x process file) (λ o. write_access_test o ∷ []) (λ o. refl)
 tests_of_up x process (DeleteFile path) = delete_file_up x.files (file_room x) None path
@@ -357,6 +358,8 @@ effect_not_down x process (ReadFile file offset many) e = on_file_not_down x (fi
 effect_not_down x process (WriteFile file offset bytes) e =
     on_file_not_down x (file_named x process file) (λ o. write_file o offset bytes) (λ o. says_not_down (write_file o offset bytes).reply (written_says o offset bytes)) e
 effect_not_down x process (SetEndOfFile file size) e = on_file_not_down x (file_named x process file) (λ o. set_end o size) (λ o e. cc) e
+effect_not_down x process (WriteUnits file start contents) e =
+    on_file_not_down x (file_named x process file) (λ o. write_file o start contents) (λ o. says_not_down (write_file o start contents).reply (written_says o start contents)) e
 effect_not_down x process (GetFileSizeEx file) e = on_file_not_down x (file_named x process file) (λ o. get_size x.files o) (λ o e. cc) e
 effect_not_down x process (FlushFileBuffers file) e = on_file_not_down x (file_named x process file) (λ o. flush_file) (λ o e. cc) e
 effect_not_down x process (DeleteFile path) e = says_not_down _ (deleted_says x.files None path) e

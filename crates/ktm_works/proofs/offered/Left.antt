@@ -9,13 +9,12 @@ use Rattle.ktm_base.specs.declared.id.Pid.{Pid}
 use Rattle.ktm_base.specs.declared.refusal.Refusal.{Refusal}
 use Rattle.ktm_base.specs.declared.refusal.Refusal.TheVariants.{MachineDown}
 use Rattle.ktm_base.specs.Disk.{DiskState}
-use Rattle.ktm_journal.specs.Image.{JournalState}
+use Rattle.ktm_base.proofs.offered.ToldSteps.{IsSomeAnd-map}
 use Rattle.ktm_kernel.specs.Answers.{CallLeaves, IsAsItWas}
-use Rattle.ktm_kernel.specs.Stands.{KernelAt, KernelState, LeavesStates, StandsBy}
+use Rattle.ktm_kernel.specs.Stands.{HoldsRecorded, KernelAt, KernelState, LeavesStates, StandsBy}
 use Rattle.ktm_laws.specs.Running.{HasEventsLeft, IsRunning, LawfulWorldsLaw}
 use Rattle.ktm_log.specs.OnDisk.{OnDisk}
 use Rattle.ktm_records.specs.Kept.{IsKept}
-use Rattle.ktm_restart.specs.Logs.{JournalFor}
 use Rattle.ktm_standing.specs.Standing.{IsStanding}
 use Rattle.ktm_types.specs.declared.change.Change.{Change}
 use Rattle.ktm_types.specs.declared.command.Command.{Command}
@@ -181,10 +180,10 @@ module _ (lawful : LawfulWorldsLaw) (w : World) (process : Pid) (command : Comma
 -- a machine that holds what it held stands for what it stood for
 moved : (b : Bool) (old new : OnDisk KernelState) (w : World) → new.told ≡ old.told → IsAsItWas old.it new.it → StandsBy b old.it old.told w → StandsBy b new.it new.told w
 moved true old new w told same stands = record {
+  is = same.is;
   now = same.now ∙ stands.now;
   standing = stands.standing;
-  disk = subst (λ (t : Option DiskState). IsSomeAnd t (JournalFor new.it.journal (stand w.base w.log))) (sym told)
-      (subst (λ (j : JournalState). IsSomeAnd old.told (JournalFor j (stand w.base w.log))) (sym same.journal) stands.disk);
+  disk = subst (λ (t : Option DiskState). IsSomeAnd t (HoldsRecorded new.it)) (sym told) (IsSomeAnd-map old.told (HoldsRecorded old.it) (HoldsRecorded new.it) stands.disk same.disk);
 }
 moved false old new w told same fallen = record {
   now = same.now ∙ fallen.now;

@@ -296,7 +296,7 @@ given-back least (Cut node size pages ∷ Put other offset (Whole (b ∷ bytes))
     let high = (cuts-rise (node + 1) None bs put.1).1 f there in
     is f (inr there) ∙ ap (λ x. fold (put_into f) x bs) (rw (ne_eqb other f (λ e. omega (arith, same, e, high))) (none-either (node == f)))))
 given-back least (Cut node size pages ∷ Put other offset (Whole []) ∷ bs) by final puts plain is = absurd (true≢false (sym puts))
-given-back least (Cut node size pages ∷ Put other offset (Paged p) ∷ bs) by final puts plain is = absurd (true≢false (sym puts))
+given-back least (Cut node size pages ∷ Put other offset (Paged len p) ∷ bs) by final puts plain is = absurd (true≢false (sym (and_parts (is_empty_list pages) false plain).1))
 given-back least (Cut node size pages ∷ Make other parent kind name ∷ bs) by final puts plain is = absurd (true≢false (sym (and_parts (nat_le least node && size == 0) false final).1))
 given-back least (Cut node size pages ∷ Move other parent name ∷ bs) by final puts plain is = absurd (true≢false (sym (and_parts (nat_le least node && size == 0) false final).1))
 given-back least (Cut node size pages ∷ Drop other ∷ bs) by final puts plain is = absurd (true≢false (sym (and_parts (nat_le least node && size == 0) false final).1))

@@ -3,7 +3,7 @@ use Rattle.std.proofs.lemmas.List.{take_all}
 use Rattle.std.proofs.lemmas.Result.{err_from_is_err_and}
 use Rattle.ktm_types.specs.EventGrammar.{IsChangeOf}
 use Rattle.ktm_types.specs.Sizes.{change_size}
-use Rattle.ktm_event.specs.Spelling.{IsSpellableChange}
+use Rattle.ktm_event.specs.Spelling.{IsRecordableChange, IsSpellableChange}
 use Rattle.ktm_event.proofs.Rows.{adds_none, adds_more, adds_all, each_of}
 use Rattle.ktm_event.proofs.Writings.{size_more, size_within}
 use Rattle.ktm_event.proofs.change.put_row.Goals as goal
@@ -29,5 +29,8 @@ returns-clause-adds c = adds_all IsChangeOf _ (omega arith) c.loop-change.invari
 pub returns-clause-len : goal.returns-clause-len
 returns-clause-len c = rw (take_all c.loop-change.change-index c.args.changes.now (omega arith)) at c.loop-change.invariant.len
 
-pub put_change-requires : goal.put_change-requires
-put_change-requires c = each_of IsSpellableChange c.args.changes.now c.loop-change.change-index (omega arith) c.change-item.is c.requires
+pub put_change-requires-clause-spellable : goal.put_change-requires-clause-spellable
+put_change-requires-clause-spellable c = each_of IsSpellableChange c.args.changes.now c.loop-change.change-index (omega arith) c.change-item.is c.requires.spellable
+
+pub put_change-requires-clause-recordable : goal.put_change-requires-clause-recordable
+put_change-requires-clause-recordable c = each_of IsRecordableChange c.args.changes.now c.loop-change.change-index (omega arith) c.change-item.is c.requires.recordable

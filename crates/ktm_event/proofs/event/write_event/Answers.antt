@@ -3,10 +3,10 @@ use Rattle.ktm_event.proofs.Writings.{on_ok_so, on_err_so}
 use Rattle.ktm_event.proofs.event.write_event.Goals as goal
 
 pub put_single-requires-clause-part : goal.put_single-requires-clause-part
-put_single-requires-clause-part c = (rw c.in-Single.is at c.requires).1
+put_single-requires-clause-part c = (rw c.in-Single.is at c.requires.spellable).1
 
 pub put_held-requires-clause-superior : goal.put_held-requires-clause-superior
-put_held-requires-clause-superior c = rw c.as_slice.ensures (rw c.in-Held.is at c.requires).1
+put_held-requires-clause-superior c = rw c.as_slice.ensures (rw c.in-Held.is at c.requires.spellable).1
 
 pub returns-in-Held-clause-adds : goal.returns-in-Held-clause-adds
 returns-in-Held-clause-adds c = rw c.in-Held.is (rw c.as_slice.ensures at c.put_held.ensures.adds)

@@ -11,7 +11,7 @@ use Rattle.ktm_event.proofs.Writings.{then, on_ok_so, on_err_so}
 use Rattle.ktm_event.proofs.files.put_names_and_files.Goals as goal
 
 pub put_files-requires : goal.put_files-requires
-put_files-requires g c = all-right IsSpellableChange c.args.names.now _ c.requires.each
+put_files-requires g c = all-right IsSpellableChange c.args.names.now _ c.requires.spellable.each
 
 pub returns-clause-adds : goal.returns-clause-adds
 returns-clause-adds g c =
@@ -20,13 +20,13 @@ returns-clause-adds g c =
     (on_ok_so c.put_files.result c.put_files.ensures.adds (λ adds. then count (adds_row IsChangeOf c.args.names.now _ c.in_ok-put_row.ensures.adds adds)))
 
 pub count_of_changes-requires : goal.count_of_changes-requires
-count_of_changes-requires g c = omega (arith, length-append c.args.names.now (flat_map changes_of_file (g.F.WrittenFiles.files c.args.files.now)), c.requires.few)
+count_of_changes-requires g c = omega (arith, length-append c.args.names.now (flat_map changes_of_file (g.F.WrittenFiles.files c.args.files.now)), c.requires.spellable.few)
 
 pub overflow_add-count : goal.overflow_add-count
-overflow_add-count g c = omega (arith, c.count_of_changes.ensures, length-append c.args.names.now (flat_map changes_of_file (g.F.WrittenFiles.files c.args.files.now)), c.requires.few)
+overflow_add-count g c = omega (arith, c.count_of_changes.ensures, length-append c.args.names.now (flat_map changes_of_file (g.F.WrittenFiles.files c.args.files.now)), c.requires.spellable.few)
 
-pub put_row-requires : goal.put_row-requires
-put_row-requires g c = all-left IsSpellableChange c.args.names.now _ c.requires.each
+pub put_row-requires-clause-spellable : goal.put_row-requires-clause-spellable
+put_row-requires-clause-spellable g c = all-left IsSpellableChange c.args.names.now _ c.requires.spellable.each
 
 pub returns-in_err-put_row-clause-full : goal.returns-in_err-put_row-clause-full
 returns-in_err-put_row-clause-full g c =

@@ -4,14 +4,14 @@ use Rattle.ktm_open.proofs.open.open_kernel.Goals as goal
 
 pub returns-in-Ok-clause-leaves : goal.returns-in-Ok-clause-leaves
 returns-in-Ok-clause-leaves g c =
-    opens c.law_of_states.ensures c.law_of_bad_images.ensures _ _ _ _ _ _ _ _ c.in_default.ensures.ok c.in_default.ensures.calls c.in-Ok.restarted c.in-Ok.ensures.leaves c.in-Ok.ensures.calls c.in_default.ensures.few c.in-Ok.ensures.few
+    opens c.law_of_states.ensures.states c.law_of_bad_images.ensures _ _ _ _ _ _ _ _ c.in_default.ensures.ok c.in_default.ensures.calls c.in-Ok.restarted c.in-Ok.ensures.leaves c.in-Ok.ensures.calls c.in_default.ensures.few c.in-Ok.ensures.few
 
 pub returns-in-Err-clause-leaves : goal.returns-in-Err-clause-leaves
 returns-in-Err-clause-leaves g c = not_prepared _ _ _ _ _ c.in-Err.ensures.err c.in-Err.ensures.calls
 
 pub returns-clause-leaves : goal.returns-clause-leaves
 returns-clause-leaves g c = rw c.open_fault.ensures
-    (not_opened c.law_of_states.ensures c.law_of_bad_images.ensures _ _ _ _ _ _ _ _ c.in_default.ensures.ok c.in_default.ensures.calls _ c.in-Err-restart.fault c.in-Err-restart.ensures.leaves c.in-Err-restart.ensures.calls)
+    (not_opened c.law_of_states.ensures.states c.law_of_bad_images.ensures _ _ _ _ _ _ _ _ c.in_default.ensures.ok c.in_default.ensures.calls _ c.in-Err-restart.fault c.in-Err-restart.ensures.leaves c.in-Err-restart.ensures.calls)
 
 pub returns-in-Err-clause-pending : goal.returns-in-Err-clause-pending
 returns-in-Err-clause-pending g c = inl (refused_down _ _ _ c.in-Err.ensures.calls)

@@ -7,4 +7,4 @@ pub returns-in-Err-clause-err : goal.returns-in-Err-clause-err
 returns-in-Err-clause-err g c = grind (arith, common_steps)
 
 pub returns-in_default-format-clause-ok : goal.returns-in_default-format-clause-ok
-returns-in_default-format-clause-ok g c = prepared_new c.law_of_new_images.ensures _ _ _ c.in-Ok.len c.len.ensures.same c.in-Ok.ensures.value c.if-len-eq0.true c.in_default-format.ensures.ok
+returns-in_default-format-clause-ok g c = prepared_new c.law_of_new_images.ensures.states _ _ _ c.in-Ok.len c.len.ensures.same c.in-Ok.ensures.value c.if-len-eq0.true c.in_default-format.ensures.ok

@@ -7,7 +7,7 @@ returns-in-Err g c = unread c.args.header _ _ c.requires.headed c.in-Err.fault c
 pub returns-in-Ok-Some : goal.returns-in-Ok-Some
 returns-in-Ok-Some g c =
     let read = rw c.in-Ok-Some.field-0-is at c.in-Ok-Some.ensures in
-    started c.args.header _ _ c.requires.headed c.in_default.ensures c.in-Ok-Some.saved (rw c.as_slice.ensures.value at read) c.from.result c.from.ensures
+    started c.args.header _ _ c.requires.headed c.in_default.ensures c.in-Ok-Some.state (rw c.as_slice.ensures.value at read)
 
 pub returns-in-Ok-None : goal.returns-in-Ok-None
 returns-in-Ok-None g c =

@@ -1,34 +1,22 @@
 use Rattle.std.specs.Prelude.{refl}
-use Rattle.ktm_types.specs.declared.command.Command.TheVariants.{FlushFileBuffers, GetFileSizeEx, ReadFile, SetEndOfFile, WriteFile}
+use Rattle.ktm_types.specs.declared.command.Command.TheVariants.{FlushFileBuffers, GetFileSizeEx, SetEndOfFile, WriteFile}
 use Rattle.ktm_world.specs.Labels.{file_tests}
 use Rattle.ktm_memory.specs.Memory.{present_of}
 use Rattle.ktm_route.proofs.Routes.{refused_first}
-use Rattle.ktm_route.proofs.FileRoutes.{flush_routed, handed_on, read_routed, set_end_routed, size_routed, write_routed}
+use Rattle.ktm_route.proofs.FileRoutes.{flush_routed, handed_on, set_end_routed, size_routed, write_routed}
 use Rattle.ktm_route.proofs.file_routes.route_open.Goals as goal
-
-pub returns-in_err-file-in-ReadFile : goal.returns-in_err-file-in-ReadFile
-returns-in_err-file-in-ReadFile c =
-    let x = present_of c.args.memory.now in
-    rw c.in-ReadFile.is (handed_on x c.args.process (ReadFile c.in-ReadFile.file c.in-ReadFile.offset c.in-ReadFile.length) c.from_residual.result c.in_err-file-in-ReadFile.field-0.0 c.from_residual.ensures.1
-    (refused_first x c.args.process (ReadFile c.in-ReadFile.file c.in-ReadFile.offset c.in-ReadFile.length) (file_tests x c.args.process c.in-ReadFile.file) _ c.in_err-file-in-ReadFile.field-0.0 c.requires.up refl (c.in_err-file-in-ReadFile.ensures.err)))
-
-pub returns-in_ok-file-in-ReadFile : goal.returns-in_ok-file-in-ReadFile
-returns-in_ok-file-in-ReadFile c =
-    let x = present_of c.args.memory.now in
-    let (named, passed) = c.in_ok-file-in-ReadFile.ensures.ok in
-    rw (c.in-ReadFile.is, c.of_files.ensures) (read_routed x c.args.process c.requires.up c.law_of_files.ensures c.requires.standing c.requires.counts c.in-ReadFile.file c.in_ok-file-in-ReadFile.file named passed c.in-ReadFile.offset c.in-ReadFile.length (rw c.in-ReadFile.is at c.requires.command))
 
 pub returns-in_err-file-in-WriteFile : goal.returns-in_err-file-in-WriteFile
 returns-in_err-file-in-WriteFile c =
     let x = present_of c.args.memory.now in
-    rw c.in-WriteFile.is (handed_on x c.args.process (WriteFile c.in-WriteFile.file c.in-WriteFile.offset c.in-WriteFile.bytes) c.from_residual-in_err-file-in-WriteFile.result c.in_err-file-in-WriteFile.field-0.0 c.from_residual-in_err-file-in-WriteFile.ensures.1
+    rw c.in-WriteFile.is (handed_on x c.args.process (WriteFile c.in-WriteFile.file c.in-WriteFile.offset c.in-WriteFile.bytes) c.from_residual.result c.in_err-file-in-WriteFile.field-0.0 c.from_residual.ensures.1
     (refused_first x c.args.process (WriteFile c.in-WriteFile.file c.in-WriteFile.offset c.in-WriteFile.bytes) (file_tests x c.args.process c.in-WriteFile.file) _ c.in_err-file-in-WriteFile.field-0.0 c.requires.up refl (c.in_err-file-in-WriteFile.ensures.err)))
 
 pub returns-in_ok-file-in-WriteFile : goal.returns-in_ok-file-in-WriteFile
 returns-in_ok-file-in-WriteFile c =
     let x = present_of c.args.memory.now in
     let (named, passed) = c.in_ok-file-in-WriteFile.ensures.ok in
-    rw (c.in-WriteFile.is, c.of_files-in-WriteFile.ensures) (write_routed x c.args.process c.requires.up c.law_of_files.ensures c.requires.standing c.requires.counts c.in-WriteFile.file c.in_ok-file-in-WriteFile.file named passed c.in-WriteFile.offset c.in-WriteFile.bytes (rw c.in-WriteFile.is at c.requires.command))
+    rw (c.in-WriteFile.is, c.of_files.ensures, c.no_places.ensures) (write_routed x c.args.process c.requires.up c.law_of_files.ensures c.requires.standing c.requires.counts c.in-WriteFile.file c.in_ok-file-in-WriteFile.file named passed c.in-WriteFile.offset c.in-WriteFile.bytes (rw c.in-WriteFile.is at c.requires.command) (rw c.in-WriteFile.is at c.requires.bytes))
 
 pub returns-in_err-file-in-SetEndOfFile : goal.returns-in_err-file-in-SetEndOfFile
 returns-in_err-file-in-SetEndOfFile c =
@@ -40,7 +28,7 @@ pub returns-in_ok-file-in-SetEndOfFile : goal.returns-in_ok-file-in-SetEndOfFile
 returns-in_ok-file-in-SetEndOfFile c =
     let x = present_of c.args.memory.now in
     let (named, passed) = c.in_ok-file-in-SetEndOfFile.ensures.ok in
-    rw (c.in-SetEndOfFile.is, c.of_files-in-SetEndOfFile.ensures) (set_end_routed x c.args.process c.requires.up c.law_of_files.ensures c.requires.standing c.requires.counts c.in-SetEndOfFile.file c.in_ok-file-in-SetEndOfFile.file named passed c.in-SetEndOfFile.size (rw c.in-SetEndOfFile.is at c.requires.command))
+    rw (c.in-SetEndOfFile.is, c.of_files-in-SetEndOfFile.ensures) (set_end_routed x c.args.process c.requires.up c.law_of_files.ensures c.requires.standing c.requires.counts c.in-SetEndOfFile.file c.in_ok-file-in-SetEndOfFile.file named passed c.in-SetEndOfFile.size (rw c.in-SetEndOfFile.is at c.requires.command) (rw c.in-SetEndOfFile.is at c.requires.bytes))
 
 pub returns-in_err-file-in-GetFileSizeEx : goal.returns-in_err-file-in-GetFileSizeEx
 returns-in_err-file-in-GetFileSizeEx c =

@@ -14,6 +14,7 @@ returns-in-Ok c =
       set_routed x c.args.process c.requires.up c.in-KvSet.transaction c.in-Ok.t named passed c.in-KvSet.key c.in-KvSet.value,
       active_named x c.args.process c.in-KvSet.transaction c.in-Ok.t named passed,
       set_takes x c.args.process c.requires.up c.in-KvSet.transaction c.in-Ok.t named passed c.in-KvSet.key c.in-KvSet.value,
+      refl,
     )
 
 pub returns-in-Err : goal.returns-in-Err
@@ -27,6 +28,7 @@ returns-in-Ok-active c =
       unset_routed x c.args.process c.requires.up c.in-KvUnset.transaction c.in-Ok-active.t named passed c.in-KvUnset.key,
       active_named x c.args.process c.in-KvUnset.transaction c.in-Ok-active.t named passed,
       unset_takes x c.args.process c.requires.up c.in-KvUnset.transaction c.in-Ok-active.t named passed c.in-KvUnset.key,
+      refl,
     )
 
 pub returns-in-Err-active : goal.returns-in-Err-active
@@ -43,6 +45,7 @@ returns-in-Ok-viewer c =
       get_routed x c.args.process c.requires.up c.in-KvGet.view c.in-Ok-viewer.who is passed c.in-KvGet.key,
       active_viewer x c.args.process c.in-KvGet.view c.in-Ok-viewer.who passed is,
       get_takes x c.args.process c.requires.up c.in-KvGet.view c.in-Ok-viewer.who is passed c.in-KvGet.key,
+      refl,
     )
 
 pub returns-in-Ok-viewer-2 : goal.returns-in-Ok-viewer-2
@@ -53,4 +56,5 @@ returns-in-Ok-viewer-2 c =
       list_routed x c.args.process c.requires.up c.in-KvList.view c.in-Ok-viewer-2.who is passed,
       active_viewer x c.args.process c.in-KvList.view c.in-Ok-viewer-2.who passed is,
       list_takes x c.args.process c.requires.up c.in-KvList.view c.in-Ok-viewer-2.who is passed,
+      refl,
     )

@@ -1,3 +1,4 @@
+use Rattle.std.proofs.Common.{refl}
 use Rattle.ktm_memory.specs.Memory.{present_of}
 use Rattle.ktm_route.proofs.Courses.{commit_comes, commit_ready}
 use Rattle.ktm_route.proofs.Routes.{commit_refused}
@@ -12,6 +13,7 @@ returns-in-Ok c =
       commit_comes x c.args.process c.requires.up c.args.label t named passed,
       commit_ready x c.args.process c.requires.up c.args.label t named c.law_of_spelled.ensures c.law_of_files.ensures c.requires.standing c.requires.counts c.requires.command passed,
       commit_takes x c.args.process c.requires.up c.args.label t named passed,
+      refl,
     )
 
 pub returns-in-Err : goal.returns-in-Err

@@ -1,4 +1,4 @@
-use Rattle.std.proofs.Common.{is_some, ap, sym, ◌∙◌}
+use Rattle.std.proofs.Common.{is_some, ap, refl, sym, ◌∙◌}
 use Rattle.ktm_memory.specs.Memory.{present_of}
 use Rattle.ktm_route.proofs.Routes.{create_bound, create_routed, unbound_names}
 use Rattle.ktm_route.proofs.Takes.{create_takes}
@@ -10,4 +10,4 @@ returns-then-is_some c = create_bound (present_of c.args.memory.now) c.args.proc
 pub returns : goal.returns
 returns c =
     let free = (ap is_some (sym c.object_at.ensures) ∙ sym c.is_some.ensures ∙ c.if-is_some.false) in
-    (create_routed (present_of c.args.memory.now) c.args.process c.requires c.args.label c.args.timeout free, unbound_names _ free, create_takes (present_of c.args.memory.now) c.args.process c.requires c.args.label c.args.timeout free)
+    (create_routed (present_of c.args.memory.now) c.args.process c.requires c.args.label c.args.timeout free, unbound_names _ free, create_takes (present_of c.args.memory.now) c.args.process c.requires c.args.label c.args.timeout free, refl)

@@ -1,4 +1,4 @@
-use Rattle.std.proofs.Common.{is_some, ap, sym, ◌∙◌}
+use Rattle.std.proofs.Common.{is_some, ap, refl, sym, ◌∙◌}
 use Rattle.ktm_world.specs.Outcome.{first_refusal}
 use Rattle.txf_volume.specs.Held.{files_of}
 use Rattle.ktm_memory.specs.Memory.{present_of}
@@ -21,4 +21,5 @@ returns c =
       duplicate_routed x c.args.process c.requires c.args.label c.args.from c.args.source passed free,
       (unbound_names _ free, source_named (files_of c.args.memory.now.files) _ passed),
       duplicate_takes x c.args.process c.requires c.args.label c.args.from c.args.source passed free,
+      refl,
     )

@@ -1,4 +1,4 @@
-use Rattle.std.proofs.Common.{is_some, ap, sym, ◌∙◌}
+use Rattle.std.proofs.Common.{is_some, ap, refl, sym, ◌∙◌}
 use Rattle.ktm_memory.specs.Memory.{present_of}
 use Rattle.ktm_route.proofs.Routes.{open_bound, open_routed, open_unknown, unbound_names}
 use Rattle.ktm_route.proofs.Takes.{open_takes}
@@ -15,6 +15,7 @@ returns-in-Some c =
       open_routed x c.args.process c.requires.up c.args.label c.args.guid.now c.in-Some.t free found,
       unbound_names _ free,
       open_takes x c.args.process c.requires.up c.args.label c.args.guid.now c.in-Some.t free found,
+      refl,
     )
 
 pub returns-in-None : goal.returns-in-None

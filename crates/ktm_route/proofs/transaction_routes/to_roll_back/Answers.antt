@@ -20,4 +20,5 @@ returns-in-None c =
       rollback_comes x c.args.process c.requires.up c.args.label t named passed,
       rollback_ready x c.args.process c.requires.up c.args.label t named c.law_of_spelled.ensures c.law_of_files.ensures c.requires.standing c.requires.counts c.requires.command passed,
       refl,
+      refl,
     )

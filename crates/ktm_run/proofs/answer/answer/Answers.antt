@@ -26,4 +26,4 @@ returns-in-Restart-clause-no_memory g c =
 
 pub returns-in-Err-NoMemory-clause-no_memory : goal.returns-in-Err-NoMemory-clause-no_memory
 returns-in-Err-NoMemory-clause-no_memory g c =
-    not_executed c.args.kernel.now c.args.kernel.now (g.D.Disk.told c.args.disk.now) (g.D.Disk.told c.args.disk.now) (g.D.Disk.status c.args.disk.now) (g.D.Disk.status c.args.disk.now) c.args.line.now refl refl
+    not_executed c.law_of_what_is_left.ensures c.args.kernel.now c.args.kernel.now (g.D.Disk.told c.args.disk.now) (g.D.Disk.told c.args.disk.now) (g.D.Disk.status c.args.disk.now) (g.D.Disk.status c.args.disk.now) c.args.line.now refl refl

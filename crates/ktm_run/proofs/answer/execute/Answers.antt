@@ -2,7 +2,7 @@ use Rattle.ktm_run.proofs.Breaks.{unanswered_here, did_planned, unanswered_plann
 use Rattle.ktm_run.proofs.answer.execute.Goals as goal
 
 pub returns-in-Err-clause-no_memory : goal.returns-in-Err-clause-no_memory
-returns-in-Err-clause-no_memory g c = λ w stands. rw (c.in-Err.ensures.err, c.in-Err.ensures.same) (unanswered_here w _ c.args.line.now stands)
+returns-in-Err-clause-no_memory g c = λ w stands. rw (c.in-Err.ensures.err, c.in-Err.ensures.same) (unanswered_here c.law_of_what_is_left.ensures w _ c.args.line.now stands)
 
 pub returns-in-Ok-clause-does : goal.returns-in-Ok-clause-does
 returns-in-Ok-clause-does g c =

@@ -21,7 +21,7 @@ returns-in-Err-start_again-clause-no_memory g c =
     not_started c.law_of_power.ensures c.args.kernel.now c.start_again.new.self (g.D.Disk.told c.args.disk.now) (g.D.Disk.told c.power.new.self) (g.D.Disk.told c.start_again.new.disk)
     (g.D.Disk.status c.args.disk.now) (g.D.Disk.status c.power.new.self) (g.D.Disk.status c.start_again.new.disk) c.args.pick
     (sym c.is_up.ensures ∙ c.if-is_up.false) c.in_default.ensures.status c.in_default.ensures.ok c.in-Err-start_again.ensures.calls c.in-Err-start_again.ensures.few
-    c.in-Err-start_again.ensures.leaves.told
+    c.law_of_what_is_found.ensures c.in-Err-start_again.ensures.leaves.told
 
 pub returns-then-is_up-clause-lasts : goal.returns-then-is_up-clause-lasts
 returns-then-is_up-clause-lasts g c = lasts_same c.args.kernel.now c.args.kernel.now refl

@@ -7,9 +7,9 @@ returns-in-Err-clause-leaves g c = λ left. undumped left _ _ _ _ _ _ c.in-Err.w
 pub returns-in-Err-write_state-clause-leaves : goal.returns-in-Err-write_state-clause-leaves
 returns-in-Err-write_state-clause-leaves g c = λ left.
     let leaves = c.in-Ok.ensures.leaves in
-    dumped_part left _ _ _ _ _ _ _ c.in-Ok.loaded.state leaves.read.reads.reads leaves.stands c.in-Err-write_state.ensures.err
+    dumped_part left _ _ _ _ _ _ c.law_of_journals.ensures.seen c.law_of_texts.ensures _ c.in-Ok.loaded.state leaves.read.reads.reads leaves.stands c.in-Err-write_state.ensures.err
 
 pub returns-clause-leaves : goal.returns-clause-leaves
 returns-clause-leaves g c = λ left.
     let leaves = c.in-Ok.ensures.leaves in
-    dumped left _ _ _ _ _ _ _ c.in-Ok.loaded.state leaves.read.reads.reads leaves.stands c.in_default.ensures.ok
+    dumped left _ _ _ _ _ _ c.law_of_journals.ensures.seen c.law_of_texts.ensures _ c.in-Ok.loaded.state leaves.read.reads.reads leaves.stands c.in_default.ensures.ok

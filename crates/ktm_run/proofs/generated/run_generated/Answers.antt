@@ -51,7 +51,7 @@ returns-clause-leaves g c = λ left.
           let (stands, unworn) = opened.stands base tells in
           generated_ended _ _ base _ _ first c.summarize-status.new.kernel
           (g.met.D.Disk.lengths c.summarize-status.new.disk)
-          stands unworn (run_begun base _ _ (opened.counts base tells)) (c.law_of_runs.ensures _ _ base stands opened.fresh) c.requires.lines c.summarize-status.result made;
+          stands unworn (run_begun base _ _ (opened.counts base tells)) (c.law_of_runs.ensures _ _ base stands opened.fresh) c.law_of_what_is_left.ensures c.requires.lines c.summarize-status.result made;
       ends = sum_ends _ _ _ _ c.summarize-status.result _ _ _ opened.begins made;
       reads_none = sum_reads_none _ _ _ _ c.summarize-status.result made;
     }

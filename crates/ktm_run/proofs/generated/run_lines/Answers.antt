@@ -15,7 +15,7 @@ lines-init g c = record {
 }
 
 pub returns-in-Err : goal.returns-in-Err
-returns-in-Err g c = λ w at. halted_here w _ _ c.args.number c.lines.done c.args.lines c.lines.tally c.lines-test.true (g.met.D.Disk.lengths c.lines.disk) (c.lines.invariant.went w at)
+returns-in-Err g c = λ w at. halted_here w _ _ c.args.number c.lines.done c.law_of_what_is_left.ensures c.args.lines c.lines.tally c.lines-test.true (g.met.D.Disk.lengths c.lines.disk) (c.lines.invariant.went w at)
 
 pub returns-in_default-execute : goal.returns-in_default-execute
 returns-in_default-execute g c = λ w at.

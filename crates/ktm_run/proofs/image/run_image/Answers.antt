@@ -63,7 +63,7 @@ returns-clause-leaves g c =
           let (stands, unworn) = opened.stands base tells in
           run_ended base _ _ (on c.in-Ok-open_kernel.restarted.kernel (g.D.Disk.told c.open_kernel.new.disk) (g.D.Disk.status c.open_kernel.new.disk)) c.run_script-status.new.kernel
           (g.met.D.Disk.lengths c.run_script-status.new.disk)
-          stands unworn (run_begun base _ _ (opened.counts base tells)) (c.law_of_runs.ensures _ _ base stands opened.fresh) c.run_script-status.result made;
+          stands unworn (run_begun base _ _ (opened.counts base tells)) (c.law_of_runs.ensures _ _ base stands opened.fresh) c.law_of_what_is_left.ensures c.run_script-status.result made;
       ends = script_ends _ _ c.run_script-status.result _ _ _ opened.begins made;
       not_usage = not_usage _ _ c.run_script-status.result made;
       too_long = too_long _ _ c.run_script-status.result made;

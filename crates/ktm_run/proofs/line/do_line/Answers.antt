@@ -22,7 +22,7 @@ returns-in-Err-clause-leaves g c = record {
   wants_reply = sym c.if-not-is_answered.ensures;
   broke = λ line is w stands.
       let (meant, means, answers) = c.in-Ok.ensures.does in
-      inr (half_written _ _ w _ _ line meant c.in-Ok.reply (Means-kept line meant (rw is at means)) answers (AppendsPart-none _ _) stands);
+      inr (half_written c.law_of_what_is_left.ensures _ _ w _ _ line meant c.in-Ok.reply (Means-kept line meant (rw is at means)) answers (AppendsPart-none _ _) stands);
 }
 
 pub returns-in-Err-write_all-clause-leaves : goal.returns-in-Err-write_all-clause-leaves
@@ -31,7 +31,7 @@ returns-in-Err-write_all-clause-leaves g c = record {
   broke = λ line is w stands.
       let (meant, means, answers) = c.in-Ok.ensures.does in
       let whole : c.as_slice.result.now ≡ reply_line c.in-Ok.reply = c.as_slice.ensures.value ∙ c.in_default-make_reply_line.ensures in
-      inr (half_written _ _ w _ _ line meant c.in-Ok.reply (Means-kept line meant (rw is at means)) answers (rw whole at c.in-Err-write_all.ensures.err) stands);
+      inr (half_written c.law_of_what_is_left.ensures _ _ w _ _ line meant c.in-Ok.reply (Means-kept line meant (rw is at means)) answers (rw whole at c.in-Err-write_all.ensures.err) stands);
 }
 
 pub returns-clause-leaves : goal.returns-clause-leaves

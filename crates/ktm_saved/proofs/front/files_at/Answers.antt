@@ -1,4 +1,4 @@
-use Rattle.std.proofs.Common.{◌≡◌, ◌<◌, ◌≤◌, ap, arith, subst, sym}
+use Rattle.std.proofs.Common.{◌<◌, ◌≤◌, ap, arith, subst, sym}
 use Rattle.ktm_codec.specs.Spans.{Spans}
 use Rattle.ktm_codec.proofs.SpansLemmas.{one_reading}
 use Rattle.ktm_saved.proofs.GoodParts.{files_of, none_low, tree_from}

@@ -1,14 +1,13 @@
-use Rattle.std.proofs.Common.{◌≡◌, ◌∙◌, ◌^◌, ◌-◌, ℕ, ap, sym, subst, refl, nat_lt}
+use Rattle.std.proofs.Common.{◌∙◌, ◌^◌, ◌-◌, ℕ, ap, sym, subst, refl, nat_lt}
 use Rattle.std.proofs.lemmas.Bool.{and_parts, ltb-true, true≢false}
 use Rattle.ktm_codec.proofs.SpansLemmas.{spans_then}
-use Rattle.ktm_saved.proofs.Fronts.{at, behind_entries, behind_head, behind_nodes, front_read}
+use Rattle.ktm_saved.proofs.Fronts.{behind_entries, behind_head, behind_nodes, front_read}
 use Rattle.ktm_saved.proofs.GoodParts.{counts_left, good_keys, good_managers, good_tree}
 use Rattle.ktm_saved.proofs.front.read_front.Goals as goal
 use Rattle.ktm_saved.specs.declared.front.Front.{Front}
 use Rattle.ktm_saved.specs.Reading.{AreGoodManagers, IsGoodTree}
 use Rattle.ktm_snapshot.proofs.Reading.{reads_state}
 use Rattle.ktm_snapshot.specs.declared.head.StateHead.{StateHead}
-use Rattle.ktm_snapshot.specs.StateGrammar.{AreEntriesOf, AreManagersOf, AreNodesOf, IsHeadOf}
 use Rattle.txf_tree.specs.TreeState.{tree_of}
 
 pub returns-in_default : goal.returns-in_default

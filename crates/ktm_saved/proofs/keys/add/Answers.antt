@@ -1,4 +1,4 @@
-use Rattle.std.proofs.Common.{◌≡◌, ◌∙◌, ◌++◌, ◌∷◌, [], Ok, true, ℕ, List, ap, sym, rules}
+use Rattle.std.proofs.Common.{◌≡◌, ◌∙◌, ◌++◌, ◌∷◌, [], true, rules}
 use Rattle.ktm_keyed.specs.Keyed.{is_rising, put}
 use Rattle.ktm_snapshot.specs.Shown.{entry_of}
 use Rattle.ktm_saved.proofs.RisingKeys.{put_last}

@@ -1,4 +1,4 @@
-use Rattle.std.proofs.Common.{◌≡◌, ◌∙◌, ◌++◌, ◌∷◌, [], ◌+◌, ◌≤◌, length, ap, sym, subst, arith}
+use Rattle.std.proofs.Common.{◌∙◌, ◌++◌, ◌∷◌, [], ◌+◌, length, ap, sym, subst, arith}
 use Rattle.ktm_world.specs.Durable.{is_before}
 use Rattle.std.proofs.lemmas.List.{length_push}
 use Rattle.ktm_base.specs.Grammar.{IsU32}

@@ -1,4 +1,3 @@
-use Rattle.std.proofs.Common.{sym}
 use Rattle.ktm_saved.proofs.read.read_begun.Goals as goal
 use Rattle.ktm_waiting.proofs.offered.Reserving.{held-none}
 use Rattle.txf_tree.specs.TreeState.{tree_of}

@@ -1,4 +1,4 @@
-use Rattle.std.proofs.Common.{◌≡◌, ◌∙◌, sym, ap, subst, length, arith}
+use Rattle.std.proofs.Common.{◌∙◌, sym, subst, length, arith}
 use Rattle.ktm_saved.proofs.Rest.{reads_all, reads_longer, tested}
 use Rattle.ktm_saved.proofs.Whole.{begins_so}
 use Rattle.ktm_saved.proofs.read.read_rest.Goals as goal

@@ -1,4 +1,4 @@
-use Rattle.std.proofs.Common.{◌≡◌, Bool, arith, subst}
+use Rattle.std.proofs.Common.{arith, subst}
 use Rattle.ktm_saved.proofs.read.with_rest.Goals as goal
 use Rattle.ktm_saved.specs.Reading.{ReadsRest}
 

@@ -1,4 +1,4 @@
-use Rattle.std.proofs.Common.{◌≡◌, ◌∙◌, ◌++◌, ◌∷◌, [], ◌+◌, ◌≤◌, ◌<◌, Ok, List, length, ap, sym, subst, arith}
+use Rattle.std.proofs.Common.{◌∙◌, ◌++◌, ◌∷◌, [], ◌+◌, ◌≤◌, Ok, length, ap, sym, subst, arith}
 use Rattle.std.proofs.lemmas.Bool.{leb-true}
 use Rattle.std.proofs.lemmas.List.{length_push}
 use Rattle.ktm_base.specs.Grammar.{IsU32}
@@ -8,14 +8,10 @@ use Rattle.ktm_saved.proofs.GoodParts.{few_of}
 use Rattle.ktm_saved.proofs.Rows.{counted, first_of, transactions_list}
 use Rattle.ktm_saved.proofs.SoFar.{good-none}
 use Rattle.ktm_saved.proofs.transactions.read_into.Goals as goal
-use Rattle.ktm_saved.specs.Tests.{Against, AreGoodSoFar, BeginNone, against, against_of}
+use Rattle.ktm_saved.specs.Tests.{AreGoodSoFar, against_of}
 use Rattle.ktm_snapshot.specs.Pieces.{IsFrontOf}
 use Rattle.ktm_snapshot.specs.StateGrammar.{IsTransactionOf}
-use Rattle.ktm_states.specs.GoodState.{IsGoodState}
-use Rattle.ktm_waiting.proofs.offered.Reserving.{held-none}
 use Rattle.ktm_waiting.specs.Waiting.{AreHeld}
-use Rattle.ktm_world.specs.Durable.{Durable, Recorded}
-use Rattle.txf_tree.specs.TreeState.{tree_of}
 
 pub returns-in_default : goal.returns-in_default
 returns-in_default c = λ s end same small spans good. (transactions_list c.args.bytes.now c.args.at).no_count c.in_default.ensures s.transactions end spans

@@ -1,4 +1,4 @@
-use Rattle.std.proofs.Common.{◌≡◌, ◌∙◌, length, map, sym, ap}
+use Rattle.std.proofs.Common.{◌≡◌, ◌∙◌, length, map, sym, ap, subst}
 use Rattle.std.proofs.lemmas.List.{length-map}
 use Rattle.std.specs.Prelude.{option_map}
 use Rattle.ktm_snapshot.specs.Shown.{superior_of}
@@ -8,8 +8,10 @@ use Rattle.ktm_tm.specs.TmState.{TmState}
 use Rattle.ktm_trace.specs.Contents.{superior_at}
 use Rattle.ktm_trace.specs.Lent.{part_lent, transaction_lent}
 use Rattle.ktm_memory.specs.Memory.{held}
-use Rattle.ktm_saving.specs.Owned.{changes_left, changes_owned, part_with, recorded_in, settings_left}
+use Rattle.ktm_saving.specs.Owned.{changes_left, changes_placed, changes_owned, part_with, recorded_in, settings_left}
 use Rattle.ktm_saving.specs.Spellable.{IsSpellableMarked}
+use Rattle.ktm_event.specs.Spelling.{AreSpellableChanges}
+use Rattle.ktm_saving.proofs.Recorded.{spelled-contents}
 use Rattle.ktm_saving.proofs.Lists.{each_next, partly_all, partly_begun, partly_next, room_next}
 use Rattle.ktm_saving.proofs.transactions.write_transaction.Goals as goal
 
@@ -28,21 +30,27 @@ parts-init c =
 pub write_part-requires-clause-spelled : goal.write_part-requires-clause-spelled
 write_part-requires-clause-spelled c =
     let one = recorded_in c.args.memory.now (transaction_lent c.args.transaction) in
-    let with_it = part_with c.tm-tm.result.now.now.enlistments (changes_owned c.left_to_commit-owned.result) c.left_to_commit-owned.result.settings.now in
-    each_next (IsStartOf one.id one.stage one.superior (length one.parts)) IsMarkedOf marked_size (start_size one.superior) one.parts c.args.out.now IsSpellableMarked (map with_it c.next.new.self) (with_it (part_lent c.in-Some.part)) c.parts.out
-    (rw c.in-Some.ensures.first at c.parts.invariant) c.requires.spelled.parts.each
+    let owned = c.left_to_commit-owned.result in
+    let with_it = part_with c.tm-tm.result.now.now.enlistments (changes_placed owned) owned.settings.now in
+    spelled-contents c.tm-tm.result.now.now.enlistments (changes_owned owned) owned.settings.now (changes_placed owned)
+    (λ spelled. c.left_to_commit-owned.ensures.spelled (subst AreSpellableChanges c.left_to_commit-owned.ensures.changes spelled)) c.in-Some.part.who
+    (each_next (IsStartOf one.id one.stage one.superior (length one.parts)) IsMarkedOf marked_size (start_size one.superior) one.parts c.args.out.now IsSpellableMarked (map with_it c.next.new.self) (with_it (part_lent c.in-Some.part)) c.parts.out
+    (rw c.in-Some.ensures.first at c.parts.invariant) c.requires.spelled.parts.each)
+
+pub write_part-requires-clause-work : goal.write_part-requires-clause-work
+write_part-requires-clause-work c = c.left_to_commit-owned.ensures.work
 
 pub write_part-requires-clause-room : goal.write_part-requires-clause-room
 write_part-requires-clause-room c =
     let one = recorded_in c.args.memory.now (transaction_lent c.args.transaction) in
-    let with_it = part_with c.tm-tm.result.now.now.enlistments (changes_owned c.left_to_commit-owned.result) c.left_to_commit-owned.result.settings.now in
+    let with_it = part_with c.tm-tm.result.now.now.enlistments (changes_placed c.left_to_commit-owned.result) c.left_to_commit-owned.result.settings.now in
     room_next (IsStartOf one.id one.stage one.superior (length one.parts)) IsMarkedOf marked_size (start_size one.superior) one.parts c.args.out.now (map with_it c.next.new.self) (with_it (part_lent c.in-Some.part)) c.parts.out
     (rw c.in-Some.ensures.first at c.parts.invariant) c.requires.room
 
 pub parts-preserved : goal.parts-preserved
 parts-preserved c =
     let one = recorded_in c.args.memory.now (transaction_lent c.args.transaction) in
-    let with_it = part_with c.tm-tm.result.now.now.enlistments (changes_owned c.left_to_commit-owned.result) c.left_to_commit-owned.result.settings.now in
+    let with_it = part_with c.tm-tm.result.now.now.enlistments (changes_placed c.left_to_commit-owned.result) c.left_to_commit-owned.result.settings.now in
     partly_next (IsStartOf one.id one.stage one.superior (length one.parts)) IsMarkedOf marked_size (start_size one.superior) one.parts c.args.out.now (c.law_of_writing.ensures.parts one) (map with_it c.next.new.self) (with_it (part_lent c.in-Some.part)) c.parts.out c.write_part.new.out
     (rw c.in-Some.ensures.first at c.parts.invariant) c.write_part.ensures
 

@@ -7,16 +7,15 @@ use Rattle.ktm_snapshot.proofs.Fields.{no_node}
 use Rattle.ktm_snapshot.proofs.node.node_at.Goals as goal
 use Rattle.ktm_snapshot.specs.Shown.{IsNamedPairOf}
 
-pub returns-in_err-number : goal.returns-in_err-number
-returns-in_err-number c = rw c.from_residual.ensures (no_node (no_first (Both IsU64 IsNamedPairOf) (record { none = c.in_err-number.ensures })))
+pub returns-in_default : goal.returns-in_default
+returns-in_default c = no_node (no_first (Both IsU64 IsNamedPairOf) (record { none = c.in_default.ensures }))
 
-pub returns-in_err-parent : goal.returns-in_err-parent
-returns-in_err-parent c =
-    rw c.from_residual-in_err-parent.ensures (no_node (after unambiguous_u64 c.in_ok-number.ensures (no_first IsNamedPairOf (record { none = c.in_err-parent.ensures }))))
+pub returns-in_default-u64_at : goal.returns-in_default-u64_at
+returns-in_default-u64_at c = no_node (after unambiguous_u64 c.in-Some.ensures (no_first IsNamedPairOf (record { none = c.in_default-u64_at.ensures })))
 
-pub returns-in_err-name : goal.returns-in_err-name
-returns-in_err-name c =
-    rw c.from_residual-in_err-name.ensures (no_node (after unambiguous_u64 c.in_ok-number.ensures (after unambiguous_u64 c.in_ok-parent.ensures (record { none = c.in_err-name.ensures }))))
+pub returns-in_default-2 : goal.returns-in_default-2
+returns-in_default-2 c =
+    no_node (after unambiguous_u64 c.in-Some.ensures (after unambiguous_u64 c.in-Some-u64_at.ensures (record { none = rw c.in_default-2.is at c.in_ok-named.ensures })))
 
 pub returns : goal.returns
-returns c = spans_then _ _ _ _ c.in_ok-number.ensures (spans_then _ _ _ _ c.in_ok-parent.ensures c.in_ok-name.ensures)
+returns c = spans_then _ _ _ _ c.in-Some.ensures (spans_then _ _ _ _ c.in-Some-u64_at.ensures (rw c.in-Some-2.is at c.in_ok-named.ensures))

@@ -1,12 +1,11 @@
 use Rattle.std.proofs.Common.{refl}
-use Rattle.std.proofs.lemmas.Bool.{true≢false}
 use Rattle.txf_calls.proofs.forms.decide.Goals as goal
-
-pub returns-in-Read : goal.returns-in-Read
-returns-in-Read g c = rw c.in-Read.is (record { plan = c.read.ensures c.args.room.now c.args.who; enough = λ takes. absurd (true≢false takes) })
 
 pub returns-in-Write : goal.returns-in-Write
 returns-in-Write g c = rw c.in-Write.is (record { plan = c.write.ensures c.args.who; enough = λ takes. refl })
+
+pub returns-in-WriteUnits : goal.returns-in-WriteUnits
+returns-in-WriteUnits g c = rw c.in-WriteUnits.is (record { plan = c.write_units.ensures c.args.who; enough = λ takes. refl })
 
 pub returns-in-SetEnd : goal.returns-in-SetEnd
 returns-in-SetEnd g c = rw c.in-SetEnd.is (record { plan = c.set_end.ensures c.args.who; enough = λ takes. refl })

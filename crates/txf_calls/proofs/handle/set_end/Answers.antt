@@ -1,10 +1,6 @@
-use Rattle.std.proofs.Common.{sym, ◌∙◌, subst}
-use Rattle.txf_calls.specs.Fits.{IsFit}
-use Rattle.txf_opens.specs.Acts.{open_of}
-use Rattle.txf_calls.proofs.Fitting.{fit-set_end}
+use Rattle.std.proofs.Common.{◌∙◌}
+use Rattle.txf_calls.specs.Calls.{unless_refused}
 use Rattle.txf_calls.proofs.handle.set_end.Goals as goal
 
-pub within_disk-requires : goal.within_disk-requires
-within_disk-requires g c =
-    let files = g.V.Volume.files c.args.volume.now in
-    subst (IsFit files c.args.file.transaction) (sym c.cut.ensures) (fit-set_end files (open_of c.args.file) c.args.size (sym c.writes.ensures ∙ c.if-not-writes.false) c.requires)
+pub returns : goal.returns
+returns g c who = c.unless_refused.ensures ∙ (λ i. unless_refused (c.end_refusal-refusal.ensures who i) (c.cut.ensures i))

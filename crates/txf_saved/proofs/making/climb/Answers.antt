@@ -1,6 +1,6 @@
 use Rattle.std.proofs.Common.{◌≡◌, ◌+◌, ◌-◌, length, sym, subst, refl, arith}
 use Rattle.std.proofs.lemmas.List.{length-map}
-use Rattle.ktm_snapshot.specs.Shown.{node_of}
+use Rattle.ktm_snapshot.specs.Shown.{node_of, node_read}
 use Rattle.txf_saved.proofs.Ways.{Rest, climbs, no_root, rest-begins, rest-missing, rest-next, rest-over}
 use Rattle.txf_saved.proofs.making.climb.Goals as goal
 use Rattle.txf_saved.specs.Making.{nodes_of}
@@ -11,7 +11,7 @@ up-init c = record {
   way = rw c.requires.none refl;
   left = length c.args.nodes.now + 1;
   counted = omega arith;
-  rest = subst (λ n. Rest (nodes_of c.args.nodes.now) c.args.number (n + 1)) (length-map c.args.nodes.now node_of) (rest-begins (nodes_of c.args.nodes.now) c.args.number c.requires.known.0 c.requires.known.1);
+  rest = subst (λ n. Rest (nodes_of c.args.nodes.now) c.args.number (n + 1)) (length-map c.args.nodes.now node_read) (rest-begins (nodes_of c.args.nodes.now) c.args.number c.requires.known.0 c.requires.known.1);
 }
 
 pub returns-then-is_there-clause-leads : goal.returns-then-is_there-clause-leads

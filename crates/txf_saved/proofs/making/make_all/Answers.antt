@@ -1,7 +1,8 @@
-use Rattle.std.proofs.Common.{Ok, ap, arith, rules}
+use Rattle.std.proofs.Common.{◌∙◌, Ok, ap, arith, rules, sym}
 use Rattle.std.proofs.lemmas.Bool.{ne_eqb}
 use Rattle.std.proofs.lemmas.List.{get_or_default}
-use Rattle.ktm_snapshot.specs.declared.node.ShownNode.{ShownNode}
+use Rattle.ktm_snapshot.specs.declared.node.ReadNode.{ReadNode}
+use Rattle.ktm_world.specs.Tree.{node_at}
 use Rattle.txf_saved.proofs.Finding.{at_its_number}
 use Rattle.txf_saved.proofs.Steps.{begins, finish, further, root_given}
 use Rattle.txf_saved.proofs.making.make_all.Goals as goal
@@ -14,13 +15,19 @@ pub returns-then-node-eq-ROOT : goal.returns-then-node-eq-ROOT
 returns-then-node-eq-ROOT c =
     let xs = c.args.nodes.now in
     let i = c.nodes.node-index in
-    root_given (nodes_of xs) _ _ (at_its_number xs i _ c.requires (omega arith)) c.if-node-eq-ROOT.true
+    let node = c.node-item.result in
+    root_given (nodes_of xs) node.number _ (ap (λ (x : ReadNode). node_at (nodes_of xs) x.number) c.node-item.is ∙ at_its_number xs i node c.requires (omega arith)) c.if-node-eq-ROOT.true
 
 pub climb-requires : goal.climb-requires
 climb-requires c =
     let xs = c.args.nodes.now in
     let i = c.nodes.node-index in
-    record { rise = c.requires; known = (_, at_its_number xs i _ c.requires (omega arith)); none = c.nodes.invariant.empty }
+    let node = c.node-item.result in
+    record {
+      rise = c.requires;
+      known = (_, ap (λ (x : ReadNode). node_at (nodes_of xs) x.number) c.node-item.is ∙ at_its_number xs i node c.requires (omega arith));
+      none = c.nodes.invariant.empty;
+    }
 
 pub returns-then-not-branch : goal.returns-then-not-branch
 returns-then-not-branch c = c.in_ok-climb.ensures.astray (ap Ok c.if-not-branch.true)
@@ -38,7 +45,7 @@ nodes-preserved c =
     record {
       part = made.part;
       empty = c.in_ok-make_way.ensures.empty (ap Ok c.if-not-branch-2.false);
-      made = further xs (nodes_of xs) _ _ i _ (λ d. ap (λ (x : ShownNode). x.number) (get_or_default xs i d _ (omega arith))) (ne_eqb _ _ c.if-node-eq-ROOT.false) made c.nodes.invariant.made;
+      made = further xs (nodes_of xs) _ _ i _ (λ d. ap (λ (x : ReadNode). x.number) (get_or_default xs i d c.node-item.result (omega arith) ∙ sym c.node-item.is)) (ne_eqb _ _ c.if-node-eq-ROOT.false) made c.nodes.invariant.made;
     }
 
 pub returns : goal.returns

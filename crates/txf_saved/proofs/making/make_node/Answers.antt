@@ -1,14 +1,16 @@
-use Rattle.std.proofs.Common.{◌≡◌, ◌∙◌, rules, true, Some, None, Ok, ap, sym}
-use Rattle.std.specs.Prelude.{option_map}
+use Rattle.std.proofs.Common.{◌≡◌, ◌∙◌, true, Some, None, Ok, ap, sym}
 use Rattle.std.proofs.lemmas.Bool.{true≢false}
 use Rattle.ktm_snapshot.specs.Shown.{node_of}
 use Rattle.ktm_world.specs.Changes.{applies}
 use Rattle.ktm_world.specs.Tree.{with_node}
 use Rattle.txf_laws.proofs.offered.ChangeTests.{Applies-from, is_there-none}
-use Rattle.txf_saved.proofs.Filling.{directory-made, filled-tree, fills, made-next, made-tree, makes}
+use Rattle.txf_saved.proofs.Filling.{can-fill, directory-made, filled-tree, fills, made-next, made-tree, makes}
 use Rattle.txf_saved.proofs.making.make_node.Goals as goal
 use Rattle.txf_saved.specs.Making.{make_of}
 use Rattle.txf_tree.specs.TreeState.{tree_of}
+
+pub commit_one-requires : goal.commit_one-requires
+commit_one-requires c = rw c.in_ok-make.ensures tt
 
 pub returns-then-not-branch-clause-not_made : goal.returns-then-not-branch-clause-not_made
 returns-then-not-branch-clause-not_made c = λ is. makes _ _ _ _ c.in_ok-make.ensures c.in_ok-commit_one.ensures.applies ∙ c.if-not-branch.true
@@ -24,6 +26,15 @@ returns-in_default-clause-made c = λ is.
       made-next _ _ x _ c.in_ok-make.ensures after.1,
     )
 
+pub commit_one-requires-2 : goal.commit_one-requires-2
+commit_one-requires-2 c =
+    let x = node_of c.args.node.now in
+    let tree = tree_of c.args.files.now.tree in
+    let first = c.in_ok-commit_one.ensures.after (ap Ok c.if-not-branch.false) in
+    let applies' : applies tree (make_of x) ≡ true = makes tree x _ _ c.in_ok-make.ensures c.in_ok-commit_one.ensures.applies ∙ c.if-not-branch.false in
+    let some : x.content ≡ Some c.new-contents.result = c.in-Some.is ∙ ap Some (sym (c.new-contents.ensures ∙ c.in_ok-copy.ensures)) in
+    can-fill tree _ x _ some (is_there-none tree x.number (Applies-from tree (make_of x) applies').1) (made-tree tree _ x _ c.in_ok-make.ensures first.0)
+
 pub returns-clause-made : goal.returns-clause-made
 returns-clause-made c = λ is.
     let x = node_of c.args.node.now in
@@ -31,8 +42,7 @@ returns-clause-made c = λ is.
     let first = c.in_ok-commit_one.ensures.after (ap Ok c.if-not-branch.false) in
     let second = c.commit_one-2.ensures.after is in
     let applies' : applies tree (make_of x) ≡ true = makes tree x _ _ c.in_ok-make.ensures c.in_ok-commit_one.ensures.applies ∙ c.if-not-branch.false in
-    let copied : c.new-contents.result ≡ c.in-Some.contents.now = search rules in
-    let some : x.content ≡ Some c.new-contents.result = ap (option_map (λ contents. contents.now)) c.in-Some.is ∙ ap Some (sym copied) in (
+    let some : x.content ≡ Some c.new-contents.result = c.in-Some.is ∙ ap Some (sym (c.new-contents.ensures ∙ c.in_ok-copy.ensures)) in (
       applies',
       filled-tree tree _ _ x _ some (is_there-none tree x.number (Applies-from tree (make_of x) applies').1) (made-tree tree _ x _ c.in_ok-make.ensures first.0) second.0,
       second.1 ∙ made-next _ _ x _ c.in_ok-make.ensures first.1,
@@ -44,7 +54,6 @@ returns-clause-not_made c = λ is.
     let tree = tree_of c.args.files.now.tree in
     let first = c.in_ok-commit_one.ensures.after (ap Ok c.if-not-branch.false) in
     let applies' : applies tree (make_of x) ≡ true = makes tree x _ _ c.in_ok-make.ensures c.in_ok-commit_one.ensures.applies ∙ c.if-not-branch.false in
-    let copied : c.new-contents.result ≡ c.in-Some.contents.now = search rules in
-    let some : x.content ≡ Some c.new-contents.result = ap (option_map (λ contents. contents.now)) c.in-Some.is ∙ ap Some (sym copied) in
+    let some : x.content ≡ Some c.new-contents.result = c.in-Some.is ∙ ap Some (sym (c.new-contents.ensures ∙ c.in_ok-copy.ensures)) in
     let given = rw is at c.commit_one-2.ensures.applies in
     absurd (true≢false (sym (fills tree _ x _ _ some (is_there-none tree x.number (Applies-from tree (make_of x) applies').1) (made-tree tree _ x _ c.in_ok-make.ensures first.0) given)))

@@ -1,7 +1,7 @@
 use Rattle.std.proofs.Common.{◌≡◌, ◌+◌, ◌/◌, ◌≤◌, ◌∙◌, List, ℕ, ap, arith, length, subst, sym}
-use Rattle.ktm_world.specs.Tree.{cut_to}
+use Rattle.ktm_content.specs.Contents.{cut_to}
 use Rattle.ktm_content.specs.Places.{ContentState, places_on}
-use Rattle.ktm_content.proofs.Putting.{cut-places}
+use Rattle.ktm_content.proofs.offered.Putting.{cut-places}
 use Rattle.ktm_content.proofs.content.Content.cut.Goals as goal
 
 pub returns-clause-bytes : goal.returns-clause-bytes

@@ -1,5 +1,7 @@
 use Rattle.std.proofs.Common.{◌≡◌, [], ap, arith, refl, subst, sym, ◌∙◌}
 use Rattle.std.specs.Prelude.{vec_capacity}
+use Rattle.ktm_core.specs.Core.{core_of}
+use Rattle.ktm_core.specs.declared.machine.Core.{Core}
 use Rattle.ktm_event.specs.Kept.{EventsState}
 use Rattle.ktm_journal.specs.Image.{JournalState}
 use Rattle.ktm_log.specs.OnDisk.{on}
@@ -9,12 +11,12 @@ use Rattle.ktm_kernel.specs.Answers.{IsRestartAnswered}
 use Rattle.ktm_kernel.specs.Buffers.{BuffersState}
 use Rattle.ktm_kernel.specs.Stands.{KernelState, machine_of}
 use Rattle.ktm_kernel.proofs.Restarts.{kept_by}
-use Rattle.ktm_kernel.proofs.StartAgain.{found_few, restart_answered, unstarted_answered}
+use Rattle.ktm_kernel.proofs.StartAgain.{calls_up, found_few, restart_answered, unstarted_answered}
 use Rattle.ktm_kernel.proofs.kernel.Kernel.start_again.Goals as goal
 
 pub returns-in-Ok-clause-leaves : goal.returns-in-Ok-clause-leaves
 returns-in-Ok-clause-leaves g c =
-    let is = ap machine_of c.replace-in-Ok.ensures.after ∙ c.kernel.view_is in
+    let is = ap (λ (core : Core). machine_of (core_of core.memory core.store)) c.replace-in-Ok.ensures.after ∙ c.kernel.view_is in
     subst (λ (k : KernelState). IsRestartAnswered (on c.args.self.now (g.D.Disk.told c.args.disk.now) (g.D.Disk.status c.args.disk.now)) (on k (g.D.Disk.told c.restart.new.disk) (g.D.Disk.status c.restart.new.disk)) (Restarted c.in-Ok.restarted.events c.in-Ok.restarted.in_doubt)) (sym is)
     (restart_answered c.law_of_standing.ensures c.args.self.now _ _ _ _ _ _ c.in-Ok.restarted c.in-Ok.ensures.leaves)
 
@@ -23,7 +25,7 @@ invariant_of-self g c = rw c.replace-in-Ok.ensures.after c.kernel.invariant
 
 pub returns-in-Err-clause-leaves : goal.returns-in-Err-clause-leaves
 returns-in-Err-clause-leaves g c = rw c.self.view_is
-    (unstarted_answered c.law_of_standing.ensures c.args.self.now _ _ _ _ _ _ c.law_of_states.ensures c.law_of_bad_images.ensures c.requires.off c.requires.power c.requires.pending _ c.in-Err.fault c.in-Err.ensures.leaves c.in-Err.ensures.calls
+    (unstarted_answered c.law_of_standing.ensures c.args.self.now _ _ _ _ _ _ c.law_of_states.ensures.states c.law_of_bad_images.ensures c.requires.off c.requires.power c.requires.pending _ c.in-Err.fault c.in-Err.ensures.leaves c.in-Err.ensures.calls
     c.answer_of.result c.answer_of.ensures.ok c.answer_of.ensures.err)
 
 pub events_in-requires-clause-reserved : goal.events_in-requires-clause-reserved
@@ -44,3 +46,6 @@ returns-in-Ok-clause-few g c = found_few c.args.self.now (g.D.Disk.told c.args.d
 
 pub returns-in-Err-clause-few : goal.returns-in-Err-clause-few
 returns-in-Err-clause-few g c = found_few c.args.self.now (g.D.Disk.told c.args.disk.now) _ _ c.in-Err.ensures.few
+
+pub returns-in-Ok-clause-calls : goal.returns-in-Ok-clause-calls
+returns-in-Ok-clause-calls g c = calls_up _ _ _ c.requires.power c.in-Ok.ensures.calls

@@ -1,6 +1,9 @@
 use Rattle.std.proofs.Common.{◌≡◌, ℕ, ◌+◌, ◌≤◌, ◌∙◌, cond, length, List, Some, ap, subst, sym}
 use Rattle.ktm_course.specs.Moved.{records_files}
-use Rattle.ktm_memory.specs.Memory.{MemoryState, Shows, TellsWithin, course_then, present_of}
+use Rattle.ktm_each.specs.Each.{EachOfFiles}
+use Rattle.ktm_memory.proofs.offered.Following.{released-each}
+use Rattle.ktm_memory.specs.Rules.{Follows}
+use Rattle.ktm_memory.specs.Memory.{MemoryState, Shows, TellsWithin, course_then, is_known, present_of}
 use Rattle.ktm_memory.specs.contracts.memory.Memory.{the_view}
 use Rattle.ktm_memory.specs.declared.memory.Memory.TheInside.{Inside}
 use Rattle.ktm_memory.proofs.Carried.{arrived-sent, carried_shows}
@@ -91,3 +94,11 @@ returns-clause-settles c =
           ∙ ap (λ (k : TmState). k.slots + length then.sent) (sym c.release.ensures.rest.tm) ∙ ap (λ (l : List Sent). c.release.new.self.tm.slots + length l) (sym (arrived-sent x then)) in
           omega (arith, is);
     }
+
+pub returns-clause-rules : goal.returns-clause-rules
+returns-clause-rules c = λ rule none each.
+    let files : c.if-records_files.self-inside.files ≡ c.self.inside.files =
+    elim c.if-records_files.branch [ then-records_files w ↦ ap (λ (s : Inside). s.files) w.self-inside-is | else-records_files w ↦ ap (λ (s : Inside). s.files) w.self-inside-is ] in
+    let before : EachOfFiles (Follows rule) (files_of c.if-records_files.self-inside.files) =
+    subst (λ (f : FilesHeld). EachOfFiles (Follows rule) (files_of f)) (sym files) (subst (λ (k : MemoryState). EachOfFiles (Follows rule) (files_of k.files)) (sym c.self.view_is) each) in
+    released-each (Follows rule) none c.args.t.id c.commits.result (is_known c.carry_out.new.self.now c.args.t.id) (files_of c.if-records_files.self-inside.files) (files_of c.release.new.self.files) before c.release.ensures.files

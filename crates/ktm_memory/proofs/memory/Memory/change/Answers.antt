@@ -1,3 +1,9 @@
+use Rattle.std.specs.Prelude.{IfSome}
+use Rattle.ktm_each.proofs.offered.Files.{files_after-each}
+use Rattle.ktm_each.specs.Each.{EachOfFiles}
+use Rattle.ktm_memory.proofs.FilesFollow.{event_puts}
+use Rattle.ktm_memory.specs.Rules.{Follows}
+use Rattle.txf_tree.specs.UnitChanges.{CanBeMade}
 use Rattle.std.proofs.Common.{◌≡◌, ◌∙◌, None, ap, subst, sym, arith}
 use Rattle.ktm_memory.specs.Memory.{MemoryState, Shows}
 use Rattle.ktm_memory.specs.contracts.memory.Memory.{the_view}
@@ -24,3 +30,13 @@ returns-clause-settles c =
           (c.bind_opened.ensures.handles ∙ ap (λ (p : FileOutcome). handles_then m.handles.handles c.args.process c.args.label p.opened) c.plan.view_is));
       slots = λ x shows. omega (arith, slots);
     }
+
+pub settle-requires-clause-units : goal.settle-requires-clause-units
+settle-requires-clause-units c =
+    subst (λ (m : MemoryState). IfSome c.args.plan.change (CanBeMade (files_of m.files).tree)) (sym c.self.view_is) c.requires.0.units
+
+pub returns-clause-rules : goal.returns-clause-rules
+returns-clause-rules c = λ rule none each puts.
+    let before : EachOfFiles (Follows rule) (files_of c.self.inside.files) = subst (λ (m : MemoryState). EachOfFiles (Follows rule) (files_of m.files)) (sym c.self.view_is) each in
+    let after = files_after-each (Follows rule) none (files_of c.self.inside.files) None c.args.plan before (event_puts rule c.args.plan.change puts) in
+    subst (λ (m : MemoryState). EachOfFiles (Follows rule) (files_of m.files)) (sym c.bind_opened.ensures.rest) (subst (EachOfFiles (Follows rule)) (sym c.settle.ensures) after)

@@ -1,3 +1,6 @@
+use Rattle.ktm_each.specs.Each.{EachOfFiles}
+use Rattle.ktm_memory.specs.Rules.{Follows}
+use Rattle.txf_volume.specs.Held.{files_of}
 use Rattle.std.proofs.Common.{not, List, ap, sym, subst, ◌∙◌}
 use Rattle.ktm_types.specs.declared.object.Handle.{Handle}
 use Rattle.ktm_world.specs.HandleCalls.{close_handle, has_handle}
@@ -29,3 +32,9 @@ returns-in_default-clause-settles c =
     let m : MemoryState = record { is_up = c.self.inside.is_up; journal = c.self.inside.journal; handles = c.self.inside.handles; tm = c.self.inside.tm; trace = c.self.inside.trace; files = c.self.inside.files; next_node = c.self.inside.next_node; keys = c.self.inside.keys } in
     subst (λ old. Settles old (λ x. close_handle x c.args.process c.args.label) (record m { handles = c.close.new.self })) c.self.view_is
     (settles-unbound m c.close.new.self c.args.process c.args.label c.close.ensures.handles (none_closed c.self.inside.handles.handles c.args.process c.args.label (sym c.in_default.is ∙ c.close.ensures.closed)))
+
+pub returns-in-Some-clause-rules : goal.returns-in-Some-clause-rules
+returns-in-Some-clause-rules c = λ rule none each. c.let_go.ensures.rules rule none (subst (λ (m : MemoryState). EachOfFiles (Follows rule) (files_of m.files)) (sym c.self.view_is) each)
+
+pub returns-in_default-clause-rules : goal.returns-in_default-clause-rules
+returns-in_default-clause-rules c = λ rule none each. subst (λ (m : MemoryState). EachOfFiles (Follows rule) (files_of m.files)) (sym c.self.view_is) each

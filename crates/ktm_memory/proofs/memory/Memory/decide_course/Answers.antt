@@ -1,5 +1,4 @@
 use Rattle.std.proofs.Common.{ℕ, ◌≤◌, All, List, length, sum_by, sym, ap, subst, arith}
-use Rattle.ktm_event.specs.Kept.{Holds}
 use Rattle.ktm_event.specs.Spelling.{IsSpellableEvent}
 use Rattle.ktm_tm.specs.Courses.{caller_of}
 use Rattle.ktm_trace.proofs.offered.Rooms.{steps_room-less}
@@ -10,7 +9,11 @@ use Rattle.ktm_trace.specs.declared.room.TheConstants.{MOST_NOTED}
 use Rattle.ktm_types.specs.Sizes.{event_size}
 use Rattle.ktm_types.specs.declared.step.Step.{Step}
 use Rattle.ktm_world.specs.TransactionCalls.{course_of}
+use Rattle.ktm_memory.specs.Decided.{HoldsRecordOf}
 use Rattle.ktm_memory.specs.Memory.{MemoryState, course_then, present_of}
+use Rattle.ktm_memory.specs.Rules.{Follows}
+use Rattle.ktm_memory.proofs.offered.Following.{course-each}
+use Rattle.ktm_memory.proofs.offered.Standing.{own_spelled}
 use Rattle.ktm_memory.proofs.CourseDecided.{IsSeenIn, course_decided, course_is_spelled, course_size, few_traces, shows_present}
 use Rattle.ktm_memory.proofs.memory.Memory.decide_course.Goals as goal
 use Rattle.ktm_memory.proofs.memory.Memory.decide_course.Goals.{After-as_slice}
@@ -49,7 +52,13 @@ pub returns-clause-decided : goal.returns-clause-decided
 returns-clause-decided c =
     let d = (goal.at.returns-clause-decided c).After-as_slice in
     λ process.
-    course_decided (kept d) (m d) d.args.t d.args.caller d.args.input d.step-steps.result d.seen-seen.result (sees d) d.step-steps.ensures.row c.reply_to.result c.record_course.new.events
+    course_decided (kept d) (m d) d.args.t d.args.caller d.args.input d.step-steps.result d.seen-seen.result (sees d) d.step-steps.ensures.row d.law_of_events_ahead.ensures c.reply_to.result c.record_course.new.events
     (let e = caller_of (m d).tm.now.enlistments d.args.caller in c.reply_to.ensures (course_of (present_of (m d)) d.args.t e) (sees d (present_of (m d)) e (shows_present (kept d) (m d))))
-    (subst (λ (ss : List Step). Holds c.record_course.new.events (course_then (present_of (m d)) d.args.t d.args.caller ss).events) d.as_slice.ensures.value c.record_course.ensures.holds)
+    (subst (λ (ss : List Step). HoldsRecordOf (present_of (m d)).recorded c.record_course.new.events (course_then (present_of (m d)) d.args.t d.args.caller ss).events) d.as_slice.ensures.value c.record_course.ensures.records)
     d.requires.ready (few d) (noted d)
+
+pub record_course-requires-clause-own : goal.record_course-requires-clause-own
+record_course-requires-clause-own c = (own_spelled (present_of c.args.self.now) c.requires.standing c.args.t.id).each
+
+pub returns-clause-rules : goal.returns-clause-rules
+returns-clause-rules c = λ rule none each puts. (course-each (Follows rule) c.law_of_events_ahead.ensures (present_of c.args.self.now) c.args.t c.args.caller c.args.input each, each)

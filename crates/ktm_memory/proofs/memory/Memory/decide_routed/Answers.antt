@@ -1,4 +1,8 @@
-use Rattle.std.proofs.Common.{◌≤◌, List, [], Some, Result, Ok, Err, IfOk, sum_by, subst, arith}
+use Rattle.std.proofs.Common.{◌≤◌, List, [], Some, Result, Ok, Err, IfOk, sum_by, refl, sym, ap, subst, arith}
+use Rattle.ktm_each.specs.Each.{EachOfGroup}
+use Rattle.ktm_memory.proofs.RulesRouted.{manager_rules, quiet_rules}
+use Rattle.ktm_memory.specs.Rules.{Follows}
+use Rattle.txf_volume.specs.Held.{files_of}
 use Rattle.std.proofs.lemmas.Result.{IfOk-weaker}
 use Rattle.ktm_event.specs.Kept.{EventsState, Holds}
 use Rattle.ktm_records.proofs.offered.AgreementOfCourses.{arrival}
@@ -6,7 +10,7 @@ use Rattle.ktm_tm.specs.Courses.{caller_of}
 use Rattle.ktm_types.specs.Sizes.{event_size}
 use Rattle.ktm_types.specs.declared.event.Event.{Event}
 use Rattle.ktm_world.specs.Enlistments.{enlistment_at, manager_at}
-use Rattle.ktm_memory.specs.Memory.{present_of}
+use Rattle.ktm_memory.specs.Memory.{held, present_of}
 use Rattle.ktm_memory.specs.Routed.{course_to, outcome_of, reply_to}
 use Rattle.ktm_memory.specs.declared.routed.Routed.TheVariants.{Course, Create, Files, Handles, Inform, Information, MakeManager, Take, Tell}
 use Rattle.ktm_world.specs.TransactionCalls.{get_transaction_information}
@@ -114,3 +118,48 @@ decide_course-requires-clause-fits c =
     let x = present_of c.args.self.now in
     let d = course_to x c.in-Course.transaction c.in-Course.caller c.in-Course.input in
     subst (λ (es : List Event). sum_by event_size es ≤ c.args.events.now.spare) (arrival x d (reply_to c.in-Course.input d)).events (rw c.in-Course.is at c.requires.fits)
+
+-- ---- rules
+
+pub returns-in-Create-clause-rules : goal.returns-in-Create-clause-rules
+returns-in-Create-clause-rules c = rw c.in-Create.is (IfOk-weaker c.decide_create.result _ _ (λ d so. quiet_rules _ (held c.args.self.now) _ _ _ c.args.events.now c.decide_create.new.self (so c.args.events.now c.requires.empty) c.requires.empty (ap files_of c.decide_create.ensures.files)) c.decide_create.ensures.ok)
+
+pub returns-in-Course-clause-rules : goal.returns-in-Course-clause-rules
+returns-in-Course-clause-rules c =
+    let x = present_of c.args.self.now in
+    let d = course_to x c.in-Course.transaction c.in-Course.caller c.in-Course.input in
+    rw c.in-Course.is (λ rule none each puts. let all = c.decide_course.ensures.rules rule none each tt in (subst (EachOfGroup (Follows rule)) (sym (arrival x d (reply_to c.in-Course.input d)).events) all.0, all.1))
+
+pub returns-in-Information-clause-rules : goal.returns-in-Information-clause-rules
+returns-in-Information-clause-rules c =
+    let x = present_of c.args.self.now in
+    rw c.in-Information.is (quiet_rules _ (held c.args.self.now) _ _ _ c.args.events.now c.args.self.now
+    (only_decided c.args.self.now (get_transaction_information x (Some c.in-Information.t)) _ c.args.events.now
+    (information_is x c.in-Information.t _ c.information.ensures) c.requires.empty) c.requires.empty refl)
+
+pub returns-in-MakeManager-clause-rules : goal.returns-in-MakeManager-clause-rules
+returns-in-MakeManager-clause-rules c = rw c.in-MakeManager.is (ok_all _ (λ d. manager_rules _ (held c.args.self.now) c.args.process c.in-MakeManager.label c.in-MakeManager.durability _ c.decide_manager.new.self (ap files_of c.decide_manager.ensures.files)) c.decide_manager.result)
+
+pub returns-in-Recover-clause-rules : goal.returns-in-Recover-clause-rules
+returns-in-Recover-clause-rules c = rw c.in-Recover.is (IfOk-weaker c.decide_recovery.result _ _ (λ d so. quiet_rules _ (held c.args.self.now) _ _ _ c.args.events.now c.decide_recovery.new.self (so c.args.process c.args.events.now c.requires.empty) c.requires.empty (ap files_of c.decide_recovery.ensures.files)) c.decide_recovery.ensures.ok)
+
+pub returns-in-Take-clause-rules : goal.returns-in-Take-clause-rules
+returns-in-Take-clause-rules c = rw c.in-Take.is (quiet_rules _ (held c.args.self.now) _ _ _ c.args.events.now c.args.self.now (c.decide_note.ensures c.args.process c.args.events.now c.requires.empty) c.requires.empty refl)
+
+pub returns-in-Enlist-clause-rules : goal.returns-in-Enlist-clause-rules
+returns-in-Enlist-clause-rules c = rw c.in-Enlist.is (IfOk-weaker c.decide_enlistment.result _ _ (λ d so. quiet_rules _ (held c.args.self.now) _ _ _ c.args.events.now c.decide_enlistment.new.self (so c.args.events.now c.requires.empty) c.requires.empty (ap files_of c.decide_enlistment.ensures.files)) c.decide_enlistment.ensures.ok)
+
+pub returns-in-Inform-clause-rules : goal.returns-in-Inform-clause-rules
+returns-in-Inform-clause-rules c = rw c.in-Inform.is (quiet_rules _ (held c.args.self.now) _ _ _ c.args.events.now c.args.self.now (inform_decided c.args.self.now c.in-Inform.enlistment c.in-Inform.information c.args.events.now c.requires.empty) c.requires.empty refl)
+
+pub returns-in-Tell-clause-rules : goal.returns-in-Tell-clause-rules
+returns-in-Tell-clause-rules c = rw c.in-Tell.is (IfOk-weaker c.decide_told.result _ _ (λ d so. quiet_rules _ (held c.args.self.now) _ _ _ c.args.events.now c.args.self.now (so c.args.process c.args.events.now c.requires.empty) c.requires.empty refl) c.decide_told.ensures)
+
+pub returns-in-Handles-clause-rules : goal.returns-in-Handles-clause-rules
+returns-in-Handles-clause-rules c = rw c.in-Handles.is (IfOk-weaker c.decide_labels.result _ _ (λ d so. quiet_rules _ (held c.args.self.now) _ _ _ c.args.events.now c.decide_labels.new.self (so c.args.events.now c.requires.empty) c.requires.empty (ap files_of c.decide_labels.ensures.files)) c.decide_labels.ensures.ok)
+
+pub returns-in-Keys-clause-rules : goal.returns-in-Keys-clause-rules
+returns-in-Keys-clause-rules c = rw c.in-Keys.is (IfOk-weaker c.decide_keys.result _ _ (λ d so. quiet_rules _ (held c.args.self.now) _ _ _ c.args.events.now c.decide_keys.new.self (so c.args.events.now c.requires.empty) c.requires.empty (ap files_of c.decide_keys.ensures.files)) c.decide_keys.ensures.ok)
+
+pub returns-in-Files-clause-rules : goal.returns-in-Files-clause-rules
+returns-in-Files-clause-rules c = rw c.in-Files.is c.decide_files.ensures.rules

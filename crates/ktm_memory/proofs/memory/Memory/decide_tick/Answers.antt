@@ -5,11 +5,14 @@ use Rattle.ktm_event.specs.Kept.{Holds}
 use Rattle.ktm_event.specs.Spelling.{IsSpellableEvent}
 use Rattle.ktm_types.specs.Sizes.{event_size}
 use Rattle.ktm_types.specs.declared.event.Event.{Event}
-use Rattle.ktm_world.specs.TransactionCalls.{later}
+use Rattle.ktm_world.specs.TransactionCalls.{later, tick}
 use Rattle.ktm_world.specs.Transactions.{is_live}
 use Rattle.ktm_memory.specs.Memory.{MemoryState, present_of}
 use Rattle.ktm_memory.proofs.Decides.{tick_decided}
-use Rattle.ktm_memory.proofs.UndoneLive.{tick_undoes, undone_live, undone_spelled}
+use Rattle.ktm_memory.proofs.UndoneLive.{tick_bare, tick_undoes, undone_live, undone_spelled}
+use Rattle.ktm_memory.proofs.offered.Following.{bare-each}
+use Rattle.ktm_memory.proofs.offered.Records.{bare_record}
+use Rattle.ktm_memory.specs.Rules.{Follows}
 use Rattle.ktm_memory.proofs.offered.Standing.{kept}
 use Rattle.ktm_memory.proofs.memory.Memory.decide_tick.Goals as goal
 
@@ -34,4 +37,10 @@ returns-clause-decided c =
     let x = present_of c.args.self.now in
     let undoes = ap (λ m. undone m c.args.ms) c.self.view_is ∙ tick_undoes x c.args.ms (kept x c.requires.standing).sound.course in
     rw (c.done.ensures.reply, c.done.ensures.settlement)
-    (tick_decided c.args.self.now c.args.ms c.record_undone.new.events c.requires.standing (subst (Holds c.record_undone.new.events) undoes c.record_undone.ensures.holds))
+    (tick_decided c.args.self.now c.args.ms c.record_undone.new.events c.requires.standing
+    (bare_record x.recorded c.record_undone.new.events (tick x c.args.ms).events (tick_bare x c.args.ms (kept x c.requires.standing).sound.course) (subst (Holds c.record_undone.new.events) undoes c.record_undone.ensures.holds)))
+
+pub returns-clause-rules : goal.returns-clause-rules
+returns-clause-rules c = λ rule none each puts.
+    let x = present_of c.args.self.now in
+    (bare-each (Follows rule) (tick x c.args.ms).events (tick_bare x c.args.ms (kept x c.requires.standing).sound.course), each)

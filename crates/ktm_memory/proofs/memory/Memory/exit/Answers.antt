@@ -1,3 +1,6 @@
+use Rattle.ktm_each.specs.Each.{EachOfFiles}
+use Rattle.ktm_memory.specs.Rules.{Follows}
+use Rattle.txf_volume.specs.Held.{files_of}
 use Rattle.std.proofs.Common.{◌∷◌, not, List, length, refl, ap, sym, subst, ◌∙◌, arith}
 use Rattle.ktm_base.specs.declared.id.Label.{Label}
 use Rattle.ktm_object.specs.Table.{HandleTable}
@@ -9,7 +12,7 @@ use Rattle.ktm_memory.proofs.Closings.{closed_is, exit-behind, first_closed, loo
 use Rattle.ktm_memory.proofs.memory.Memory.exit.Goals as goal
 
 pub loop-closed-init : goal.loop-closed-init
-loop-closed-init c = record { settles = λ new rest. rest; told = c.requires.told; journal = refl }
+loop-closed-init c = record { settles = λ new rest. rest; told = c.requires.told; journal = refl; rules = λ rule none each. each }
 
 pub let_go-requires-clause-last : goal.let_go-requires-clause-last
 let_go-requires-clause-last c =
@@ -41,6 +44,7 @@ loop-closed-preserved c =
           (settles-behind m c.let_go.new.self new (λ x. close_handle x c.args.process c.in-Some.closed.label) (λ x. exit x c.args.process) (λ x. exit x c.args.process) behind closed rest));
       told = told-rest m c.let_go.new.self (λ x. close_handle x c.args.process c.in-Some.closed.label) (λ x. exit x c.args.process) (λ x. exit x c.args.process) c.law_of_kept.ensures (looks-exit c.args.process) behind closed told;
       journal = c.let_go.ensures.journal ∙ ap (λ m. m.journal) c.self.view_is ∙ c.loop-closed.invariant.journal;
+      rules = λ rule none each. c.let_go.ensures.rules rule none (subst (λ (old : MemoryState). EachOfFiles (Follows rule) (files_of old.files)) (sym c.self.view_is) (c.loop-closed.invariant.rules rule none each));
     }
 
 pub loop-closed-smaller : goal.loop-closed-smaller
@@ -55,3 +59,6 @@ returns-clause-settles c =
     c.loop-closed.invariant.settles m
     (subst (λ old. Settles old (λ x. exit x c.args.process) m) (ap (λ (t : HandleTable). record m { handles = t }) c.in_default.ensures.unchanged ∙ c.self.view_is)
     (settles-none m c.args.process (ap (λ (t : HandleTable). labels_of t.handles c.args.process) c.in_default.ensures.unchanged ∙ c.in_default.ensures.none)))
+
+pub returns-clause-rules : goal.returns-clause-rules
+returns-clause-rules c = λ rule none each. subst (λ (old : MemoryState). EachOfFiles (Follows rule) (files_of old.files)) (sym c.self.view_is) (c.loop-closed.invariant.rules rule none each)

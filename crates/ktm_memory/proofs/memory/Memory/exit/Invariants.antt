@@ -1,6 +1,8 @@
 use Rattle.std.proofs.Common.{◌≡◌, length}
 use Rattle.ktm_world.specs.HandleCalls.{exit, labels_of}
 use Rattle.ktm_memory.specs.Memory.{MemoryState, Settles, TellsWithin}
+use Rattle.ktm_memory.specs.Rules.{KeepRules}
+use Rattle.txf_volume.specs.Held.{files_of}
 use Rattle.ktm_memory.proofs.memory.Memory.exit.Given as goal
 
 abbrev pub invariant-loop-closed : goal.invariant-loop-closed
@@ -9,6 +11,7 @@ invariant-loop-closed l = record {
   settles : (new : MemoryState) → Settles l.self (λ x. exit x l.process) new → Settles l.fn.self (λ x. exit x l.process) new;
   told : TellsWithin l.self (λ x. exit x l.process);
   journal : l.self.journal ≡ l.fn.self.journal;
+  rules : KeepRules (files_of l.fn.self.files) (files_of l.self.files);
 }
 
 abbrev pub decreases-loop-closed : goal.decreases-loop-closed

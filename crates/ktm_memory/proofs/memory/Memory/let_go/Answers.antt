@@ -1,4 +1,8 @@
-use Rattle.std.proofs.Common.{Some, subst, inl, inr}
+use Rattle.std.proofs.Common.{Some, subst, sym, inl, inr}
+use Rattle.ktm_each.proofs.offered.Files.{closed-each}
+use Rattle.ktm_each.specs.Each.{EachOfFiles}
+use Rattle.ktm_memory.specs.Rules.{Follows}
+use Rattle.txf_volume.specs.Held.{files_of}
 use Rattle.ktm_types.specs.declared.object.Object.TheVariants.{Transaction as TransactionObject, Manager as ManagerObject, Enlistment as EnlistmentObject, File as FileObject}
 use Rattle.ktm_types.specs.declared.reply.Reply.TheVariants.{Done}
 use Rattle.ktm_world.specs.HandleCalls.{handle_gone, last_handle_gone}
@@ -41,3 +45,8 @@ returns-in-Manager-clause-settles c = elim c.in-Manager.is [
       settles-same c.args.self.now c.args.self.now (λ x. only_reply x Done) (λ x. handle_gone (Some c.args.closed.object) x)
       (none-names c.args.self.now c.args.closed.object (EnlistmentObject enlistment.0) c.args.closed.is_last enlistment.1 c.if-not-closed.false c.requires.last) (settles-reply c.args.self.now)
 ]
+
+pub returns-in-File-clause-rules : goal.returns-in-File-clause-rules
+returns-in-File-clause-rules c = λ rule none each.
+    subst (EachOfFiles (Follows rule)) (sym c.close.ensures)
+    (closed-each (Follows rule) (files_of c.self.inside.files) c.in-File.number (subst (λ (m : MemoryState). EachOfFiles (Follows rule) (files_of m.files)) (sym c.self.view_is) each))

@@ -1,6 +1,10 @@
-use Rattle.std.proofs.Common.{◌≡◌, true, is_some, List, sym, subst}
+use Rattle.std.proofs.Common.{◌≡◌, ℕ, Bool, true, is_some, List, None, ap, sym, subst}
+use Rattle.ktm_each.specs.Each.{EachOfFiles, EachOfGroup}
+use Rattle.ktm_memory.proofs.offered.Opening.{events_in}
+use Rattle.ktm_memory.specs.Rules.{Follows}
+use Rattle.txf_volume.specs.Held.{FilesHeld, files_of}
 use Rattle.ktm_standing.proofs.offered.NextNode.{logs_next}
-use Rattle.ktm_memory.specs.Memory.{MemoryState, SettlesGood, TellsWithin, course_then}
+use Rattle.ktm_memory.specs.Memory.{MemoryState, SettlesGood, TellsWithin, course_then, present_of}
 use Rattle.ktm_memory.proofs.Behind.{settles-good, settles-reply}
 use Rattle.ktm_memory.proofs.Telling.{settles-inform, settles-recover, settles-take, told-recover}
 use Rattle.ktm_tm.specs.Courses.{caller_of}
@@ -58,3 +62,39 @@ returns-in-Inform-clause-settles c =
     (subst (λ (old : MemoryState). SettlesGood old (λ x. set_information x (enlistment_at x.transactions.enlistments c.in-Inform.enlistment) c.in-Inform.information) n) c.self-in-Inform.view_is
     (settles-good m n (λ x. set_information x (enlistment_at x.transactions.enlistments c.in-Inform.enlistment) c.in-Inform.information)
     (settles-inform m c.inform.new.self c.in-Inform.enlistment c.in-Inform.information c.inform.ensures.others.boot c.inform.ensures.now c.inform.ensures.others.managers c.inform.ensures.others.slots)))
+
+-- what leaves the files as they are
+files-kept : (rule : ℕ → ℕ → ℕ → Bool) (old new : FilesHeld) → new ≡ old → EachOfFiles (Follows rule) (files_of old) → EachOfFiles (Follows rule) (files_of new)
+files-kept rule old new same each = subst (λ (f : FilesHeld). EachOfFiles (Follows rule) (files_of f)) (sym same) each
+
+pub returns-in-Begin-clause-rules : goal.returns-in-Begin-clause-rules
+returns-in-Begin-clause-rules c = λ rule none each puts. files-kept rule _ _ c.begin.ensures.files each
+
+pub returns-in-MakeManager-clause-rules : goal.returns-in-MakeManager-clause-rules
+returns-in-MakeManager-clause-rules c = λ rule none each puts. files-kept rule _ _ c.make_manager.ensures.files each
+
+pub returns-in-Enlist-clause-rules : goal.returns-in-Enlist-clause-rules
+returns-in-Enlist-clause-rules c = λ rule none each puts. files-kept rule _ _ c.enlist.ensures.files each
+
+pub returns-in-Change-clause-rules : goal.returns-in-Change-clause-rules
+returns-in-Change-clause-rules c = λ rule none each puts.
+    c.change.ensures.rules rule none each
+    (subst (EachOfGroup (Follows rule)) (events_in (present_of c.args.self.now) c.in-Change.process None c.in-Change.label c.in-Change.plan) (rw c.in-Change.is at puts))
+
+pub returns-in-Course-clause-rules : goal.returns-in-Course-clause-rules
+returns-in-Course-clause-rules c = λ rule none each puts. c.carry_out.ensures.rules rule none each
+
+pub returns-in-Handles-clause-rules : goal.returns-in-Handles-clause-rules
+returns-in-Handles-clause-rules c = λ rule none each puts. c.handle.ensures.rules rule none each
+
+pub returns-in-Pass-clause-rules : goal.returns-in-Pass-clause-rules
+returns-in-Pass-clause-rules c = λ rule none each puts. c.tick.ensures.rules rule none each
+
+pub returns-in-Recover-clause-rules : goal.returns-in-Recover-clause-rules
+returns-in-Recover-clause-rules c = λ rule none each puts. files-kept rule _ _ (ap (λ (m : MemoryState). m.files) c.self.view_is) each
+
+pub returns-in-Take-clause-rules : goal.returns-in-Take-clause-rules
+returns-in-Take-clause-rules c = λ rule none each puts. files-kept rule _ _ (ap (λ (m : MemoryState). m.files) c.self-in-Take.view_is) each
+
+pub returns-in-Inform-clause-rules : goal.returns-in-Inform-clause-rules
+returns-in-Inform-clause-rules c = λ rule none each puts. files-kept rule _ _ (ap (λ (m : MemoryState). m.files) c.self-in-Inform.view_is) each

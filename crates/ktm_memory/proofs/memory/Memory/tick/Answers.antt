@@ -1,3 +1,6 @@
+use Rattle.ktm_each.specs.Each.{EachOfFiles}
+use Rattle.ktm_memory.specs.Rules.{Follows}
+use Rattle.txf_volume.specs.Held.{files_of}
 use Rattle.std.proofs.Common.{◌≡◌, ◌+◌, ◌≤◌, ℕ, suc, None, List, filter, length, ap, sym, ◌∙◌, subst, arith}
 use Rattle.std.proofs.lemmas.List.Sums.{length-filter}
 use Rattle.std.specs.List.{slice_get}
@@ -21,6 +24,7 @@ loop-t-init c =
       rise = subst Rise (sym items) c.requires.may.0;
       few = subst (λ (ts : List Transaction). length (filter is_live ts) ≤ MOST_LIVE) (sym items) (omega (arith, length-filter is_live c.args.self.now.tm.now.items, c.requires.may.1));
       journal = ap (λ m. m.journal) c.self.view_is;
+      rules = λ rule none each. subst (λ (old : MemoryState). EachOfFiles (Follows rule) (files_of old.files)) (sym c.self.view_is) each;
       settles = λ new rest. subst (λ (old : MemoryState). Settles old (λ x. tick x c.args.ms) new) c.self.view_is
           (settles-tick m new c.advance.new.self c.args.ms rise c.advance.ensures.boot c.advance.ensures.now c.advance.ensures.rest rest);
       told = told-tick m c.advance.new.self c.args.ms rise c.advance.ensures.boot c.advance.ensures.now c.advance.ensures.rest
@@ -37,6 +41,7 @@ loop-t-preserved c =
       rise = c.loop-t.invariant.rise;
       few = c.loop-t.invariant.few;
       journal = c.loop-t.invariant.journal;
+      rules = c.loop-t.invariant.rules;
       settles = λ new rest. c.loop-t.invariant.settles new (settles-same c.loop-t.self new (from_here (c.loop-t.place + 1)) (from_here c.loop-t.place)
           (λ x now. same x now ∙ ap (λ (i : ℕ). from_here i x) (sym next)) rest);
       told = told-same c.loop-t.self (from_here (c.loop-t.place + 1)) (from_here c.loop-t.place) (λ x now. same x now ∙ ap (λ (i : ℕ). from_here i x) (sym next)) c.loop-t.invariant.told;
@@ -69,6 +74,7 @@ loop-t-preserved-then-is_due c =
       rise = rolled_rise c.loop-t.self.tm.now c.roll_back.new.self.tm.now c.in-Some.t rolled c.loop-t.invariant.rise;
       few = omega (arith, rolled_few c.loop-t.self.tm.now c.roll_back.new.self.tm.now c.loop-t.place c.in-Some.t at rolled, c.loop-t.invariant.few);
       journal = c.roll_back.ensures.journal ∙ c.loop-t.invariant.journal;
+      rules = λ rule none each. c.roll_back.ensures.rules rule none (c.loop-t.invariant.rules rule none each);
       settles = λ new rest. c.loop-t.invariant.settles new
           (settles-behind c.loop-t.self c.roll_back.new.self new (λ x. aborted_by x c.in-Some.t None Done) (from_here c.loop-t.place) (from_here c.loop-t.place) behind c.roll_back.ensures.settles rest);
       told = told-rest c.loop-t.self c.roll_back.new.self (λ x. aborted_by x c.in-Some.t None Done) (from_here c.loop-t.place) (from_here c.loop-t.place) c.law_of_kept.ensures (looks-from c.loop-t.place) behind c.roll_back.ensures.settles c.loop-t.invariant.told;

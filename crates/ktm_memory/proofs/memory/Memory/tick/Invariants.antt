@@ -2,6 +2,8 @@ use Rattle.std.proofs.Common.{◌≡◌, ◌≤◌, filter, length}
 use Rattle.ktm_base.specs.declared.limits.TheConstants.{MOST_LIVE}
 use Rattle.ktm_standing.proofs.offered.Distinct.{Rise}
 use Rattle.ktm_memory.specs.Memory.{MemoryState, Settles, TellsWithin}
+use Rattle.ktm_memory.specs.Rules.{KeepRules}
+use Rattle.txf_volume.specs.Held.{files_of}
 use Rattle.ktm_world.specs.TransactionCalls.{tick}
 use Rattle.ktm_world.specs.Transactions.{is_live}
 use Rattle.ktm_memory.proofs.Ticks.{from_here, left_from}
@@ -12,6 +14,7 @@ invariant-loop-t l = record {
   rise : Rise l.self.tm.now.items;
   few : length (filter is_live l.self.tm.now.items) ≤ MOST_LIVE;
   journal : l.self.journal ≡ l.fn.self.journal;
+  rules : KeepRules (files_of l.fn.self.files) (files_of l.self.files);
   -- what settles the rest settles all
   settles : (new : MemoryState) → Settles l.self (from_here l.place) new → Settles l.fn.self (λ x. tick x l.ms) new;
   told : TellsWithin l.self (from_here l.place);

@@ -7,13 +7,13 @@ use Rattle.ktm_restart.proofs.Taking.{takes-ok, takes-none}
 use Rattle.ktm_restart.proofs.Past.{past_units}
 use Rattle.ktm_restart.proofs.replayed.Replayed.change_plainly.Goals as goal
 
-pub returns-then-passes_units-clause-takes : goal.returns-then-passes_units-clause-takes
-returns-then-passes_units-clause-takes c =
+pub returns-then-passes_units : goal.returns-then-passes_units
+returns-then-passes_units c =
     let s = c.args.self.now.state in
     let passes = ap (λ (r : ReplayedState). passes_units r.state.units c.args.change) (sym c.self.view_is) ∙ sym c.if-passes_units.ensures in
     takes-none s s (Plain c.args.change) (past_units s c.args.change passes)
 
-pub returns-clause-takes : goal.returns-clause-takes
-returns-clause-takes c =
+pub returns : goal.returns
+returns c =
     let s = c.args.self.now.state in
     takes-ok c.commit_change.result s c.commit_change.new.self.state (Plain c.args.change) (recorded_changes_apply s None (c.args.change ∷ [])) refl c.commit_change.ensures.applies c.commit_change.ensures.after

@@ -3,10 +3,12 @@ use Rattle.std.specs.List.{list_all}
 use Rattle.ktm_world.specs.Changes.{changes_apply}
 use Rattle.ktm_world.specs.Durable.{Recorded, is_new_in, recorded_at}
 use Rattle.txf_tree.specs.TreeState.{tree_of}
+use Rattle.txf_tree.specs.UnitChanges.{CanAllBeMade}
 use Rattle.ktm_waiting.specs.Table.{decided_in}
 use Rattle.ktm_waiting.specs.Waiting.{AreHeld, AreSpared}
 use Rattle.ktm_waiting.proofs.offered.Keeping.{changes-apply-at, changes-new-at, decide-spared}
 use Rattle.ktm_waiting.proofs.offered.Reserving.{held-decided, held-idle}
+use Rattle.ktm_restart.proofs.Made.{kept-made}
 use Rattle.ktm_restart.proofs.replayed.Replayed.decide.Goals as goal
 
 pub decide-changes-requires : goal.decide-changes-requires
@@ -33,6 +35,11 @@ pub commit-requires-clause-new : goal.commit-requires-clause-new
 commit-requires-clause-new c =
     let tree = tree_of c.self.inside.files.tree in
     ap (list_all (is_new_in tree)) c.decide-changes.ensures.changes ∙ changes-new-at tree c.self.inside.transactions.transactions c.args.transaction c.self.invariant.kept
+
+pub commit-requires-clause-units : goal.commit-requires-clause-units
+commit-requires-clause-units c =
+    let tree = tree_of c.self.inside.files.tree in
+    subst (CanAllBeMade tree) (sym c.decide-changes.ensures.changes) (kept-made tree c.self.inside.transactions.transactions c.args.transaction c.self.invariant.kept)
 
 pub commit-requires-clause-spared : goal.commit-requires-clause-spared
 commit-requires-clause-spared c =

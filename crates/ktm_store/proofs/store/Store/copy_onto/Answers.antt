@@ -5,7 +5,7 @@ use Rattle.ktm_store.proofs.store.Store.copy_onto.Goals as goal
 
 pub loop-at-preserved : goal.loop-at-preserved
 loop-at-preserved c =
-    let bytes = bytes_at c.args.self.now.seen c.args.content.now.bytes in
+    let bytes = bytes_at c.args.self.now.seen c.args.content.now in
     let before = c.args.onto.now.items in
     let from = c.args.from in
     let at = c.loop-at.at in

@@ -7,7 +7,7 @@ abbrev pub invariant-loop-at : goal.invariant-loop-at
 invariant-loop-at l = record {
   begins : l.from ≤ l.at;
   ends : l.at ≤ l.end;
-  items : l.onto.items ≡ l.initial.onto.items ++ take (l.at - l.from) (drop l.from (bytes_at l.self.seen l.content.bytes));
+  items : l.onto.items ≡ l.initial.onto.items ++ take (l.at - l.from) (drop l.from (bytes_at l.self.seen l.content));
   room : vec_len l.onto + (l.end - l.at) ≤ vec_capacity l.onto;
 }
 

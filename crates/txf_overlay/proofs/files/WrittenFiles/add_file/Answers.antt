@@ -1,8 +1,10 @@
-use Rattle.std.proofs.Common.{◌∙◌, ◌+◌, [], ap, sym}
+use Rattle.std.proofs.Common.{◌∙◌, ◌+◌, [], ap, subst, sym}
 use Rattle.ktm_world.specs.Tree.{units_of}
 use Rattle.txf_overlay.specs.OverlayState.{Written}
 use Rattle.txf_overlay.specs.Written.{bytes_or, with_bytes}
 use Rattle.txf_overlay.specs.Files.{files_in}
+use Rattle.txf_overlay.specs.Pages.{LieOnPages}
+use Rattle.txf_overlay.proofs.Pages.{lie-none}
 use Rattle.txf_overlay.proofs.FilesMap.{counted_edited, edited_new, free_name, kept_there, none_there, some_there}
 use Rattle.txf_overlay.proofs.files.WrittenFiles.add_file.Goals as goal
 
@@ -20,7 +22,7 @@ invariant_of-self c =
     let absent = none_there _ c.args.file (rw (← c.self.view_is) at c.in_default.ensures) in
     counted_edited _ _ _ _ c.args.file [] _ c.self.invariant
     (edited_new _ _ c.args.file c.insert.result c.empty.result c.number_bytes.result c.self.invariant.map c.ranges.file.fits absent c.number_bytes.ensures
-    (ap (λ (w : Written). w.file) c.empty.ensures) c.insert.ensures.entries) (ap (bytes_or []) absent)
+    (ap (λ (w : Written). w.file) c.empty.ensures) c.insert.ensures.entries) (subst (λ (w : Written). LieOnPages w.bytes) (sym c.empty.ensures) lie-none) (ap (bytes_or []) absent)
     (ap (λ (w : Written). c.self.inside.units + units_of w.bytes) (sym c.empty.ensures))
 
 pub returns-clause-written : goal.returns-clause-written

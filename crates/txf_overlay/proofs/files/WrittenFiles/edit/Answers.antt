@@ -1,8 +1,9 @@
-use Rattle.std.proofs.Common.{◌≡◌, ◌<◌, ◌^◌, ◌∙◌, ◌+◌, [], Some, ap, arith, sym}
+use Rattle.std.proofs.Common.{◌≡◌, ◌<◌, ◌^◌, ◌∙◌, ◌+◌, [], Some, ap, arith, subst, sym}
 use Rattle.ktm_world.specs.Tree.{units_of}
 use Rattle.txf_overlay.specs.Edits.{edited}
 use Rattle.txf_overlay.specs.Files.{files_in}
 use Rattle.txf_overlay.specs.OverlayState.{Written}
+use Rattle.txf_overlay.specs.Pages.{LieOnPages}
 use Rattle.txf_overlay.specs.Written.{bytes_or, total_units, with_bytes}
 use Rattle.txf_overlay.proofs.FilesMap.{counted_edited, edited_there, is_written, not_written, units_at, units-with, units-without, with_bytes-same}
 use Rattle.txf_overlay.proofs.files.WrittenFiles.edit.Goals as goal
@@ -14,6 +15,15 @@ edit_new-requires-clause-absent c =
 pub edit_new-requires-clause-few : goal.edit_new-requires-clause-few
 edit_new-requires-clause-few c =
     rw (edit_new-requires-clause-absent c) at (rw (← c.self.view_is) at c.requires.few)
+
+pub edit_new-requires-clause-can : goal.edit_new-requires-clause-can
+edit_new-requires-clause-can c =
+    rw (edit_new-requires-clause-absent c) at (rw (← c.self.view_is) at c.requires.can)
+
+pub edit-requires : goal.edit-requires
+edit-requires c =
+    let there = is_written _ c.args.file _ c.self.invariant.map.are c.ranges.file.fits (rw c.number_bytes.ensures at c.in-Some.ensures.value) in
+    rw there.bytes at (rw (← c.self.view_is) at c.requires.can)
 
 pub returns-in_default-clause-ok : goal.returns-in_default-clause-ok
 returns-in_default-clause-ok c =
@@ -32,6 +42,7 @@ invariant_of-self-in-Err c =
     rw c.number_bytes.ensures
     (counted_edited _ _ _ _ c.args.file _ _ c.self.invariant
     (edited_there _ c.args.file _ c.edit.new.self c.self.invariant.map c.ranges.file.fits there (ap (λ (w : Written). w.file) same))
+    (subst (λ (w : Written). LieOnPages w.bytes) (sym same) c.units-before.ensures.pages)
     (ap (bytes_or []) there.bytes) (ap (λ (w : Written). c.self.inside.units + units_of w.bytes) (sym same)))
 
 pub returns-in-Err-clause-err : goal.returns-in-Err-clause-err
@@ -52,7 +63,7 @@ overflow_sub-self c =
     let ws = files_in c.self.inside.map.entries in
     let there = is_written _ c.args.file _ c.self.invariant.map.are c.ranges.file.fits (rw c.number_bytes.ensures at c.in-Some.ensures.value) in
     let known : units_at ws c.args.file ≡ units_of c.in-Some.written.now.bytes = ap (λ o. units_of (bytes_or [] o)) there.bytes in
-    omega (arith, known, c.units-before.ensures, c.self.invariant.sum, units-without ws c.args.file c.self.invariant.map.rise)
+    omega (arith, known, c.units-before.ensures.units, c.self.invariant.sum, units-without ws c.args.file c.self.invariant.map.rise)
 
 pub overflow_add-self : goal.overflow_add-self
 overflow_add-self c =
@@ -61,13 +72,13 @@ overflow_add-self c =
     let there = is_written _ c.args.file _ c.self.invariant.map.are c.ranges.file.fits (rw c.number_bytes.ensures at c.in-Some.ensures.value) in
     let known : units_at ws c.args.file ≡ units_of was = ap (λ o. units_of (bytes_or [] o)) there.bytes in
     let few : total_units (with_bytes ws c.args.file (edited was c.args.edit)) < 2 ^ 64 = rw there.bytes at (rw (← c.self.view_is) at c.requires.few) in
-    let after : c.units-after.result ≡ units_of (edited was c.args.edit) = c.units-after.ensures ∙ ap (λ (w : Written). units_of w.bytes) c.in_default-edit.ensures.ok in
+    let after : c.units-after.result ≡ units_of (edited was c.args.edit) = c.units-after.ensures.units ∙ ap (λ (w : Written). units_of w.bytes) c.in_default-edit.ensures.ok in
     omega (
       arith,
       known,
       few,
       after,
-      c.units-before.ensures,
+      c.units-before.ensures.units,
       c.self.invariant.sum,
       units-without ws c.args.file c.self.invariant.map.rise,
       units-with ws c.args.file (edited was c.args.edit) c.self.invariant.map.rise,
@@ -81,12 +92,13 @@ invariant_of-self-2 c =
     rw c.number_bytes.ensures
     (counted_edited _ _ _ _ c.args.file _ _ c.self.invariant
     (edited_there _ c.args.file _ c.edit.new.self c.self.invariant.map c.ranges.file.fits there (ap (λ (w : Written). w.file) c.in_default-edit.ensures.ok))
+    c.units-after.ensures.pages
     (ap (bytes_or []) there.bytes)
     (omega (
       arith,
       known,
-      c.units-before.ensures,
-      c.units-after.ensures,
+      c.units-before.ensures.units,
+      c.units-after.ensures.units,
       c.self.invariant.sum,
       units-without ws c.args.file c.self.invariant.map.rise,
     )))
@@ -98,4 +110,4 @@ returns-clause-ok c =
     rw (← c.self.view_is, c.number_bytes.ensures)
     ((edited_there _ c.args.file _ c.edit.new.self c.self.invariant.map c.ranges.file.fits there (ap (λ (w : Written). w.file) c.in_default-edit.ensures.ok)).files
     ∙ ap (with_bytes ws c.args.file)
-    (ap (λ (w : Written). w.bytes) c.in_default-edit.ensures.ok ∙ ap (λ o. edited (bytes_or c.args.first.now o) c.args.edit) (sym there.bytes)))
+    (ap (λ (w : Written). w.bytes) c.in_default-edit.ensures.ok ∙ ap (λ o. edited (bytes_or c.args.first o) c.args.edit) (sym there.bytes)))

@@ -10,13 +10,13 @@ use Rattle.txf_overlay.proofs.files.WrittenFiles.edit_new.Goals as goal
 pub overflow_add-self : goal.overflow_add-self
 overflow_add-self c =
     let ws = files_in c.self.inside.map.entries in
-    let bytes = edited c.args.first.now c.args.edit in
+    let bytes = edited c.args.first c.args.edit in
     let absent : bytes_at ws c.args.file ≡ None = rw (← c.self.view_is) at c.requires.absent in
     let few : total_units (with_bytes ws c.args.file bytes) < 2 ^ 64 = rw (← c.self.view_is) at c.requires.few in
     let none : units_at ws c.args.file ≡ 0 = ap (λ o. units_of (bytes_or [] o)) absent in
     let new : c.edit.new.self ≡ file_of c.args.file bytes =
     c.in_ok-edit.ensures.ok ∙ ap (λ (w : Written). record w { bytes = edited w.bytes c.args.edit }) c.in_ok-written.ensures in
-    let units : c.units.result ≡ units_of bytes = c.units.ensures ∙ ap (λ (w : Written). units_of w.bytes) new in
+    let units : c.units.result ≡ units_of bytes = c.units.ensures.units ∙ ap (λ (w : Written). units_of w.bytes) new in
     omega (arith, few, none, units, c.self.invariant.sum, units-with ws c.args.file bytes c.self.invariant.map.rise)
 
 pub insert-requires-clause-free : goal.insert-requires-clause-free
@@ -27,18 +27,18 @@ insert-requires-clause-free c =
 pub invariant_of-self-2 : goal.invariant_of-self-2
 invariant_of-self-2 c =
     let absent : bytes_at (files_in c.self.inside.map.entries) c.args.file ≡ None = rw (← c.self.view_is) at c.requires.absent in
-    let new : c.edit.new.self ≡ file_of c.args.file (edited c.args.first.now c.args.edit) =
+    let new : c.edit.new.self ≡ file_of c.args.file (edited c.args.first c.args.edit) =
     c.in_ok-edit.ensures.ok ∙ ap (λ (w : Written). record w { bytes = edited w.bytes c.args.edit }) c.in_ok-written.ensures in
     counted_edited _ _ _ _ c.args.file [] _ c.self.invariant
     (edited_new _ _ c.args.file c.insert.result c.edit.new.self c.number_bytes.result c.self.invariant.map c.ranges.file.fits absent c.number_bytes.ensures
-    (ap (λ (w : Written). w.file) new) (rw c.in_ok-reserve.ensures.entries at c.insert.ensures.entries)) (ap (bytes_or []) absent)
-    (omega (arith, c.units.ensures))
+    (ap (λ (w : Written). w.file) new) (rw c.in_ok-reserve.ensures.entries at c.insert.ensures.entries)) c.units.ensures.pages (ap (bytes_or []) absent)
+    (omega (arith, c.units.ensures.units))
 
 pub returns-clause-ok : goal.returns-clause-ok
 returns-clause-ok c =
     let ws = files_in c.self.inside.map.entries in
     let absent : bytes_at ws c.args.file ≡ None = rw (← c.self.view_is) at c.requires.absent in
-    let new : c.edit.new.self ≡ file_of c.args.file (edited c.args.first.now c.args.edit) =
+    let new : c.edit.new.self ≡ file_of c.args.file (edited c.args.first c.args.edit) =
     c.in_ok-edit.ensures.ok ∙ ap (λ (w : Written). record w { bytes = edited w.bytes c.args.edit }) c.in_ok-written.ensures in
     rw (← c.self.view_is)
     ((edited_new _ _ c.args.file c.insert.result c.edit.new.self c.number_bytes.result c.self.invariant.map c.ranges.file.fits absent c.number_bytes.ensures

@@ -12,7 +12,7 @@ pub returns-clause-written : goal.returns-clause-written
 returns-clause-written c =
     let ws = c.args.self.now.written in
     let w = c.in-Some.written.now in
-    let first = first-some ws w c.law_of_numbers.ensures c.in-Some.ensures in
+    let first = first-some ws w c.law_of_files.ensures.rise c.in-Some.ensures in
     let taken : c.remove.result ≡ Some w =
     c.remove.ensures.file ∙ ap (λ file. option_map (file_of file) (bytes_at ws file)) c.file-file.ensures ∙ ap (option_map (file_of w.file)) first.there in
     let left = c.remove.ensures.written ∙ ap (without_file ws) c.file-file.ensures in
@@ -22,7 +22,7 @@ pub returns-clause-none : goal.returns-clause-none
 returns-clause-none c =
     let ws = c.args.self.now.written in
     let w = c.in-Some.written.now in
-    let first = first-some ws w c.law_of_numbers.ensures c.in-Some.ensures in
+    let first = first-some ws w c.law_of_files.ensures.rise c.in-Some.ensures in
     let taken : c.remove.result ≡ Some w =
     c.remove.ensures.file ∙ ap (λ file. option_map (file_of file) (bytes_at ws file)) c.file-file.ensures ∙ ap (option_map (file_of w.file)) first.there in
     rw taken tt

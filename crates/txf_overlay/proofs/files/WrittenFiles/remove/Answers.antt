@@ -10,7 +10,7 @@ overflow_sub-self c =
     let ws = files_in c.self.inside.map.entries in
     let there = is_written _ c.args.file _ c.self.invariant.map.are c.ranges.file.fits (rw c.number_bytes.ensures at c.in-Some.ensures.value) in
     let known : units_at ws c.args.file ≡ units_of c.in-Some.written.bytes = ap (λ o. units_of (bytes_or [] o)) there.bytes in
-    omega (arith, known, c.units.ensures, c.self.invariant.sum, units-without ws c.args.file c.self.invariant.map.rise)
+    omega (arith, known, c.units.ensures.units, c.self.invariant.sum, units-without ws c.args.file c.self.invariant.map.rise)
 
 pub invariant_of-self : goal.invariant_of-self
 invariant_of-self c =
@@ -18,7 +18,7 @@ invariant_of-self c =
     let there = is_written _ c.args.file _ c.self.invariant.map.are c.ranges.file.fits (rw c.number_bytes.ensures at c.in-Some.ensures.value) in
     let known : units_at ws c.args.file ≡ units_of c.in-Some.written.bytes = ap (λ o. units_of (bytes_or [] o)) there.bytes in
     counted_without _ _ _ _ c.args.file _ c.self.invariant c.ranges.file.fits (rw c.number_bytes.ensures at c.remove.ensures.entries) (ap (bytes_or []) there.bytes)
-    (omega (arith, known, c.units.ensures, c.self.invariant.sum, units-without ws c.args.file c.self.invariant.map.rise))
+    (omega (arith, known, c.units.ensures.units, c.self.invariant.sum, units-without ws c.args.file c.self.invariant.map.rise))
 
 pub invariant_of-self-in-None : goal.invariant_of-self-in-None
 invariant_of-self-in-None c =

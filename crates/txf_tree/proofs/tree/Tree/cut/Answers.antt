@@ -1,8 +1,8 @@
 use Rattle.std.proofs.Common.{◌≡◌, ◌<◌, ◌^◌, ◌-◌, ◌∙◌, true, ap, arith, is_some}
 use Rattle.ktm_world.specs.Committed.{version_of}
-use Rattle.ktm_world.specs.Tree.{cut_to, is_file}
+use Rattle.ktm_world.specs.Tree.{bytes_of, bytes_or_none, cut_to, is_file}
 use Rattle.txf_tree.specs.TreeState.{bytes_now, tree_of, versions_of}
-use Rattle.txf_tree.proofs.Refilling.{room-there, rooms-set, tree-refilled}
+use Rattle.txf_tree.proofs.Refilling.{rooms-set, tree-refilled}
 use Rattle.txf_tree.proofs.tree.Tree.cut.Goals as goal
 
 pub content_mut-requires : goal.content_mut-requires
@@ -17,7 +17,8 @@ unreachable-requires c =
 
 pub cut-requires : goal.cut-requires
 cut-requires c =
-    room-there c.self.inside.nodes c.args.node _ _ c.in-Some.ensures.value (rw (← c.self.view_is) at c.requires.file) (rw (← c.self.view_is) at c.requires.fits)
+    let was : c.in-Some.content.now.bytes ≡ bytes_of (tree_of c.self.inside.nodes) c.args.node = ap bytes_or_none (c.in-Some.ensures.bytes bytes_now) in
+    rw was (rw (← c.self.view_is) at c.requires.shorter)
 
 pub returns : goal.returns
 returns c =
@@ -27,6 +28,6 @@ returns c =
     (record {
       tree = tree-refilled _ _ c.args.node 1 was c.cut.new.self (λ bytes. cut_to bytes c.args.size) c.in-Some.ensures.value refilled c.cut.ensures.bytes;
       versions = refilled.versions;
-      rooms = λ file _. rooms-set _ _ c.args.node was c.cut.new.self c.in-Some.ensures.value refilled.contents c.cut.ensures.room file;
+      rooms = λ file _. rooms-set _ _ c.args.node was c.cut.new.self c.in-Some.ensures.value refilled.contents (omega (arith, c.cut.ensures.room)) file;
       spare = omega arith;
     })

@@ -14,7 +14,7 @@ returns c =
       tree =
           c.make.ensures.tree bytes_now
           ∙ ap (λ content. with_node (tree_of c.self.inside.nodes) (record { number = c.args.node; parent = c.args.parent; name = c.args.name; content = content }))
-          (c.content_of-content.ensures ∙ c.new_content.ensures);
+          c.new_content-content.ensures;
       versions = c.make.ensures.versions;
       rooms = λ file _. rooms-inserted _ _ _ _ _ _ c.make.ensures file;
       spare = omega (arith, c.make.ensures.spare);

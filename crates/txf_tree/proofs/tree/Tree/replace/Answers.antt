@@ -14,10 +14,10 @@ replace-requires-clause-few c =
     omega (arith, few, c.changes_to-changes.ensures.few)
 
 pub returns-clause-bytes : goal.returns-clause-bytes
-returns-clause-bytes c = rw (← c.self.view_is) (c.into_bytes.ensures ∙ c.replace.ensures.bytes bytes_now)
+returns-clause-bytes c = rw (← c.self.view_is) (c.new.ensures ∙ c.replace.ensures.bytes bytes_now)
 
 pub returns-clause-tree : goal.returns-clause-tree
-returns-clause-tree c = rw (← c.self.view_is) (tree-final _ _ c.args.file _ _ c.args.bytes c.replace.ensures.refilled c.new.ensures)
+returns-clause-tree c = rw (← c.self.view_is) (tree-final _ _ c.args.file _ _ c.args.bytes c.replace.ensures.refilled c.into_content.ensures)
 
 pub returns-clause-versions : goal.returns-clause-versions
 returns-clause-versions c =

@@ -7,7 +7,7 @@ use Rattle.txf_versions.proofs.kept.Kept.bytes.Goals as goal
 pub returns-in-Some-get : goal.returns-in-Some-get
 returns-in-Some-get c =
     rw (← c.self.view_is)
-    (ap Some c.as_slice.ensures
+    (ap Some c.lend.ensures
     ∙ ap (option_map (λ (v : Older). v.bytes))
     (c.in-Some-get.ensures.value ∙ c.in-Some.ensures.value ∙ find-named _ c.args.file c.args.version _ c.version_name.ensures c.self.invariant.names))
 

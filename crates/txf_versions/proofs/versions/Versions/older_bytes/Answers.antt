@@ -1,11 +1,11 @@
-use Rattle.std.proofs.Common.{◌≡◌, List, ℕ, Option, Some, None, Bor, option_copied}
+use Rattle.std.proofs.Common.{◌≡◌, List, ℕ, Option, Some, None}
 use Rattle.std.specs.Option.{option_map}
 use Rattle.std.specs.Prelude.{OnSome}
 use Rattle.txf_versions.specs.declared.kept.Older.{Older}
 use Rattle.txf_versions.proofs.Holding.{found-pinned}
 use Rattle.txf_versions.proofs.versions.Versions.older_bytes.Goals as goal
 
-on_found : (P : Type 0) (o : Option Older) (r : Option (Bor (List ℕ))) → option_copied r ≡ option_map (λ v. v.bytes) o → OnSome o P → OnSome r P
+on_found : (P : Type 0) (o : Option Older) (r : Option (List ℕ)) → r ≡ option_map (λ v. v.bytes) o → OnSome o P → OnSome r P
 on_found P None None same holds = tt
 on_found P None (Some bytes) same holds = absurd (cc)
 on_found P (Some v) None same holds = absurd (cc)

@@ -1,12 +1,16 @@
 use Rattle.std.proofs.Common.{◌+◌, ◌≤◌, None, All, sum_by, sym, ◌∙◌, ap, subst}
 use Rattle.ktm_world.specs.FileOutcome.{changing, files_after}
 use Rattle.txf_tree.specs.TreeState.{takes, tree_of}
+use Rattle.txf_tree.specs.UnitChanges.{CanBeMade}
 use Rattle.txf_volume.specs.Held.{FilesHeld, OwnHeld, files_of, names_held}
 use Rattle.txf_laws.specs.FileEffects.{IsPlainChange}
 use Rattle.txf_volume.specs.Plain.{IsLeftOver}
 use Rattle.txf_volume.specs.contracts.files.Files.{the_view}
 use Rattle.txf_volume.proofs.PlainTies.{files-then, tied-then}
 use Rattle.txf_volume.proofs.files.Files.commit_plain.Goals as goal
+
+pub apply-requires-clause-units : goal.apply-requires-clause-units
+apply-requires-clause-units c = subst (λ (h : FilesHeld). CanBeMade (tree_of h.tree) c.args.change) (sym c.self.view_is) c.requires.can
 
 pub invariant_of-self : goal.invariant_of-self
 invariant_of-self c =

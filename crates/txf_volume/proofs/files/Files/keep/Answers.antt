@@ -11,4 +11,4 @@ use Rattle.txf_volume.proofs.files.Files.keep.Goals as goal
 pub own_if-requires-clause-counted : goal.own_if-requires-clause-counted
 own_if-requires-clause-counted c =
     subst (λ (change : Option Change). CanBeCounted (changed_by (files_of c.args.self.now) c.args.transaction change)) (sym (ap (λ (o : FileOutcome). o.change) c.plan.view_is))
-    (change-counted (files_of c.args.self.now) c.args.transaction c.args.plan c.steady.ensures c.requires)
+    (change-counted (files_of c.args.self.now) c.args.transaction c.args.plan c.steady.ensures c.requires.plan)

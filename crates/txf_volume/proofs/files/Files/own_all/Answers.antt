@@ -3,13 +3,14 @@ use Rattle.std.proofs.lemmas.List.{append-nil}
 use Rattle.std.proofs.lemmas.Option.{same_Some}
 use Rattle.ktm_types.specs.declared.change.Change.{Change}
 use Rattle.ktm_world.specs.Changes.{applies}
-use Rattle.ktm_world.specs.Files.{tree_seen}
+use Rattle.ktm_world.specs.Files.{bytes_seen, tree_seen}
 use Rattle.txf_laws.specs.FileEffects.{CanBeCounted, forgotten}
 use Rattle.txf_laws.specs.OwnChange.{owned}
+use Rattle.txf_tree.specs.UnitChanges.{CanBeMadeOver}
 use Rattle.txf_volume.specs.Held.{files_of}
 use Rattle.txf_volume.specs.Restoring.{begun}
 use Rattle.txf_volume.proofs.RestoringCounts.{counted-begun}
-use Rattle.txf_volume.proofs.Restoring.{applies-next, begun-all, begun-left, owned-next}
+use Rattle.txf_volume.proofs.Restoring.{applies-next, begun-all, begun-left, owned-next, units-next}
 use Rattle.txf_volume.proofs.files.Files.own_all.Goals as goal
 
 -- the changes so far, the next one and the rest are all
@@ -27,6 +28,13 @@ own_if-requires-clause-applies c = λ change same.
     subst (λ d. applies (tree_seen (files_of c.loop-change.self) (Some c.args.transaction)) d ≡ true) (same_Some _ _ same)
     (subst (λ f. applies (tree_seen f (Some c.args.transaction)) c.in-Some.change ≡ true) (sym c.loop-change.invariant.files)
     (applies-next (files_of c.args.self.now) c.args.transaction c.args.changes.items c.requires c.loop-change.yielded c.in-Some.change c.next.new.self.rest.items all))
+
+pub own_if-requires-clause-units : goal.own_if-requires-clause-units
+own_if-requires-clause-units c = λ change same.
+    let all = all-left c.loop-change.yielded c.in-Some.change c.next.new.self.rest.items _ _ c.in-Some.ensures.steps.0 c.loop-change.invariant.all in
+    subst (CanBeMadeOver (bytes_seen (files_of c.loop-change.self) (Some c.args.transaction))) (same_Some _ _ same)
+    (subst (λ f. CanBeMadeOver (bytes_seen f (Some c.args.transaction)) c.in-Some.change) (sym c.loop-change.invariant.files)
+    (units-next (files_of c.args.self.now) c.args.transaction c.args.changes.items c.requires c.loop-change.yielded c.in-Some.change c.next.new.self.rest.items all))
 
 pub own_if-requires-clause-counted : goal.own_if-requires-clause-counted
 own_if-requires-clause-counted c =

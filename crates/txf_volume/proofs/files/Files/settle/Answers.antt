@@ -1,6 +1,8 @@
 use Rattle.std.proofs.Common.{◌≡◌, Option, Some, IfSome, sym, ◌∙◌, ap, subst}
 use Rattle.ktm_types.specs.declared.change.Change.{Change}
 use Rattle.ktm_world.specs.FileOutcome.{FileOutcome}
+use Rattle.txf_tree.specs.TreeState.{tree_of}
+use Rattle.txf_tree.specs.UnitChanges.{CanBeMade}
 use Rattle.txf_versions.specs.VersionsState.{AreHeld}
 use Rattle.txf_volume.specs.Held.{FilesHeld, files_of}
 use Rattle.txf_laws.specs.FileEffects.{IsPlainChange}
@@ -19,6 +21,9 @@ change-is c = ap (λ (o : FileOutcome). o.change) (sym c.plan.view_is) ∙ c.in-
 
 plain : (c : goal.After-commit_plain-arg-1) → IsPlainChange (files_of c.args.self.now) c.in-Some.change
 plain c = subst (λ (o : Option Change). IfSome o (IsPlainChange (files_of c.args.self.now))) (change-is c) c.requires.plain.change
+
+pub commit_plain-requires-clause-can : goal.commit_plain-requires-clause-can
+commit_plain-requires-clause-can c = subst (λ (o : Option Change). IfSome o (CanBeMade (tree_of c.args.self.now.tree))) (change-is c) c.requires.units
 
 pub commit_plain-requires-clause-left : goal.commit_plain-requires-clause-left
 commit_plain-requires-clause-left c = left-over c.args.self.now c.self.inside.units c.self.inside.counts (tied c) c.in-Some.change (plain c) c.args.plan (change-is c) c.requires.left

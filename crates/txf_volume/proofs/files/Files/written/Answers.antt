@@ -1,15 +1,16 @@
-use Rattle.std.proofs.Common.{sym}
+use Rattle.std.proofs.Common.{sym, ◌∙◌, ap}
 use Rattle.std.specs.Option.{option_copied}
-use Rattle.txf_tree.specs.TreeState.{tree_of}
-use Rattle.txf_volume.proofs.FilesShown.{lent-rise}
-use Rattle.txf_volume.proofs.Recording.{written-is}
-use Rattle.txf_volume.proofs.Sights.{own-lent}
+use Rattle.txf_volume.proofs.FilesShown.{recorded-rise}
+use Rattle.txf_volume.proofs.Recording.{written-none, written-some}
 use Rattle.txf_volume.proofs.files.Files.written.Goals as goal
 
 pub invariant_of-result : goal.invariant_of-result
-invariant_of-result c = lent-rise (tree_of c.args.self.now.tree) c.overlay.result c.overlay.ensures.over
+invariant_of-result c = recorded-rise c.in-Some.overlay.now.written (c.in-Some.ensures.over).own.rise
 
-pub returns : goal.returns
-returns c =
-    written-is c.args.self.now c.args.transaction (option_copied c.overlay.result) (sym c.overlay.ensures.overlay)
-    (own-lent (tree_of c.args.self.now.tree) c.overlay.result c.overlay.ensures.over)
+pub returns-in-Some : goal.returns-in-Some
+returns-in-Some c =
+    written-some c.args.self.now c.args.transaction c.in-Some.overlay.now (sym c.overlay.ensures.overlay ∙ ap option_copied c.in-Some.is) (c.in-Some.ensures.over).own
+    c.law_of_files.ensures.pages
+
+pub returns-in-None : goal.returns-in-None
+returns-in-None c = written-none c.args.self.now c.args.transaction c.none.result (sym c.overlay.ensures.overlay ∙ ap option_copied c.in-None.is) c.none.ensures

@@ -4,9 +4,9 @@ use Rattle.ktm_types.specs.declared.change.Change.{Change}
 use Rattle.ktm_world.specs.Changes.{applies, changed_all}
 use Rattle.txf_volume.specs.Held.{OwnHeld, overlay_in}
 use Rattle.txf_tree.specs.TreeState.{tree_of}
-use Rattle.txf_volume.specs.OwnParts.{owners}
+use Rattle.txf_volume.specs.OwnParts.{owners, unchanged}
 use Rattle.txf_volume.proofs.OwnPlaces.{counted-pushed}
-use Rattle.txf_volume.proofs.TransactedParts.{changed-first, counted-first, few-new, stands-new}
+use Rattle.txf_volume.proofs.TransactedParts.{changed-first, counted-first, few-new, stands-new, units-from}
 use Rattle.txf_volume.proofs.own.Overlays.change_first.Goals as goal
 use Rattle.txf_volume.proofs.own.Overlays.change_first.Goals.{After-push_reserved}
 
@@ -20,7 +20,11 @@ make_room_and_change-requires-clause-applies c =
 
 pub make_room_and_change-requires-clause-few : goal.make_room_and_change-requires-clause-few
 make_room_and_change-requires-clause-few c =
-    few-new c.new-overlay.result c.args.fixed.now c.args.change c.new-overlay.ensures.names c.new-overlay.ensures.written c.requires.few
+    few-new c.new-overlay.result c.args.fixed c.args.change c.new-overlay.ensures.names c.new-overlay.ensures.written c.requires.few
+
+pub make_room_and_change-requires-clause-units : goal.make_room_and_change-requires-clause-units
+make_room_and_change-requires-clause-units c =
+    units-from c.new-overlay.result unchanged c.args.fixed c.args.change c.new-overlay.ensures.names c.new-overlay.ensures.written c.requires.units
 
 -- the entry stands at the end
 pushed : (c : After-push_reserved) → ◌≡◌ {A = List OwnHeld} c.push_reserved.new.self.items (c.args.self.now ++ record { transaction = c.args.transaction; overlay = c.make_room_and_change.new.overlay } ∷ [])
@@ -28,7 +32,7 @@ pushed c = c.push_reserved.ensures.items ∙ ap (λ (os : List OwnHeld). os ++ r
 
 pub returns-in-Ok-clause-ok : goal.returns-in-Ok-clause-ok
 returns-in-Ok-clause-ok c =
-    changed-first (tree_of c.args.tree.now) c.args.fixed.now c.args.transaction c.args.change c.args.self.now _ c.new-overlay.result c.make_room_and_change.new.overlay c.args.reserve.now c.make_room_and_change.new.reserve c.requires.first
+    changed-first (tree_of c.args.tree.now) c.args.fixed c.args.transaction c.args.change c.args.self.now _ c.new-overlay.result c.make_room_and_change.new.overlay c.args.reserve.now c.make_room_and_change.new.reserve c.requires.first
     (pushed (goal.at.returns-in-Ok-clause-ok c).After-push_reserved) c.new-overlay.ensures.names c.new-overlay.ensures.written c.in-Ok.ensures.ok
 
 pub returns-in-Ok-clause-counted : goal.returns-in-Ok-clause-counted

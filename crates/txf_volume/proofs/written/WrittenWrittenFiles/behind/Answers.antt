@@ -7,5 +7,5 @@ use Rattle.txf_volume.proofs.written.WrittenWrittenFiles.behind.Goals as goal
 
 pub returns-in-Some : goal.returns-in-Some
 returns-in-Some c =
-    c.file_bytes.ensures ∙ ap (option_map recorded_file) c.written_behind.ensures ∙ behind-is c.in-Some.overlay.now.written c.args.file
+    c.file_pages.ensures ∙ ap (option_map recorded_file) c.written_behind.ensures ∙ behind-is c.in-Some.overlay.now.written c.args.file
     ∙ ap (λ files. first_above files c.args.file) (shown-now c.self.inside.overlay c.in-Some.overlay c.args.self.now c.in-Some.is c.self.view_is c.self.invariant)

@@ -1,0 +1,104 @@
+use Rattle.std.proofs.Common.{false, sym, ◌∙◌, ap, arith, subst}
+use Rattle.std.specs.Prelude.{IfSome}
+use Rattle.ktm_journal.specs.Image.{IsHeaded, JournalState, page_count}
+use Rattle.ktm_types.specs.Sizes.{area_len}
+use Rattle.ktm_memory.specs.Memory.{MemoryState, held, present_of}
+use Rattle.ktm_memory.specs.Rules.{Follows}
+use Rattle.ktm_each.specs.Each.{EachOfFiles}
+use Rattle.ktm_memory.specs.Stored.{FilesLieBelow}
+use Rattle.ktm_route.specs.Route.{decided}
+use Rattle.txf_volume.specs.Held.{files_of}
+use Rattle.ktm_types.specs.Groups.{Group}
+use Rattle.ktm_core.proofs.Answering.{files_below, settled_rules, sound_outcome}
+use Rattle.ktm_core.proofs.Asked.{asked_well}
+use Rattle.ktm_core.proofs.Ends.{cut_answered, done_answered, may_record, may_settle, may_tell, raw}
+use Rattle.ktm_core.specs.Core.{core_of}
+use Rattle.ktm_core.specs.Recording.{IsNotPut, IsPut, MayRecord, kept_on}
+use Rattle.ktm_core.proofs.machine.Core.answer.Goals as goal
+
+pub put-requires-clause-headed : goal.put-requires-clause-headed
+put-requires-clause-headed g c = subst (λ (j : JournalState). IfSome (g.D.Disk.told c.args.disk.now) (λ s. IsHeaded j.units j.image j.selector s.seen)) (sym c.in_ok-decision.ensures.ok.journal) (c.requires.ready.powered.image c.requires.up)
+
+pub put-requires-clause-may : goal.put-requires-clause-may
+put-requires-clause-may g c =
+    let a = c.args.self.now.memory in
+    let o = decided (present_of a) c.args.asked in
+    let decides = c.in_ok-decision.ensures.ok in
+    let well = asked_well c.law_of_standing.ensures c.law_of_slots.ensures c.law_of_frames.ensures c.law_of_lawful_worlds.ensures (core_of a c.args.self.now.store) c.decide.new.memory.tm.slots _ _ c.args.asked c.requires.ready c.requires.counts c.requires.asked
+    c.in_ok-decision.ensures.slots in
+    let sound = sound_outcome (held a) c.args.asked o (files_of c.decide.new.memory.files) c.requires.sound c.in_ok-decision.ensures.rules in (
+      raw a o _ _ c.decide.new.events c.decide.new.memory decides,
+      subst (λ (group : Group). MayRecord c.decide.new.memory c.decide.new.events (raw a o _ _ c.decide.new.events c.decide.new.memory decides) group) (sym decides.group)
+          (may_record a o _ _ c.decide.new.events c.decide.new.memory decides c.law_of_records.ensures well sound),
+    )
+
+pub put-requires-clause-most : goal.put-requires-clause-most
+put-requires-clause-most g c = omega (arith, c.requires.roomy.most, ap (λ (j : JournalState). j.units) c.in_ok-decision.ensures.ok.journal)
+
+pub put-requires-clause-room : goal.put-requires-clause-room
+put-requires-clause-room g c = omega (arith, c.requires.room, ap (λ (j : JournalState). area_len j.units) c.in_ok-decision.ensures.ok.journal)
+
+pub put-requires-clause-pages : goal.put-requires-clause-pages
+put-requires-clause-pages g c = c.requires.pages ∙ sym (ap (λ (j : JournalState). page_count j.units) c.in_ok-decision.ensures.ok.journal)
+
+pub put-requires-clause-none : goal.put-requires-clause-none
+put-requires-clause-none g c = c.requires.ready.powered.wanted c.requires.up
+
+pub put-requires-clause-files : goal.put-requires-clause-files
+put-requires-clause-files g c =
+    let a = c.args.self.now.memory in
+    subst (λ n. FilesLieBelow n (files_of c.decide.new.memory.files)) (sym c.requires.pages)
+    (files_below (held a) c.args.asked (decided (present_of a) c.args.asked) (files_of c.decide.new.memory.files) c.requires.sound c.in_ok-decision.ensures.rules)
+
+pub put-requires-clause-puts : goal.put-requires-clause-puts
+put-requires-clause-puts g c = c.in_ok-decision.ensures.ok.puts
+
+pub settle-requires-clause-may : goal.settle-requires-clause-may
+settle-requires-clause-may g c =
+    may_settle c.args.self.now.memory (decided (present_of c.args.self.now.memory) c.args.asked) _ _ c.decide.new.events c.decide.new.memory c.in_ok-decision.ensures.ok c.put.new.memory c.in-Ok.ensures.leaves.same
+
+pub settle-requires-clause-told : goal.settle-requires-clause-told
+settle-requires-clause-told g c =
+    let a = c.args.self.now.memory in
+    let well = asked_well c.law_of_standing.ensures c.law_of_slots.ensures c.law_of_frames.ensures c.law_of_lawful_worlds.ensures (core_of a c.args.self.now.store) c.decide.new.memory.tm.slots _ _ c.args.asked c.requires.ready c.requires.counts c.requires.asked
+    c.in_ok-decision.ensures.slots in
+    may_tell a (decided (present_of a) c.args.asked) _ _ c.decide.new.events c.decide.new.memory c.in_ok-decision.ensures.ok well c.put.new.memory c.in-Ok.ensures.leaves.same
+
+pub returns-in-Ok-clause-leaves : goal.returns-in-Ok-clause-leaves
+returns-in-Ok-clause-leaves g c =
+    let a = c.args.self.now.memory in
+    let o = decided (present_of a) c.args.asked in
+    let decides = c.in_ok-decision.ensures.ok in
+    let well = asked_well c.law_of_standing.ensures c.law_of_slots.ensures c.law_of_frames.ensures c.law_of_lawful_worlds.ensures (core_of a c.args.self.now.store) c.decide.new.memory.tm.slots _ _ c.args.asked c.requires.ready c.requires.counts c.requires.asked
+    c.in_ok-decision.ensures.slots in
+    let sound = sound_outcome (held a) c.args.asked o (files_of c.decide.new.memory.files) c.requires.sound c.in_ok-decision.ensures.rules in
+    let put = subst
+    (λ (group : Group). IsPut c.decide.new.events group (kept_on c.decide.new.memory c.args.self.now.store (g.D.Disk.told c.args.disk.now) (g.D.Disk.status c.args.disk.now)) (kept_on c.put.new.memory c.put.new.store (g.D.Disk.told c.put.new.disk) (g.D.Disk.status c.put.new.disk)))
+    decides.group c.in-Ok.ensures.leaves in
+    done_answered a o _ _ c.decide.new.events c.decide.new.memory decides (g.D.Disk.told c.args.disk.now) (g.D.Disk.status c.args.disk.now) c.args.self.now.store
+    c.put.new.memory c.settle.new.self c.put.new.store (g.D.Disk.told c.put.new.disk) (g.D.Disk.status c.put.new.disk) c.law_of_contents.ensures c.law_of_kept.ensures c.law_of_records.ensures well sound put c.settle.ensures.settles c.settle.ensures.journal
+
+pub returns-in-Ok-clause-rules : goal.returns-in-Ok-clause-rules
+returns-in-Ok-clause-rules g c = λ rule none files puts. (
+    let both = c.in_ok-decision.ensures.rules rule none files puts in
+    settled_rules c.decide.new.memory c.put.new.memory c.settle.new.self c.in_ok-decision.decision.settlement (decided (present_of c.args.self.now.memory) c.args.asked) c.in-Ok.ensures.leaves.same c.in_ok-decision.ensures.ok.group
+    c.settle.ensures.rules rule none both.1 both.0)
+
+pub returns-in-Err-clause-rules : goal.returns-in-Err-clause-rules
+returns-in-Err-clause-rules g c = λ rule none files puts. (
+    let both = c.in_ok-decision.ensures.rules rule none files puts in
+    subst (λ (b : MemoryState). EachOfFiles (Follows rule) (files_of b.files)) (sym (c.fall.ensures ∙ ap (λ (b : MemoryState). record b { is_up = false }) c.in-Err.ensures.leaves.same.is)) both.1)
+
+pub returns-in-Err-clause-leaves : goal.returns-in-Err-clause-leaves
+returns-in-Err-clause-leaves g c =
+    let a = c.args.self.now.memory in
+    let o = decided (present_of a) c.args.asked in
+    let decides = c.in_ok-decision.ensures.ok in
+    let well = asked_well c.law_of_standing.ensures c.law_of_slots.ensures c.law_of_frames.ensures c.law_of_lawful_worlds.ensures (core_of a c.args.self.now.store) c.decide.new.memory.tm.slots _ _ c.args.asked c.requires.ready c.requires.counts c.requires.asked
+    c.in_ok-decision.ensures.slots in
+    let sound = sound_outcome (held a) c.args.asked o (files_of c.decide.new.memory.files) c.requires.sound c.in_ok-decision.ensures.rules in
+    let left = subst
+    (λ (group : Group). IsNotPut c.decide.new.events group (kept_on c.decide.new.memory c.args.self.now.store (g.D.Disk.told c.args.disk.now) (g.D.Disk.status c.args.disk.now)) (kept_on c.put.new.memory c.put.new.store (g.D.Disk.told c.put.new.disk) (g.D.Disk.status c.put.new.disk)))
+    decides.group c.in-Err.ensures.leaves in
+    cut_answered a o _ _ c.decide.new.events c.decide.new.memory decides (g.D.Disk.told c.args.disk.now) (g.D.Disk.status c.args.disk.now) c.args.self.now.store
+    c.put.new.memory c.fall.new.self c.put.new.store (g.D.Disk.told c.put.new.disk) (g.D.Disk.status c.put.new.disk) c.law_of_records.ensures well sound left c.fall.ensures

@@ -1,0 +1,6 @@
+use Rattle.std.proofs.Common.{take}
+use Rattle.ktm_core.proofs.Writing.{AreBeingWritten}
+use Rattle.ktm_core.proofs.pages.write_some.Given as goal
+
+abbrev pub invariant-loop-page : goal.invariant-loop-page
+invariant-loop-page g l = AreBeingWritten l.journal (take l.page-index l.pages) l.store.seen (g.D.Disk.told l.initial.disk) (g.D.Disk.told l.disk) (g.D.Disk.status l.initial.disk) (g.D.Disk.status l.disk)

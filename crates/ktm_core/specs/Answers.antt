@@ -1,0 +1,39 @@
+-- What an answer of the machine leaves.
+use Rattle.std.specs.Prelude.{◌≡◌, ℕ, ◌≤◌, Bool, true, Result, Ok, Err}
+use Rattle.ktm_base.specs.declared.fault.NoMemory.{NoMemory}
+use Rattle.ktm_base.specs.Disk.{DeviceCalls}
+use Rattle.ktm_each.specs.Each.{EachOfFiles}
+use Rattle.ktm_log.specs.OnDisk.{OnDisk}
+use Rattle.ktm_memory.specs.Recorded.{IsUntouched}
+use Rattle.ktm_memory.specs.Rules.{AllowsNone, Follows}
+use Rattle.ktm_slots.specs.Owed.{owed_slots}
+use Rattle.ktm_types.specs.declared.reply.Reply.{Reply}
+use Rattle.ktm_world.specs.Outcome.{Outcome}
+use Rattle.ktm_world.specs.Present.{Present}
+use Rattle.ktm_core.specs.Core.{CoreState, IsPowered}
+use Rattle.ktm_core.specs.Done.{Ends, TouchesNothing, most_calls}
+
+-- an outcome was answered
+pub record IsAnswered (o : Outcome) (old new : OnDisk CoreState) (reply : Reply) : Type 0 where
+  pub ends : Ends new.status.is_down old.it o reply new.it old.told new.told
+  pub powered : IsPowered new.it new.told new.status
+  -- there is room for all notifications that may come to be sent without a call that makes room
+  pub slots : new.it.now.machine.is_up ≡ true → owed_slots new.it.now ≤ new.it.slots
+  pub calls : DeviceCalls (most_calls old.it.journal o.events) old.status new.status new.status.is_down
+  pub untouched : TouchesNothing o reply → IsUntouched old new
+
+-- what that leaves; out of memory the disk is as it was
+abbrev pub CoreLeaves : Outcome → OnDisk CoreState → OnDisk CoreState → Result Reply NoMemory → Type 0
+CoreLeaves o old new (Ok reply) = IsAnswered o old new reply
+CoreLeaves o old new (Err fault) = IsUntouched old new
+
+-- out of memory: nothing has changed, and there is room for no fewer notifications
+pub record IsAsItWas (old new : CoreState) : Type 0 where
+  pub now : new.now ≡ old.now
+  pub journal : new.journal ≡ old.journal
+  pub store : new.store ≡ old.store
+  pub slots : old.slots ≤ new.slots
+
+-- whichever rule all places of the files follow, and those that are put, all places of the files follow it then
+abbrev pub KeepsRules : ((ℕ → ℕ → ℕ → Bool) → Type 0) → Present → Present → Type 0
+KeepsRules puts old new = (rule : ℕ → ℕ → ℕ → Bool) → AllowsNone rule → EachOfFiles (Follows rule) old.files → puts rule → EachOfFiles (Follows rule) new.files

@@ -1,0 +1,124 @@
+-- What the recording of a group leaves, whether the log has room for it or not. No public clause cites this module.
+use Rattle.std.specs.Prelude.{◌≡◌, ◌≢◌, ◌⊎◌, ℕ, ◌+◌, ◌≤◌, true, List, [], length, sum_by, if◌then◌else◌, IfSome, IsSomeAnd, Option, Result, Ok, Err}
+use Rattle.ktm_base.specs.declared.fault.Down.{Down}
+use Rattle.ktm_base.specs.Disk.{DeviceCalls, DiskState, DiskStatus, MayLeave}
+use Rattle.ktm_base.specs.Told.{Goes}
+use Rattle.ktm_each.specs.Each.{EachOfDurable, EachOfGroup}
+use Rattle.ktm_event.specs.Kept.{EventsState, Holds}
+use Rattle.ktm_journal.specs.Append.{has_no_room}
+use Rattle.ktm_journal.specs.Image.{IsHeaded, JournalState, page_count}
+use Rattle.ktm_journal.specs.Pages.{KeepsPages, LeavesPages}
+use Rattle.ktm_log.specs.OnDisk.{AllSynced, OnDisk}
+use Rattle.ktm_paged.specs.Paged.{IsSound, meant_group}
+use Rattle.ktm_restart.specs.Logs.{AppliesTo, JournalFor, PagedFor}
+use Rattle.ktm_room.specs.Frames.{FitsEmptyLog}
+use Rattle.ktm_standing.specs.Standing.{IsStandingNow}
+use Rattle.ktm_types.specs.Groups.{Group}
+use Rattle.ktm_world.specs.Durable.{Durable, after_events}
+use Rattle.ktm_memory.specs.Memory.{MemoryState, present_of}
+use Rattle.ktm_store.specs.Store.{StoreState}
+use Rattle.ktm_types.specs.Sizes.{event_size}
+use Rattle.ktm_core.specs.Core.{HoldsState, LeavesEitherPlaces}
+use Rattle.ktm_core.specs.Done.{most_calls}
+use Rattle.ktm_memory.specs.Recorded.{AreCutOff, AreRecorded, IsUntouched}
+
+-- what the appending of a list leaves, by its answer, where the log has room for it
+abbrev pub AppendLeaves : EventsState → OnDisk MemoryState → OnDisk MemoryState → Result (Unit {0}) Down → Type 0
+AppendLeaves events old new (Ok done) = AreRecorded events old new
+AppendLeaves events old new (Err down) = AreCutOff events old new
+
+-- the list has what is recorded of this group, each place of which has its owner; it fits an empty log, and applies to what memory shows that was recorded; where there are events, that stands
+pub record MayRecord (m : MemoryState) (events : EventsState) (raw group : Group) : Type 0 where
+  pub holds : Holds events raw
+  pub fits : FitsEmptyLog m.journal.units raw
+  pub applies : AppliesTo (present_of m).recorded raw
+  pub owner : ℕ → ℕ × ℕ
+  pub sound : EachOfDurable (IsSound owner (page_count (present_of m).recorded.units)) (present_of m).recorded
+  pub means : meant_group (present_of m).recorded raw ≡ group
+  pub puts : EachOfGroup (IsSound owner (page_count (present_of m).recorded.units)) group
+  pub size : sum_by event_size raw ≤ sum_by event_size group
+  pub stands : raw ≢ [] → IsStandingNow (present_of m)
+
+-- memory is as it was, but that its journal may be another one of the same image
+pub record IsSameMemory (old new : MemoryState) : Type 0 where
+  pub is : new ≡ record old { journal = new.journal }
+  pub units : new.journal.units ≡ old.journal.units
+  pub image : new.journal.image ≡ old.journal.image
+
+-- each image that a loss of power may leave comes to one of two states
+abbrev pub LeavesPaged : Durable → Durable → DiskState → Type 0
+LeavesPaged a b s = (image : List ℕ) → MayLeave s image → PagedFor a image ⊎ PagedFor b image
+
+-- how many device calls record a list at most, whose pages are on the disk
+abbrev pub append_calls : JournalState → Group → ℕ
+append_calls journal raw = if has_no_room journal raw then 10 else 4
+
+-- the group is in the journal, which comes to what the group makes of what was recorded, and the pages are as they were
+pub record IsGroupRecorded (events : EventsState) (old new : OnDisk MemoryState) : Type 0 where
+  pub same : IsSameMemory old.it new.it
+  pub counts : (raw : Group) → Holds events raw → new.it.journal.events ≡ old.it.journal.events + length raw
+  pub disk : (raw group : Group) → MayRecord old.it events raw group → IsSomeAnd old.told (JournalFor old.it.journal (present_of old.it).recorded)
+      → IsSomeAnd new.told (JournalFor new.it.journal (after_events (present_of old.it).recorded group))
+  pub pages : Goes (KeepsPages old.it.journal.units) old.told new.told
+  pub none : Holds events [] → IsUntouched old new
+  pub headed : IfSome new.told (λ s. IsHeaded new.it.journal.units new.it.journal.image new.it.journal.selector s.seen)
+  pub synced : (raw : Group) → Holds events raw → AllSynced (append_calls old.it.journal raw) old.status new.status
+
+-- the disk has no power: the group may be there or not, there is one, and the pages are as they were
+pub record IsGroupCutOff (events : EventsState) (old new : OnDisk MemoryState) : Type 0 where
+  pub same : IsSameMemory old.it new.it
+  pub counts : new.it.journal.events ≡ old.it.journal.events
+  pub some : Holds events [] → ⊥
+  pub disk : (raw group : Group) → MayRecord old.it events raw group → IsSomeAnd old.told (JournalFor old.it.journal (present_of old.it).recorded)
+      → IsSomeAnd new.told (LeavesPaged (present_of old.it).recorded (after_events (present_of old.it).recorded group)) × Goes (LeavesPages old.it.journal.units) old.told new.told
+  pub calls : (raw : Group) → Holds events raw → DeviceCalls (append_calls old.it.journal raw) old.status new.status true
+
+-- what it leaves, by its answer
+abbrev pub GroupLeaves : EventsState → OnDisk MemoryState → OnDisk MemoryState → Result (Unit {0}) Down → Type 0
+GroupLeaves events old new (Ok done) = IsGroupRecorded events old new
+GroupLeaves events old new (Err down) = IsGroupCutOff events old new
+
+-- ---- with the pages of what is recorded
+
+-- what memory and the store hold
+pub record Kept : Type 0 where
+  pub memory : MemoryState
+  pub store : StoreState
+
+-- both with what a disk tells
+abbrev pub kept_on : MemoryState → StoreState → Option DiskState → DiskStatus → OnDisk Kept
+kept_on memory store told status = record { it = record { memory = memory; store = store }; told = told; status = status }
+
+-- the store has the bytes that it had, and the same pages are held
+pub record IsSameStore (old new : StoreState) : Type 0 where
+  pub seen : new.seen ≡ old.seen
+  pub marks : new.marks ≡ old.marks
+
+-- the group is in the journal, and the disk has the pages of all that is recorded then
+pub record IsPut (events : EventsState) (group : Group) (old new : OnDisk Kept) : Type 0 where
+  pub same : IsSameMemory old.it.memory new.it.memory
+  pub store : IsSameStore old.it.store new.it.store
+  pub wanted : new.it.store.wanted ≡ []
+  pub counts : (raw : Group) → Holds events raw → new.it.memory.journal.events ≡ old.it.memory.journal.events + length raw
+  pub disk : (raw : Group) → MayRecord old.it.memory events raw group
+      → IsSomeAnd old.told (HoldsState old.it.memory.journal (present_of old.it.memory).recorded old.it.store)
+      → IsSomeAnd new.told (HoldsState new.it.memory.journal (after_events (present_of old.it.memory).recorded group) new.it.store)
+  pub none : Holds events [] → IsUntouched old new
+  pub headed : IfSome new.told (λ s. IsHeaded new.it.memory.journal.units new.it.memory.journal.image new.it.memory.journal.selector s.seen)
+  pub synced : (raw : Group) → MayRecord old.it.memory events raw group → AllSynced (most_calls old.it.memory.journal group) old.status new.status
+
+-- the disk has no power: the group may be there or not, and there is one
+pub record IsNotPut (events : EventsState) (group : Group) (old new : OnDisk Kept) : Type 0 where
+  pub same : IsSameMemory old.it.memory new.it.memory
+  pub store : IsSameStore old.it.store new.it.store
+  pub counts : new.it.memory.journal.events ≡ old.it.memory.journal.events
+  pub some : Holds events [] → ⊥
+  pub disk : (raw : Group) → MayRecord old.it.memory events raw group
+      → IsSomeAnd old.told (HoldsState old.it.memory.journal (present_of old.it.memory).recorded old.it.store)
+      → IsSomeAnd new.told (LeavesEitherPlaces old.it.store.seen (present_of old.it.memory).recorded (after_events (present_of old.it.memory).recorded group))
+  pub calls : (raw : Group) → MayRecord old.it.memory events raw group → DeviceCalls (most_calls old.it.memory.journal group) old.status new.status true
+
+-- what that leaves, by its answer
+abbrev pub PutLeaves : EventsState → Group → OnDisk Kept → OnDisk Kept → Result (Unit {0}) Down → Type 0
+PutLeaves events group old new (Ok done) = IsPut events group old new
+PutLeaves events group old new (Err down) = IsNotPut events group old new

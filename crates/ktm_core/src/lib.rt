@@ -1,0 +1,12 @@
+//! The machine over the places of bytes, with the pages on which they are, and its disk: what was decided is recorded behind the pages that
+//! it puts, and a start is recorded. No world is named here.
+#![tactic(auto)]
+
+mod machine;
+mod pages;
+mod recording;
+mod starting;
+
+pub use machine::Core;
+pub use pages::load_pages;
+pub use starting::{Starting, events_in, in_doubt, is_worn, prepare, record_start};

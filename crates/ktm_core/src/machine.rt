@@ -1,0 +1,131 @@
+// The machine over the places of bytes and its disk: the one way through.
+ghost use Rattle.std.specs.Prelude.{◌≡◌, ◌≤◌, ℕ, [], true, false, length, vec_capacity, IfSome, IsOk, OnErr};
+ghost use Rattle.ktm_core.specs.Answers.{CoreLeaves, IsAsItWas, KeepsRules};
+ghost use Rattle.ktm_base.specs.declared.limits.TheConstants.{MOST_UNITS};
+ghost use Rattle.ktm_core.specs.Recording.{MayRecord, PutLeaves, kept_on};
+ghost use Rattle.ktm_core.specs.Core.{IsReady, IsSoundFor, core_of};
+ghost use Rattle.ktm_journal.specs.Image.{IsHeaded, page_count};
+ghost use Rattle.ktm_laws.specs.Running.{HasEventsLeft};
+ghost use Rattle.ktm_log.specs.OnDisk.{on};
+ghost use Rattle.ktm_memory.specs.Memory.{IsRoomy, present_of};
+ghost use Rattle.ktm_memory.specs.Rules.{PutsAlone};
+ghost use Rattle.ktm_memory.specs.Settled.{left_to_do};
+ghost use Rattle.ktm_memory.specs.Stored.{FilesLieBelow};
+ghost use Rattle.txf_volume.specs.Held.{files_of};
+ghost use Rattle.ktm_types.specs.Groups.{Group};
+ghost use Rattle.ktm_route.specs.Route.{AskedPutsBy, CanBeAsked, decided};
+ghost use Rattle.ktm_route.specs.Takes.{asked_takes_memory};
+ghost use Rattle.ktm_types.specs.Sizes.{area_len};
+
+use crate::pages::write_wanted;
+use crate::recording::record;
+use ktm_base::{Disk, Down, NoMemory, Refusal};
+use ktm_event::Events;
+use ktm_laws::law_of_lawful_worlds;
+use ktm_memory::{Memory, Settlement};
+use ktm_paged::law_of_records;
+use ktm_room::law_of_frames;
+use ktm_route::{Asked, decide};
+use ktm_slots::law_of_slots;
+use ktm_standing::law_of_standing;
+use ktm_store::Store;
+use ktm_trace::{law_of_contents, law_of_kept};
+use ktm_types::Reply;
+use std::alloc::Global;
+
+/// What a machine holds in memory, over the places of bytes, with the pages on which they are, and the memory for what it records.
+#[derive(Drop)]
+pub struct Core {
+    pub memory: Memory,
+    pub store: Store,
+    /// In the buffer that the log was read into.
+    pub events: Events,
+    /// The buffer for a snapshot of all that was recorded.
+    pub snapshot: Vec<u8>,
+}
+
+// Records the events of a command, where there are any: first the pages that they put are written, where the disk does not have them yet.
+fn put<D: Disk>(
+    disk: &mut D,
+    memory: &mut Memory,
+    store: &mut Store,
+    events: &Events,
+    settlement: &Settlement,
+    snapshot: &mut Vec<u8>,
+) -> Result<(), Down>
+    requires up { (D.status disk.old).is_down ≡ false }
+    requires pending { (D.status disk.old).pending ≡ 0 }
+    requires headed { IfSome (D.told disk.old) (λ s. IsHeaded memory.old.journal.units memory.old.journal.image memory.old.journal.selector s.seen) }
+    requires may { (raw : Group) × MayRecord memory.old events.now raw (left_to_do (present_of memory.old) settlement.now).events }
+    requires most { memory.old.journal.units ≤ MOST_UNITS }
+    requires room { area_len memory.old.journal.units ≤ vec_capacity snapshot.old }
+    requires pages { length store.old.marks.held ≡ page_count memory.old.journal.units }
+    requires none { store.old.wanted ≡ [] }
+    requires files { FilesLieBelow (length store.old.marks.held) (files_of memory.old.files) }
+    requires puts { PutsAlone (present_of memory.old) settlement.now }
+    ensures leaves { PutLeaves events.now (left_to_do (present_of memory.old) settlement.now).events (kept_on memory.old store.old (D.told disk.old) (D.status disk.old)) (kept_on memory.new store.new (D.told disk.new) (D.status disk.new)) result }
+    ensures kept { vec_capacity snapshot.old ≤ vec_capacity snapshot.new }
+{
+    if events.is_empty() {
+        return Ok(());
+    }
+    memory.want_pages(settlement, store);
+    if let Err(Down) = write_wanted(disk, memory.journal(), store) {
+        return Err(Down);
+    }
+    record(disk, memory, events, snapshot)
+}
+
+impl Core {
+    /// Answers what is asked while the machine is up: it is decided, the pages that its events put are written where the disk does not
+    /// have them yet, then the events are recorded, and then memory settles. After MACHINE_DOWN the machine is down.
+    pub fn answer<D: Disk>(
+        &mut self,
+        alloc: Global,
+        disk: &mut D,
+        asked: Asked,
+    ) -> Result<Reply, NoMemory>
+        requires up { (present_of self.old.memory).machine.is_up ≡ true }
+        requires ready { IsReady (core_of self.old.memory self.old.store) (D.told disk.old) (D.status disk.old) }
+        requires roomy { IsRoomy self.old.memory.journal self.old.events }
+        requires room { area_len self.old.memory.journal.units ≤ vec_capacity self.old.snapshot }
+        requires pages { length self.old.store.marks.held ≡ page_count self.old.memory.journal.units }
+        requires counts { HasEventsLeft (present_of self.old.memory) }
+        requires asked { CanBeAsked (present_of self.old.memory) asked }
+        requires sound { IsSoundFor (page_count self.old.memory.journal.units) (present_of self.old.memory) asked }
+        ensures leaves { CoreLeaves (decided (present_of self.old.memory) asked) (on (core_of self.old.memory self.old.store) (D.told disk.old) (D.status disk.old)) (on (core_of self.new.memory self.new.store) (D.told disk.new) (D.status disk.new)) result }
+        ensures rules { KeepsRules (λ rule. AskedPutsBy (present_of self.old.memory) rule asked) (present_of self.old.memory) (present_of self.new.memory) }
+        ensures roomy { IsRoomy self.new.memory.journal self.new.events }
+        ensures room { area_len self.new.memory.journal.units ≤ vec_capacity self.new.snapshot }
+        ensures no_memory { OnErr result (IsAsItWas (core_of self.old.memory self.old.store) (core_of self.new.memory self.new.store)) }
+        ensures enough { asked_takes_memory (present_of self.old.memory) asked ≡ false → IsOk result }
+    {
+        law_of_standing();
+        law_of_slots();
+        law_of_contents();
+        law_of_kept();
+        law_of_frames();
+        law_of_lawful_worlds();
+        law_of_records();
+        self.events.clear();
+        let decision = decide(&mut self.memory, alloc, asked, &mut self.events)?;
+        match put(
+            disk,
+            &mut self.memory,
+            &mut self.store,
+            &self.events,
+            &decision.settlement,
+            &mut self.snapshot,
+        ) {
+            Ok(()) => {
+                self.memory.settle(alloc, decision.settlement);
+                Ok(decision.reply)
+            }
+            Err(Down) => {
+                drop(decision);
+                self.memory.fall();
+                Ok(Reply::Refused(Refusal::MachineDown))
+            }
+        }
+    }
+}

@@ -1,0 +1,5 @@
+use Rattle.ktm_event.proofs.Writings.{pushed, on_ok_so}
+use Rattle.ktm_event.proofs.event.put_plain_cut.Goals as goal
+
+pub returns-clause-adds : goal.returns-clause-adds
+returns-clause-adds c = on_ok_so c.put_cut.result c.put_cut.ensures.adds (pushed c.in_ok-push.ensures.items)

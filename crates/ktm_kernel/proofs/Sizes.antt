@@ -1,0 +1,129 @@
+-- What is recorded of bytes takes as many device calls as what is recorded of their places.
+use Rattle.std.proofs.Common.{◌≡◌, ℕ, ◌+◌, ◌-◌, ◌*◌, ◌/◌, ◌≤◌, nat_lt, Bool, true, false, List, [], ◌∷◌, map, refl, sym, ◌∙◌, ap, arith, inl, inr}
+use Rattle.std.specs.Prelude.{min, sum_by, if◌then◌else◌}
+use Rattle.std.proofs.lemmas.Bool.{cases_Bool}
+use Rattle.std.proofs.lemmas.List.{length-map}
+use Rattle.std.proofs.lemmas.List.Sums.{sum_by-cons}
+use Rattle.ktm_base.specs.Disk.{DeviceCalls, DiskStatus}
+use Rattle.ktm_core.specs.Done.{most_calls as most_core_calls, page_calls}
+use Rattle.ktm_journal.specs.Append.{has_no_room}
+use Rattle.ktm_journal.specs.Image.{JournalState, page_count}
+use Rattle.ktm_mapped.specs.Mapped.{mapped_change, mapped_contents, mapped_event, mapped_group, mapped_part}
+use Rattle.ktm_memory.specs.Stored.{units_of_change, units_put}
+use Rattle.ktm_states.specs.Grammatical.{changes_of_event}
+use Rattle.ktm_types.specs.Groups.{Group, is_full}
+use Rattle.ktm_types.specs.Sizes.{change_size, event_size, frame_size, part_size, put_size}
+use Rattle.ktm_types.specs.declared.change.Change.{Change}
+use Rattle.ktm_types.specs.declared.change.Change.TheVariants.{Make, Put, Cut, Move, Drop}
+use Rattle.ktm_types.specs.declared.change.Contents.{Contents}
+use Rattle.ktm_types.specs.declared.change.Contents.TheVariants.{Whole, Paged}
+use Rattle.ktm_types.specs.declared.event.Event.{Event}
+use Rattle.ktm_types.specs.declared.event.Event.TheVariants.{Boot, MadeRm, Plain, Ready, Single, Held, Decide, Undo}
+use Rattle.ktm_types.specs.declared.event.Part.{Part}
+use Rattle.ktm_types.specs.declared.event.Part.TheVariants.{Enlistment, Changes, Settings}
+use Rattle.ktm_units.specs.Units.{AreEventsSame}
+use Rattle.ktm_world.specs.Durable.{changes_in}
+use Rattle.ktm_kernel.specs.Done.{is_write, most_calls}
+
+-- more calls are allowed
+pub more_calls : (few most : ℕ) (old new : DiskStatus) (refused : Bool) → few ≤ most → DeviceCalls few old new refused → DeviceCalls most old new refused
+more_calls few most old new refused more calls = record { later = calls.later; counted = calls.counted; few = omega (arith, more, calls.few); cause = calls.cause; down = calls.down; plan = calls.plan; places = calls.places }
+
+-- a sum of what stays in each thing
+sum-mapped : {X : Type 0} (size : X → ℕ) (g : X → X) → ((x : X) → size (g x) ≡ size x) → (xs : List X) → sum_by size (map g xs) ≡ sum_by size xs
+sum-mapped size g same [] = refl
+sum-mapped size g same (x ∷ xs) = sum_by-cons size (g x) (map g xs) ∙ (λ i. same x i + sum-mapped size g same xs i) ∙ sym (sum_by-cons size x xs)
+
+module _ (f : ℕ → ℕ) where
+  -- ---- sizes
+
+  put-same : (contents : Contents) → put_size (mapped_contents f contents) ≡ put_size contents
+  put-same (Whole bytes) = ap (λ n. 8 + 4 * ((n + 4095) / 4096)) (length-map bytes f)
+  put-same (Paged len pages) = refl
+
+  change-same : (c : Change) → change_size (mapped_change f c) ≡ change_size c
+  change-same (Make node parent kind name) = refl
+  change-same (Put node offset contents) = ap (λ n. 17 + n) (put-same contents)
+  change-same (Cut node size pages) = refl
+  change-same (Move node parent name) = refl
+  change-same (Drop node) = refl
+
+  part-same : (part : Part) → part_size (mapped_part f part) ≡ part_size part
+  part-same (Enlistment enlistment manager information) = refl
+  part-same (Changes cs) = ap (λ n. 5 + n) (sum-mapped change_size (mapped_change f) change-same cs)
+  part-same (Settings settings) = refl
+
+  event-same : (e : Event) → event_size (mapped_event f e) ≡ event_size e
+  event-same (Boot boot) = refl
+  event-same (MadeRm manager) = refl
+  event-same (Plain change) = ap (λ n. 1 + n) (change-same change)
+  event-same (Ready transaction part) = ap (λ n. 9 + n) (part-same part)
+  event-same (Single transaction part) = ap (λ n. 9 + n) (part-same part)
+  event-same (Held transaction enlistment manager information) = refl
+  event-same (Decide transaction) = refl
+  event-same (Undo transaction) = refl
+  event-same (Event.Done transaction done) = refl
+
+  frame-same : (events : Group) → frame_size (mapped_group f events) ≡ frame_size events
+  frame-same events = ap (λ n. 5 + (4 + n)) (sum-mapped event_size (mapped_event f) event-same events)
+
+  -- ---- units
+
+  units-same : (c : Change) → units_of_change (mapped_change f c) ≡ units_of_change c
+  units-same (Make node parent kind name) = refl
+  units-same (Put node offset (Whole bytes)) = ap units_of_length (length-map bytes f)
+    where
+      units_of_length : ℕ → ℕ
+      units_of_length n = (n + 4095) / 4096
+  units-same (Put node offset (Paged len pages)) = refl
+  units-same (Cut node size pages) = refl
+  units-same (Move node parent name) = refl
+  units-same (Drop node) = refl
+
+  part-units : (part : Part) → sum_by units_of_change (changes_in (mapped_part f part)) ≡ sum_by units_of_change (changes_in part)
+  part-units (Enlistment enlistment manager information) = refl
+  part-units (Changes cs) = sum-mapped units_of_change (mapped_change f) units-same cs
+  part-units (Settings settings) = refl
+
+  event-units : (e : Event) → sum_by units_of_change (changes_of_event (mapped_event f e)) ≡ sum_by units_of_change (changes_of_event e)
+  event-units (Plain change) = ap (λ n. 0 + n) (units-same change)
+  event-units (Ready transaction part) = part-units part
+  event-units (Single transaction part) = part-units part
+  event-units (Boot boot) = refl
+  event-units (MadeRm manager) = refl
+  event-units (Held transaction enlistment manager information) = refl
+  event-units (Decide transaction) = refl
+  event-units (Undo transaction) = refl
+  event-units (Event.Done transaction done) = refl
+
+  group-units : (events : Group) → units_put (mapped_group f events) ≡ units_put events
+  group-units events = sum-mapped (λ event. sum_by units_of_change (changes_of_event event)) (mapped_event f) event-units events
+
+  -- ---- device calls
+
+  full-same : (left : ℕ) (events : Group) → is_full left (mapped_group f events) ≡ is_full left events
+  full-same left [] = refl
+  full-same left (e ∷ es) = ap (λ n. nat_lt left (n + 1)) (frame-same (e ∷ es))
+
+  -- so many are enough for any write
+  most-write : (j : JournalState) (events : Group) → most_core_calls j events ≤ 10 + page_calls (page_count j.units)
+  most-write j events = elim (cases_Bool (has_no_room j events)) [
+    | inl full ↦ rw full (omega arith)
+    | inr room ↦ rw room (omega arith)
+  ]
+
+  most-same : (j : JournalState) (events : Group) → most_core_calls j (mapped_group f events) ≡ most_core_calls j events
+  most-same j events = λ i. page_calls (min (group-units events i) (page_count j.units)) + (if full-same (j.log.area.len - j.log.end) events i then 10 else 4)
+
+  -- what is recorded of the bytes takes no more
+  most-enough : (j : JournalState) (events asked : Group) → AreEventsSame f events asked → most_core_calls j events ≤ most_calls j asked
+  most-enough j events asked same = elim (cases_Bool (is_write asked)) [
+    | inl write ↦ rw write (most-write j events)
+    | inr other ↦ rw other (elim same [
+      | inl is ↦ (let e = ap (most_core_calls j) is ∙ most-same j events in omega (arith, e))
+      | inr writes ↦ (let e : true ≡ false = sym writes.second ∙ sym (ap is_write writes.asked_are) ∙ other in absurd (cc))
+    ])
+  ]
+
+  pub calls-same : (j : JournalState) (events asked : Group) (s t : DiskStatus) (refused : Bool) → AreEventsSame f events asked → DeviceCalls (most_core_calls j events) s t refused → DeviceCalls (most_calls j asked) s t refused
+  calls-same j events asked s t refused same calls = more_calls (most_core_calls j events) (most_calls j asked) s t refused (most-enough j events asked same) calls

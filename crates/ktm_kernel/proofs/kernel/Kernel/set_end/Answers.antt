@@ -1,0 +1,41 @@
+use Rattle.std.proofs.Common.{◌≡◌, OnErr, true, sym, subst}
+use Rattle.std.proofs.lemmas.Result.{on_err_weaker}
+use Rattle.ktm_core.specs.Core.{core_of}
+use Rattle.ktm_route.specs.Takes.{takes_memory}
+use Rattle.ktm_types.specs.declared.command.Command.TheVariants.{SetEndOfFile}
+use Rattle.ktm_world.specs.Decide.{decide}
+use Rattle.ktm_kernel.specs.Answers.{IsAsItWas}
+use Rattle.ktm_kernel.specs.Stands.{IsReady, machine_of}
+use Rattle.ktm_kernel.proofs.Given.{end-takes}
+use Rattle.ktm_kernel.proofs.Staged.{as-was-then, asked-none, enough-of, on-err, staged-as-was, staged-leaves, unstaged-none}
+use Rattle.ktm_kernel.proofs.kernel.Kernel.set_end.Goals as goal
+
+pub returns-in_err-staged-clause-no_memory : goal.returns-in_err-staged-clause-no_memory
+returns-in_err-staged-clause-no_memory g c = on-err c.from_residual.result (subst (λ k. IsAsItWas k (machine_of (core_of c.self.inside.core.memory c.stage_end.new.store))) c.self.view_is
+    (staged-as-was c.law_of_units.ensures.0 c.self.inside.core.memory c.self.inside.core.store c.stage_end.new.store c.stage_end.ensures.keeps))
+
+pub returns-in_err-staged-clause-enough : goal.returns-in_err-staged-clause-enough
+returns-in_err-staged-clause-enough g c = enough-of c.from_residual.result (takes_memory c.args.self.now.now c.args.process (SetEndOfFile c.args.file c.args.size))
+    (on-err c.from_residual.result (subst (λ k. takes_memory k.now c.args.process (SetEndOfFile c.args.file c.args.size) ≡ true) c.self.view_is
+    ((end-takes c.law_of_alike_presents.ensures (core_of c.self.inside.core.memory c.self.inside.core.store) c.args.process c.args.file c.args.size) (unstaged-none c.in_err-staged.field-0.0 _ c.in_err-staged.ensures.passes))))
+
+pub ask-requires-clause-ready : goal.ask-requires-clause-ready
+ask-requires-clause-ready g c = (staged-as-was c.law_of_units.ensures.0 c.self.inside.core.memory c.self.inside.core.store c.stage_end.new.store c.in_ok-staged.ensures.keeps).ready _ _ (subst (λ k. IsReady k (g.D.Disk.told c.args.disk.now) (g.D.Disk.status c.args.disk.now)) (sym c.self.view_is) c.requires.ready)
+
+pub returns-clause-leaves : goal.returns-clause-leaves
+returns-clause-leaves g c = staged-leaves c.args.self.now (machine_of (core_of c.self.inside.core.memory c.stage_end.new.store)) (λ y. decide y c.args.process (SetEndOfFile c.args.file c.args.size)) _ _ _ c.ask.result
+    (subst (λ k. IsAsItWas k (machine_of (core_of c.self.inside.core.memory c.stage_end.new.store))) c.self.view_is
+    (staged-as-was c.law_of_units.ensures.0 c.self.inside.core.memory c.self.inside.core.store c.stage_end.new.store c.in_ok-staged.ensures.keeps))
+    (c.ask.ensures.leaves (λ y. decide y c.args.process (SetEndOfFile c.args.file c.args.size)) c.in_ok-staged.ensures.ok)
+
+pub returns-clause-no_memory : goal.returns-clause-no_memory
+returns-clause-no_memory g c = on_err_weaker c.ask.result
+    (as-was-then c.args.self.now (machine_of (core_of c.self.inside.core.memory c.stage_end.new.store)) c.ask.new.self
+    (subst (λ k. IsAsItWas k (machine_of (core_of c.self.inside.core.memory c.stage_end.new.store))) c.self.view_is
+    (staged-as-was c.law_of_units.ensures.0 c.self.inside.core.memory c.self.inside.core.store c.stage_end.new.store c.in_ok-staged.ensures.keeps)))
+    c.ask.ensures.no_memory
+
+pub returns-clause-enough : goal.returns-clause-enough
+returns-clause-enough g c = enough-of c.ask.result (takes_memory c.args.self.now.now c.args.process (SetEndOfFile c.args.file c.args.size))
+    (subst (λ k. OnErr c.ask.result (takes_memory k.now c.args.process (SetEndOfFile c.args.file c.args.size) ≡ true)) c.self.view_is
+    (on_err_weaker c.ask.result (end-takes c.law_of_alike_presents.ensures (core_of c.self.inside.core.memory c.self.inside.core.store) c.args.process c.args.file c.args.size) (asked-none c.ask.result c.in_ok-staged.staged _ c.ask.ensures.enough c.in_ok-staged.ensures.passes)))

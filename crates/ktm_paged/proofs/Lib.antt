@@ -1,0 +1,4 @@
+mod Apart
+mod PagedLaws
+mod Seen
+pub mod offered

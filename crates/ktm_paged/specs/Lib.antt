@@ -1,0 +1,5 @@
+pub mod Meaning
+pub mod Paged
+pub mod InBytes
+pub mod Recorded
+pub mod Laws

@@ -1,0 +1,5 @@
+mod Twice
+mod Same
+mod Seen
+mod UnitsLaws
+mod Writing
