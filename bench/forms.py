@@ -4,8 +4,12 @@ A probe is a form with lines, the measured one of which begins with a star. Its 
 they can be repeated. They find the transaction h100, the volatile resource manager h101, for which nothing waits, the key
 "m", and the directory `\\work` with the file `m` and the empty directory `e`."""
 
+import subprocess
+
 import measuring
 
+# How many units of 4,096 bytes an image has at most.
+MOST_UNITS = 16_384
 VALUE = "6162636465666768696a6b6c6d6e6f70"
 
 BEGIN, END = "p1 CreateTransaction h1 0", "p1 CloseHandle h1"
@@ -248,6 +252,33 @@ def by_vote(side, count):
         side.measured(measuring.run, COMMITTED, state)
         measured = side.measured(measuring.instructions_by_reply, lines, state, is_right)
     return {form: value for (form, _), value in zip(votes(count), measured[len(OPENED) :]) if form}
+
+
+def contents(length, units):
+    """Returns the lines that read and write so many bytes at the begin of the file `c`, which has so many units, each with its form,
+    where it is measured. What a transaction writes counts twice, so it writes in no file that has more than half of all units."""
+    reads, writes = f"p1 ReadFile h2 0 {length}", f"p1 WriteFile h2 0 {'5a' * length}"
+    opens = lambda call, last: (None, f'p1 {call} h2 "\\c" rw - OPEN_EXISTING{last}')
+    written = [
+        ("WriteFile in a transaction, the first", writes), ("WriteFile in a transaction, the second", writes),
+        (None, CLOSE), ("CommitTransaction", COMMIT), (None, END),
+    ]
+    return [
+        opens("CreateFile", ""), ("ReadFile", reads), ("WriteFile", writes), (None, f"p1 SetEndOfFile h2 {4_096 * units}"), (None, CLOSE),
+        (None, BEGIN), opens("CreateFileTransacted", " h1"), ("ReadFile in a transaction", reads),
+        *(written if 2 * units <= MOST_UNITS else []),
+    ]
+
+
+def by_content(side, measure, units, length):
+    """Returns for each form of `contents` what the measure says of it, in a file of so many units on an image of the most units."""
+    lines = contents(length, units)
+    made = ['p1 CreateFile h2 "\\c" w - CREATE_NEW', f"p1 SetEndOfFile h2 {4_096 * units}", CLOSE]
+    with side.state() as image:
+        subprocess.run([side.program, "format", image, str(MOST_UNITS)], check=True)
+        side.measured(measuring.run, made, image)
+        measured = side.measured(measure, [line for _, line in lines], image)
+    return {form: value for (form, _), value in zip(lines, measured) if form}
 
 
 def is_right(reply):

@@ -2,6 +2,7 @@
 
 import dataclasses
 import platform
+import shutil
 import statistics
 import subprocess
 
@@ -65,6 +66,8 @@ def of_versions(sides, _):
         ["strace", first("strace", "-V")],
         ["processor", platform.machine()],
     ]
+    if shutil.which("rt"):
+        rows.append(["kit", first("rt", "version").split()[0]])
     return Table("versions", "what the numbers were made with", ["", "version"], rows)
 
 
@@ -171,6 +174,21 @@ def of_lines(sides, _):
     return Table("lines", "calls of the device of each form of line that makes any", ["line", *SUMMED[:4]], rows)
 
 
+# How many units the files have in which is read and written. The last one has all of the image.
+CONTENTS = (1, 1_024, forms.MOST_UNITS // 2, forms.MOST_UNITS)
+
+
+def of_contents(sides, _):
+    """What reads and writes of a file cost, by their bytes and by the length of the file."""
+    rows = []
+    for length in (1, 4_096, 65_536):
+        costs = [forms.by_content(sides.wattorju, measuring.instructions_by_reply, units, length) for units in CONTENTS]
+        calls = forms.by_content(sides.wattorju, measuring.device_calls_by_reply, CONTENTS[1], length)
+        rows += [[form, length, *[each.get(form, "") for each in costs], *summed(calls[form])[:4]] for form in calls]
+    columns = ["line", "bytes", *[f"{units:,} unit{'s' * (units > 1)}" for units in CONTENTS], *SUMMED[:4]]
+    return Table("contents", "instructions of reads and writes, and their calls of the device", columns, rows)
+
+
 def of_restarts(sides, _):
     """What a frame of the log costs at a start."""
     file_made = lambda at: [f'p1 CreateFile h1 "\\file{at}" w - CREATE_NEW', "p1 CloseHandle h1"]
@@ -245,16 +263,44 @@ def of_memory(sides, options):
     """The most memory of a run."""
     many = [it for at in range(10_000) for it in sets([key(at % 100)], 16, at)]
     files = lambda count, length: installs([f"file{at}" for at in range(count)], length)
+    many_files = [it for at in range(1_000) for it in installs([f"file{at}"], 4_096)]
     works = [
         ("nothing", []),
         ("10,000 transactions of one key", many),
         ("one transaction of 100 files of 4 KiB", files(100, 4_096)),
         ("one transaction of 60 files of 64 KiB", files(60, 65_536)),
+        ("1,000 transactions of one file of 4 KiB", many_files),
     ]
     rows = [[name, sides.wattorju.memory(work), sides.sqlite.memory(work)] for name, work in works]
+    rows.append(["reads of 1,000 files of 4 KiB", reads_of_files(sides.wattorju, many_files), ""])
+    rows += [[name, peak, ""] for name, peak in of_forms(sides.wattorju, options)]
     if options.large:
         rows.append(["a script of 64 MiB", sides.wattorju.measured(measuring.peak_of_memory, large_script()), ""])
     return Table("memory", "the most memory of a run, in KiB", ["workload", "Wattorju", "SQLite"], rows)
+
+
+def of_forms(side, options):
+    """Returns the most memory of other forms than `run`: of a dump of a full image, and of generated runs."""
+    peak = lambda form, image, *numbers: measuring.peak_of_memory([side.program, form, image, *numbers], f"{image}.written")
+    full = [it for at in range(0, 1_000, 8) for it in sets([key(at + it) for it in range(8)], 960)]
+    with side.state() as image:
+        found = [["a generated run of 1,000 lines", peak("gen", image, "1", "1000")]]
+        if options.large:
+            found.append(["a generated run of 100,000 lines", peak("gen", image, "1", "100000")])
+        side.measured(measuring.run, side.lines(full), image)
+        return [*found, ["a dump of 1,000 keys of 960 bytes", peak("dump", image)]]
+
+
+def reads_of_files(side, made):
+    """Returns the most memory of a run that reads each of a thousand files whole, which another run made."""
+    lines = [
+        line
+        for at in range(1_000)
+        for line in (f'p1 CreateFile h1 "\\file{at}" r - OPEN_EXISTING', "p1 ReadFile h1 0 4096", "p1 CloseHandle h1")
+    ]
+    with side.state() as image:
+        side.measured(measuring.run, side.lines(made), image)
+        return side.measured(measuring.peak_of_memory, lines, image)
 
 
 def large_script():
@@ -310,6 +356,7 @@ TABLES = {
     "files": of_files,
     "calls": of_calls,
     "lines": of_lines,
+    "contents": of_contents,
     "restarts": of_restarts,
     "compactions": of_compactions,
     "growth": of_growth,

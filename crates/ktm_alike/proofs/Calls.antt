@@ -7,12 +7,12 @@ use Rattle.ktm_base.specs.declared.id.Id.{Id}
 use Rattle.ktm_base.specs.declared.limits.TheConstants.{MOST_AT_ONCE}
 use Rattle.ktm_base.specs.declared.refusal.Refusal.{Refusal}
 use Rattle.ktm_base.specs.declared.refusal.Refusal.TheVariants.{InvalidParameter, InvalidName, PathNotFound, FileNotFound, FileExists, AlreadyExists, AccessDenied, DirNotEmpty, SharingViolation, NotEnoughQuota, DiskFull}
-use Rattle.ktm_types.specs.declared.change.Change.TheVariants.{Cut}
-use Rattle.ktm_types.specs.declared.options.Access.{Access}
-use Rattle.ktm_types.specs.declared.options.Disposition.{Disposition}
-use Rattle.ktm_types.specs.declared.options.ShareMode.{ShareMode}
-use Rattle.ktm_types.specs.declared.recorded.Node.{Node}
-use Rattle.ktm_types.specs.declared.reply.Reply.TheVariants.{Done, Contents as Bytes, Size, Names}
+use Rattle.ktm_world.specs.declared.change.Change.TheVariants.{Cut}
+use Rattle.ktm_world.specs.declared.options.Access.{Access}
+use Rattle.ktm_world.specs.declared.options.Disposition.{Disposition}
+use Rattle.ktm_world.specs.declared.options.ShareMode.{ShareMode}
+use Rattle.ktm_world.specs.declared.recorded.Node.{Node}
+use Rattle.ktm_world.specs.declared.reply.Reply.TheVariants.{Done, Contents as Bytes, Size, Names}
 use Rattle.ktm_keyed.specs.Keyed.{comes_before}
 use Rattle.ktm_world.specs.Changes.{has_made}
 use Rattle.ktm_world.specs.Conflicts.{is_open_in, writes}

@@ -1,9 +1,9 @@
 -- What is so now, commands, and what they come to, with every byte of every content replaced by another one.
 use Rattle.std.specs.Prelude.{ℕ, map, option_map}
-use Rattle.ktm_types.specs.declared.command.Command.{Command}
-use Rattle.ktm_types.specs.declared.command.Command.TheVariants.{ReadFile, WriteFile, WriteUnits}
-use Rattle.ktm_types.specs.declared.reply.Reply.{Reply}
-use Rattle.ktm_types.specs.declared.reply.Reply.TheVariants.{Contents}
+use Rattle.ktm_world.specs.declared.command.Command.{Command}
+use Rattle.ktm_world.specs.declared.command.Command.TheVariants.{ReadFile, WriteFile, WriteUnits}
+use Rattle.ktm_world.specs.declared.reply.Reply.{Reply}
+use Rattle.ktm_world.specs.declared.reply.Reply.TheVariants.{Contents}
 use Rattle.ktm_world.specs.Committed.{Committed, Work}
 use Rattle.ktm_world.specs.Files.{OwnChanges, FirstOpen, FileTable, FilesNow}
 use Rattle.ktm_world.specs.FileOutcome.{FileOutcome}

@@ -1,7 +1,7 @@
 -- What a command comes to does not depend on the bytes of files.
 use Rattle.std.specs.Prelude.{◌≡◌, ℕ, List}
 use Rattle.ktm_base.specs.declared.id.Pid.{Pid}
-use Rattle.ktm_types.specs.declared.command.Command.{Command}
+use Rattle.ktm_world.specs.declared.command.Command.{Command}
 use Rattle.ktm_world.specs.Decide.{refusal_of, decide}
 use Rattle.ktm_world.specs.Durable.{Durable}
 use Rattle.ktm_world.specs.Logs.{Group}

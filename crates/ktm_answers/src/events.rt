@@ -2,7 +2,7 @@
 use ktm_base::NoMemory;
 use ktm_codec::read_hex_or_dash;
 use ktm_event::{EventFault, read_event, read_group};
-use ktm_types::Event;
+use ktm_world::Event;
 use std::alloc::Global;
 
 // The bytes that these digits spell.

@@ -2,7 +2,7 @@
 use ktm_base::{Bytes, NoMemory};
 use ktm_reply::{ReplyFault, read_reply, write_reply};
 use ktm_script::{LineFault, read_line, write_line};
-use ktm_types::{Line, Reply};
+use ktm_world::{Line, Reply};
 use std::alloc::Global;
 
 // What is read of the text was written so.

@@ -3,10 +3,10 @@ use Rattle.std.proofs.Common.{◌≡◌, ℕ, ◌+◌, ◌&&◌, not, Bool, true
 use Rattle.std.proofs.lemmas.Bool.{cases_Bool, and_parts, not-true, not_from_false, true≢false, false_from_ne_true}
 use Rattle.std.specs.List.{flat_map, list_all, list_any}
 use Rattle.ktm_base.specs.declared.id.Id.{Id}
-use Rattle.ktm_types.specs.declared.event.DonePart.{DonePart}
-use Rattle.ktm_types.specs.declared.event.Event.TheVariants.{Boot, Done}
-use Rattle.ktm_types.specs.declared.recorded.RecordedPart.{RecordedPart}
-use Rattle.ktm_types.specs.declared.recorded.Stage.{Stage}
+use Rattle.ktm_world.specs.declared.event.DonePart.{DonePart}
+use Rattle.ktm_world.specs.declared.event.Event.TheVariants.{Boot, Done}
+use Rattle.ktm_world.specs.declared.recorded.RecordedPart.{RecordedPart}
+use Rattle.ktm_world.specs.declared.recorded.Stage.{Stage}
 use Rattle.ktm_world.specs.Durable.{Durable, Recorded, after_event, after_events, finish_recorded, has_undone, is_before, is_decided, is_held, is_part_of, is_ready, parts_done, recorded_at, while_not_done, with_recorded}
 use Rattle.ktm_world.specs.Transactions.{same_id}
 use Rattle.ktm_world.specs.World.{done_if, in_doubt, own_events, own_group}

@@ -3,7 +3,7 @@ use Rattle.std.proofs.Common.{◌≡◌, ◌==◌, ◌&&◌, not, Bool, true, Li
 use Rattle.std.proofs.lemmas.Bool.{and_parts, ne_eqb, not_from_false, true≢false}
 use Rattle.std.proofs.lemmas.List.{append-nil, map-append}
 use Rattle.std.proofs.lemmas.List.Elements.{filter-append}
-use Rattle.ktm_types.specs.declared.change.Change.{Change}
+use Rattle.ktm_world.specs.declared.change.Change.{Change}
 use Rattle.ktm_world.specs.Changes.{has_changes}
 use Rattle.ktm_world.specs.Durable.{Recorded, are_recorded_changes, ends_in_bytes, gives_bytes, is_held, made_files}
 use Rattle.ktm_world.specs.Files.{FilesNow, OwnChanges}

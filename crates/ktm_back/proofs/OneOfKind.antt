@@ -3,13 +3,13 @@ use Rattle.std.proofs.Common.{◌≡◌, ℕ, ◌+◌, ◌≤◌, Bool, true, fa
 use Rattle.std.proofs.lemmas.Bool.{cases_Bool, true≢false}
 use Rattle.std.proofs.lemmas.Grind.{flat_map-append}
 use Rattle.std.proofs.lemmas.List.{append-nil}
-use Rattle.ktm_types.specs.declared.event.DonePart.{DonePart}
-use Rattle.ktm_types.specs.declared.event.Part.{Part}
-use Rattle.ktm_types.specs.declared.event.Part.TheVariants.{Enlistment, Changes, Settings}
-use Rattle.ktm_types.specs.declared.recorded.RecordedPart.{RecordedPart}
+use Rattle.ktm_world.specs.declared.event.DonePart.{DonePart}
+use Rattle.ktm_world.specs.declared.event.Part.{Part}
+use Rattle.ktm_world.specs.declared.event.Part.TheVariants.{Enlistment, Changes, Settings}
+use Rattle.ktm_world.specs.declared.recorded.RecordedPart.{RecordedPart}
 use Rattle.ktm_world.specs.Durable.{changes_in, is_part_of, settings_in}
 use Rattle.txf_laws.proofs.offered.Sums.{count-append, count-cons}
-use Rattle.ktm_states.proofs.offered.Parts.{count_among, gathered, gathered-push, gathered-push_none}
+use Rattle.txf_laws.proofs.offered.Parts.{count_among, gathered, gathered-push, gathered-push_none}
 
 -- what is not the files' has no changes, and what is not the keys' has no settings
 pub no-changes : (part : Part) → is_part_of DonePart.Files part ≡ false → changes_in part ≡ []

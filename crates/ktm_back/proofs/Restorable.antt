@@ -5,7 +5,7 @@ use Rattle.std.proofs.lemmas.List.Sums.{sum_by-append}
 use Rattle.std.specs.List.{list_all}
 use Rattle.ktm_base.specs.declared.limits.TheConstants.{MOST_UNITS}
 use Rattle.ktm_keyed.specs.Keyed.{is_rising}
-use Rattle.ktm_types.specs.declared.recorded.Stage.{Stage}
+use Rattle.ktm_world.specs.declared.recorded.Stage.{Stage}
 use Rattle.ktm_world.specs.Changes.{changes_apply, changes_bytes, has_changes, is_make, node_of, nodes_made}
 use Rattle.ktm_world.specs.Durable.{Durable, Recorded, are_recorded_changes, changes_of, has_changes_part, has_settings_part, is_decided, is_held, settings_of}
 use Rattle.ktm_world.specs.Files.{FilesNow, OwnChanges, bytes_seen}
@@ -25,7 +25,7 @@ use Rattle.txf_laws.proofs.offered.Diamonds.{IsIn-right}
 use Rattle.txf_laws.proofs.offered.Elements.{each_pair-across, each_pair-left, filter-true, list_all-at, list_all-from}
 use Rattle.txf_laws.proofs.offered.Lists.{IsIn-left}
 use Rattle.txf_laws.proofs.offered.Sums.{sum-same}
-use Rattle.ktm_states.specs.GoodState.{IsGoodState, are_kept_changes, are_kept_settings, has_one_part_each}
+use Rattle.txf_laws.specs.GoodState.{IsGoodState, are_kept_changes, are_kept_settings, has_one_part_each}
 use Rattle.ktm_owned.proofs.offered.Restarts.{files-opened, keys-opened}
 use Rattle.ktm_owned.proofs.offered.RestoredChanges.{recorded-form}
 use Rattle.ktm_records.proofs.offered.Agreement.{filter-alike}

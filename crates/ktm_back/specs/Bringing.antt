@@ -8,7 +8,7 @@ use Rattle.ktm_world.specs.Present.{Transactions}
 use Rattle.ktm_world.specs.Transactions.{same_id}
 use Rattle.ktm_world.specs.World.{by_rising_id, is_brought_back, transaction_back}
 use Rattle.txf_laws.specs.Elements.{each_pair}
-use Rattle.ktm_states.specs.GoodState.{IsGoodState}
+use Rattle.txf_laws.specs.GoodState.{IsGoodState}
 use Rattle.ktm_enlist.specs.Telling.{has_manager}
 use Rattle.ktm_tm.specs.TmState.{TmState}
 use Rattle.ktm_back.specs.Coming.{enlistments_coming}

@@ -3,14 +3,14 @@ use Rattle.std.specs.Prelude.{◌≡◌, ℕ, ◌<◌, ◌≤◌, ◌^◌, true,
 use Rattle.ktm_base.specs.declared.id.Id.{Id}
 use Rattle.ktm_base.specs.declared.limits.TheConstants.{MOST_UNITS}
 use Rattle.ktm_keyed.specs.Keyed.{is_rising}
-use Rattle.ktm_types.specs.declared.change.Change.{Change}
+use Rattle.ktm_world.specs.declared.change.Change.{Change}
 use Rattle.ktm_world.specs.Durable.{Durable, Recorded, after_events, changes_of, has_changes_part, has_settings_part, is_held, settings_of}
 use Rattle.ktm_world.specs.Files.{FilesNow, OwnChanges}
 use Rattle.ktm_world.specs.Keys.{KeysNow, Own, OwnSettings, Store, changes_pending, keys_used}
 use Rattle.ktm_world.specs.Tree.{Tree}
 use Rattle.ktm_world.specs.World.{has_own_changes, has_own_settings, in_doubt, own_group}
 use Rattle.kv_rm.specs.Restored.{keys_restored}
-use Rattle.ktm_states.specs.GoodState.{IsGoodState, has_one_part_each}
+use Rattle.txf_laws.specs.GoodState.{IsGoodState, has_one_part_each}
 use Rattle.txf_volume.specs.Held.{files_begun}
 use Rattle.txf_volume.specs.Restoring.{CanBeRestored}
 

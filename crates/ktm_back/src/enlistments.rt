@@ -8,8 +8,7 @@ ghost use Rattle.ktm_back.specs.Coming.{enlistments_coming, with_all};
 use crate::transactions::is_brought_back;
 use ktm_base::{Id, NoMemory};
 use ktm_phase::Enlistment;
-use ktm_types::{EnlistmentKind, Part, RecordedPart, Superior};
-use ktm_world::Recorded;
+use ktm_world::{EnlistmentKind, Part, Recorded, RecordedPart, Superior};
 use std::alloc::Global;
 
 // Does the first Id come before the second: by its boot, and then by its number.

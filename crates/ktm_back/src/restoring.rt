@@ -1,7 +1,7 @@
 // What transactions in doubt changed and set, which is brought back.
 ghost use Rattle.std.specs.Prelude.{◌≡◌, ◌≤◌, ◌∷◌, [], true, IfOk, OnOk, count_by, filter, length};
 ghost use Rattle.std.specs.List.{flat_map, list_any};
-ghost use Rattle.ktm_types.specs.declared.event.DonePart.TheVariants.{Files as OfFiles, Keys as OfKeys};
+ghost use Rattle.ktm_world.specs.declared.event.DonePart.TheVariants.{Files as OfFiles, Keys as OfKeys};
 ghost use Rattle.ktm_world.specs.Durable.{changes_in, is_held, is_part_of, settings_in};
 ghost use Rattle.txf_tree.specs.TreeState.{tree_of, versions_of};
 ghost use Rattle.txf_volume.specs.Held.{files_of, tree_units};
@@ -12,8 +12,7 @@ use crate::transactions::is_held;
 use ktm_base::{Bytes, Id, NoMemory};
 use ktm_keyed::KeyedList;
 use ktm_limits::law_of_limits;
-use ktm_types::{Part, RecordedPart};
-use ktm_world::Recorded;
+use ktm_world::{Part, Recorded, RecordedPart};
 use kv_rm::KvRm;
 use std::alloc::Global;
 use txf_durable::FilesRead;

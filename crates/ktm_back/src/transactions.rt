@@ -4,8 +4,7 @@ ghost use Rattle.std.specs.List.{list_any};
 ghost use Rattle.ktm_world.specs.Durable.{is_decided, is_held};
 ghost use Rattle.ktm_world.specs.World.{is_brought_back, is_enlistment_part, transaction_back};
 
-use ktm_types::{Part, Phase, RecordedPart, Stage, Transaction, TransactionOutcome};
-use ktm_world::Recorded;
+use ktm_world::{Part, Phase, Recorded, RecordedPart, Stage, Transaction, TransactionOutcome};
 
 /// Does it wait for its superior.
 pub(crate) fn is_held(stage: Stage) -> bool

@@ -1,6 +1,6 @@
 -- The places of bytes in a row of pages, and contents as the places of their bytes.
 use Rattle.std.specs.Prelude.{◌≡◌, ◌⊎◌, ℕ, zero, suc, ◌+◌, ◌-◌, ◌*◌, ◌%◌, ◌≤◌, ◌==◌, List, [], ◌∷◌, length, take, flat_map, slice_index, if◌then◌else◌}
-use Rattle.ktm_base.specs.declared.limits.TheConstants.{UNIT_BYTES}
+use Rattle.ktm_page.specs.TheConstants.{UNIT_BYTES}
 use Rattle.ktm_content.specs.Contents.{units_of}
 
 -- so many numbers, one behind another, from this one on

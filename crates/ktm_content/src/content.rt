@@ -1,11 +1,11 @@
 // Contents on pages.
 ghost use Rattle.std.specs.Prelude.{◌≡◌, ◌↔◌, ◌+◌, ◌/◌, ◌≤◌, [], length, vec_capacity, IsOk, IsTrue, OnOk};
-ghost use Rattle.ktm_base.specs.Bytes.{written};
+ghost use Rattle.ktm_page.specs.Bytes.{written};
 ghost use Rattle.ktm_content.specs.Contents.{cut_to, put_over, units_of};
 ghost use Rattle.ktm_content.specs.Places.{CanBePut, LieOn, places_on};
 
 use crate::lent::PlacedRef;
-use ktm_base::{NoMemory, PageList, UNIT_BYTES};
+use ktm_page::{NoMemory, PageList, UNIT_BYTES};
 use std::alloc::Global;
 use std::marker::Model;
 

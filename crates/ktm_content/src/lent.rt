@@ -3,7 +3,7 @@ ghost use Rattle.std.specs.Prelude.{◌≡◌, ◌↔◌, [], length, IfOk, IsTr
 ghost use Rattle.ktm_content.specs.Places.{LieOn};
 
 use crate::content::Content;
-use ktm_base::{NoMemory, PageList};
+use ktm_page::{NoMemory, PageList};
 use std::alloc::Global;
 use std::marker::Model;
 

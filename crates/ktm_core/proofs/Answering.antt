@@ -13,7 +13,7 @@ use Rattle.ktm_route.specs.Route.{AskedPutsBy}
 use Rattle.ktm_world.specs.Files.{FilesNow}
 use Rattle.ktm_world.specs.Outcome.{Outcome}
 use Rattle.ktm_core.specs.Core.{IsSoundFor, is_sound}
-use Rattle.txf_volume.specs.Held.{files_of}
+use Rattle.ktm_memory.specs.Held.{files_of}
 use Rattle.ktm_core.specs.Recording.{IsSameMemory}
 use Rattle.ktm_core.proofs.Ends.{IsSoundOutcome}
 use Rattle.ktm_core.proofs.LeftToDo.{events_alike}

@@ -3,10 +3,10 @@ use Rattle.std.proofs.Common.{◌≡◌, ◌+◌, Bool, true, false, All, List, 
 use Rattle.std.specs.List.{flat_map}
 use Rattle.std.proofs.lemmas.List.Elements.{All-append, All-cons, All-nil}
 use Rattle.ktm_base.specs.declared.id.Id.{Id}
-use Rattle.ktm_states.specs.Grammatical.{changes_of_event}
-use Rattle.ktm_types.specs.declared.event.DonePart.{DonePart}
-use Rattle.ktm_types.specs.declared.event.Event.{Event}
-use Rattle.ktm_types.specs.declared.event.Event.TheVariants.{Boot, Done}
+use Rattle.txf_laws.specs.Grammatical.{changes_of_event}
+use Rattle.ktm_world.specs.declared.event.DonePart.{DonePart}
+use Rattle.ktm_world.specs.declared.event.Event.{Event}
+use Rattle.ktm_world.specs.declared.event.Event.TheVariants.{Boot, Done}
 use Rattle.ktm_world.specs.Durable.{Durable, Recorded, has_undone}
 use Rattle.ktm_world.specs.World.{done_if, own_events, own_group}
 

@@ -12,11 +12,11 @@ use Rattle.ktm_courses.proofs.offered.SoundRestarts.{booted}
 use Rattle.ktm_laws.proofs.offered.LogCounts.{own-grammatical}
 use Rattle.ktm_slots.specs.Owed.{owed_slots}
 use Rattle.ktm_slots.specs.Slots.{SlotsLaw}
-use Rattle.ktm_states.specs.GoodState.{IsGoodState}
-use Rattle.ktm_states.specs.GoodStates.{GoodStatesLaw}
-use Rattle.ktm_states.specs.OwnGroup.{OwnGroupLaw}
+use Rattle.txf_laws.specs.GoodState.{IsGoodState}
+use Rattle.txf_laws.specs.GoodStates.{GoodStatesLaw}
+use Rattle.txf_laws.specs.OwnGroup.{OwnGroupLaw}
 use Rattle.ktm_trace.specs.Traces.{traced, traces_of}
-use Rattle.txf_volume.specs.Held.{files_begun, files_of}
+use Rattle.ktm_memory.specs.Held.{files_begun, files_of}
 use Rattle.ktm_tm.specs.TmState.{TmState}
 use Rattle.ktm_back.specs.Bringing.{HasComeBack}
 use Rattle.ktm_back.specs.Restoring.{AreOfGoodState, InDoubtLaw, files_back, keys_back, own_changes_of, own_settings_of}

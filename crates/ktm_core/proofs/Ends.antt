@@ -6,7 +6,7 @@ use Rattle.ktm_base.specs.declared.refusal.Refusal.TheVariants.{MachineDown}
 use Rattle.ktm_base.specs.declared.limits.TheConstants.{MOST_UNITS}
 use Rattle.ktm_base.specs.Disk.{DeviceCalls, DiskState, DiskStatus}
 use Rattle.ktm_each.specs.Each.{EachOfDurable, EachOfGroup}
-use Rattle.ktm_types.specs.Sizes.{area_len, frame_size}
+use Rattle.ktm_world.specs.Sizes.{area_len, frame_size}
 use Rattle.ktm_event.specs.Kept.{EventsState, Holds}
 use Rattle.ktm_journal.specs.Image.{IsHeaded, JournalState, page_count}
 use Rattle.ktm_log.specs.OnDisk.{AllSynced, on}
@@ -16,9 +16,9 @@ use Rattle.ktm_restart.specs.Logs.{AppliesTo}
 use Rattle.ktm_slots.specs.Owed.{owed_slots}
 use Rattle.ktm_store.specs.Store.{StoreState}
 use Rattle.ktm_trace.specs.Contents.{ContentsLaw, KeptLaw}
-use Rattle.ktm_types.specs.declared.event.Event.{Event}
-use Rattle.ktm_types.specs.declared.reply.Reply.{Reply}
-use Rattle.ktm_types.specs.declared.reply.Reply.TheVariants.{Refused}
+use Rattle.ktm_world.specs.declared.event.Event.{Event}
+use Rattle.ktm_world.specs.declared.reply.Reply.{Reply}
+use Rattle.ktm_world.specs.declared.reply.Reply.TheVariants.{Refused}
 use Rattle.ktm_world.specs.Durable.{Durable, after_events}
 use Rattle.ktm_world.specs.Logs.{Group}
 use Rattle.ktm_world.specs.Outcome.{Outcome, apply}
@@ -37,7 +37,7 @@ use Rattle.ktm_core.specs.Core.{HoldsPlaces, HoldsState, LeavesEitherPlaces, cor
 use Rattle.ktm_core.specs.Done.{Ends, IsDone, IsCutOff, TouchesNothing, most_calls}
 use Rattle.ktm_core.specs.Answers.{IsAnswered}
 use Rattle.ktm_core.specs.Recording.{IsNotPut, IsPut, IsSameMemory, MayRecord, kept_on}
-use Rattle.ktm_core.proofs.Asked.{GoesWell}
+use Rattle.ktm_core.proofs.Asks.{GoesWell}
 use Rattle.ktm_core.proofs.Meant.{many, nothing}
 
 -- ---- the journal and the list of events

@@ -1,7 +1,7 @@
 -- A command of the grammar is one that a machine is given.
-use Rattle.ktm_types.specs.declared.command.Command.{Command}
-use Rattle.ktm_types.specs.declared.command.Command.TheVariants.{WriteUnits}
-use Rattle.ktm_types.specs.Values.{IsCommand, IsGiven}
+use Rattle.ktm_world.specs.declared.command.Command.{Command}
+use Rattle.ktm_world.specs.declared.command.Command.TheVariants.{WriteUnits}
+use Rattle.ktm_world.specs.Values.{IsCommand, IsGiven}
 
 pub given : (command : Command) → IsCommand command → IsGiven command
 given (WriteUnits file start contents) is = absurd is

@@ -16,11 +16,11 @@ use Rattle.ktm_log.specs.OnDisk.{AllSynced, OnDisk}
 use Rattle.ktm_memory.specs.Memory.{MemoryState, appended, present_of}
 use Rattle.ktm_memory.specs.Recorded.{AreCutOff, AreRecorded}
 use Rattle.ktm_memory.proofs.offered.Standing.{kept}
-use Rattle.ktm_room.specs.Frames.{FitsEmptyLog}
+use Rattle.ktm_route.specs.Frames.{FitsEmptyLog}
 use Rattle.ktm_saving.specs.Saved.{IsHalfSaved, IsSaved}
-use Rattle.ktm_states.specs.GoodState.{IsGoodState}
-use Rattle.ktm_types.specs.Groups.{Group}
-use Rattle.ktm_types.specs.Sizes.{frame_size}
+use Rattle.txf_laws.specs.GoodState.{IsGoodState}
+use Rattle.ktm_world.specs.Groups.{Group}
+use Rattle.ktm_world.specs.Sizes.{frame_size}
 use Rattle.ktm_world.specs.Durable.{Durable, after_events}
 use Rattle.ktm_core.specs.Recording.{AppendLeaves, GroupLeaves, IsGroupCutOff, IsGroupRecorded, IsSameMemory, LeavesPaged, MayRecord}
 use Rattle.ktm_core.proofs.Journals.{appended_for, appended_or_not, appended_pages, saved_for, saved_or_not, saved_pages}

@@ -18,7 +18,7 @@ use Rattle.ktm_paged.proofs.offered.Meanings.{all-meant}
 use Rattle.ktm_restart.specs.Logs.{AppliesTo, ComeTo, JournalFor, PagedFor}
 use Rattle.ktm_restart.proofs.offered.Journals.{begins, grows}
 use Rattle.ktm_saving.specs.Saved.{IsHalfSaved, IsSaved}
-use Rattle.ktm_states.specs.GoodState.{IsGoodState}
+use Rattle.txf_laws.specs.GoodState.{IsGoodState}
 use Rattle.ktm_snapshot.specs.StateGrammar.{IsStateOf}
 use Rattle.ktm_world.specs.Durable.{Durable, after_events}
 use Rattle.ktm_world.specs.Logs.{Group, as_groups}

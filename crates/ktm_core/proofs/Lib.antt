@@ -8,7 +8,7 @@ mod Journals
 mod Groups
 mod Writing
 mod Starts
-mod Asked
+mod Asks
 mod Ends
 mod Puts
 mod Reading

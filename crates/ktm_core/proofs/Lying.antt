@@ -14,13 +14,13 @@ use Rattle.ktm_paged.proofs.offered.Lying.{lies-none}
 use Rattle.ktm_restart.specs.Logs.{IsOnPages}
 use Rattle.ktm_snapshot.specs.StateGrammar.{IsMarkedOf, IsNamedOf, IsNodeOf, IsPlacedPartOf, IsStateOf, IsTransactionOf}
 use Rattle.ktm_snapshot.specs.Works.{is_of_work, is_work, placed_change, placed_part}
-use Rattle.ktm_types.specs.declared.change.Change.{Change}
-use Rattle.ktm_types.specs.declared.change.Change.TheVariants.{Make, Put, Cut, Move, Drop}
-use Rattle.ktm_types.specs.declared.change.Contents.TheVariants.{Whole, Paged}
-use Rattle.ktm_types.specs.declared.event.Part.{Part}
-use Rattle.ktm_types.specs.declared.event.Part.TheVariants.{Changes, Enlistment, Settings}
-use Rattle.ktm_types.specs.declared.recorded.Node.{Node}
-use Rattle.ktm_types.specs.declared.recorded.RecordedPart.{RecordedPart}
+use Rattle.ktm_world.specs.declared.change.Change.{Change}
+use Rattle.ktm_world.specs.declared.change.Change.TheVariants.{Make, Put, Cut, Move, Drop}
+use Rattle.ktm_world.specs.declared.change.Contents.TheVariants.{Whole, Paged}
+use Rattle.ktm_world.specs.declared.event.Part.{Part}
+use Rattle.ktm_world.specs.declared.event.Part.TheVariants.{Changes, Enlistment, Settings}
+use Rattle.ktm_world.specs.declared.recorded.Node.{Node}
+use Rattle.ktm_world.specs.declared.recorded.RecordedPart.{RecordedPart}
 use Rattle.ktm_world.specs.Changes.{bytes_in}
 use Rattle.ktm_world.specs.Durable.{Durable, Recorded, changes_in}
 use Rattle.ktm_world.specs.Tree.{bytes_or_none}

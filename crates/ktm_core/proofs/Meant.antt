@@ -5,8 +5,8 @@ use Rattle.std.proofs.lemmas.Bool.{cases_Bool, lt-ltb, ltb-true}
 use Rattle.ktm_journal.specs.Append.{has_no_room}
 use Rattle.ktm_journal.specs.Image.{JournalState}
 use Rattle.ktm_paged.specs.Paged.{meant_group, paged_after}
-use Rattle.ktm_types.specs.Groups.{Group, is_full}
-use Rattle.ktm_types.specs.Sizes.{event_size, frame_size}
+use Rattle.ktm_world.specs.Groups.{Group, is_full}
+use Rattle.ktm_world.specs.Sizes.{event_size, frame_size}
 use Rattle.ktm_world.specs.Durable.{Durable}
 use Rattle.ktm_core.specs.Recording.{append_calls}
 

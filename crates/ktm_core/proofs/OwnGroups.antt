@@ -3,10 +3,10 @@ use Rattle.std.proofs.Common.{◌≡◌, ◌+◌, ◌++◌, not, Bool, true, fal
 use Rattle.std.proofs.lemmas.Bool.{cases_Bool}
 use Rattle.std.specs.List.{flat_map, list_any}
 use Rattle.ktm_base.specs.declared.id.Id.{Id}
-use Rattle.ktm_types.specs.declared.event.DonePart.{DonePart}
-use Rattle.ktm_types.specs.declared.event.Event.{Event}
-use Rattle.ktm_types.specs.declared.event.Event.TheVariants.{Boot, Done}
-use Rattle.ktm_types.specs.declared.recorded.RecordedPart.{RecordedPart}
+use Rattle.ktm_world.specs.declared.event.DonePart.{DonePart}
+use Rattle.ktm_world.specs.declared.event.Event.{Event}
+use Rattle.ktm_world.specs.declared.event.Event.TheVariants.{Boot, Done}
+use Rattle.ktm_world.specs.declared.recorded.RecordedPart.{RecordedPart}
 use Rattle.ktm_world.specs.Durable.{Durable, Recorded, after_event, after_events, finish_recorded, has_undone, is_ready, parts_done, recorded_at, while_not_done}
 use Rattle.ktm_world.specs.Transactions.{same_id}
 use Rattle.ktm_world.specs.World.{done_if, own_events, own_group}

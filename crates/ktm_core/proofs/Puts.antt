@@ -18,7 +18,7 @@ use Rattle.ktm_restart.specs.Logs.{JournalFor, PagedFor}
 use Rattle.ktm_store.specs.Store.{IsStoredAt, StoreState, WantsMore, page_at}
 use Rattle.ktm_store.specs.Stored.{is_stored}
 use Rattle.ktm_store.proofs.offered.Holding.{byte-same}
-use Rattle.ktm_types.specs.Groups.{Group}
+use Rattle.ktm_world.specs.Groups.{Group}
 use Rattle.ktm_world.specs.Durable.{Durable, after_events}
 use Rattle.ktm_world.proofs.offered.Durables.{after_events-units}
 use Rattle.ktm_core.specs.Core.{ArePlacesStored, HoldsState, LeavesEitherPlaces, LeftPlaces, PagesAgree}

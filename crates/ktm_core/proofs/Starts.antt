@@ -26,7 +26,7 @@ use Rattle.ktm_restart.specs.Logs.{AppliesTo, IsOnPages, JournalFor, PagedFor}
 use Rattle.ktm_saving.specs.Saved.{IsHalfSaved, IsSaved, SavingLeaves}
 use Rattle.ktm_standing.specs.Laws.{FreshLaw}
 use Rattle.ktm_standing.specs.Standing.{IsStandingNow, fresh}
-use Rattle.ktm_states.specs.OwnGroup.{OwnGroupLaw}
+use Rattle.txf_laws.specs.OwnGroup.{OwnGroupLaw}
 use Rattle.ktm_trace.specs.Contents.{ContentsLaw}
 use Rattle.ktm_world.specs.Durable.{Durable, is_worn}
 use Rattle.ktm_world.specs.Present.{Present}

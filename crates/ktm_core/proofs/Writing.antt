@@ -15,7 +15,7 @@ use Rattle.ktm_journal.specs.Image.{IsHeaded, JournalAt, JournalState, page_coun
 use Rattle.ktm_journal.specs.Pages.{JournalBut, PageTorn, PageWritten, PagesLaw, SamePagesBut}
 use Rattle.ktm_journal.proofs.offered.Rows.{others_kept}
 use Rattle.ktm_page.specs.Row.{page_of}
-use Rattle.ktm_types.specs.Groups.{Group}
+use Rattle.ktm_world.specs.Groups.{Group}
 use Rattle.ktm_core.specs.Done.{page_calls}
 use Rattle.ktm_core.specs.Pages.{ArePagesTorn, ArePagesWritten, LeavesBut, WritingLeaves, WrotePages}
 use Rattle.ktm_core.proofs.Groups.{goes-then, more_calls}

@@ -7,7 +7,7 @@ use Rattle.ktm_log.specs.OnDisk.{OnDisk}
 use Rattle.ktm_memory.specs.Recorded.{IsUntouched}
 use Rattle.ktm_memory.specs.Rules.{AllowsNone, Follows}
 use Rattle.ktm_slots.specs.Owed.{owed_slots}
-use Rattle.ktm_types.specs.declared.reply.Reply.{Reply}
+use Rattle.ktm_world.specs.declared.reply.Reply.{Reply}
 use Rattle.ktm_world.specs.Outcome.{Outcome}
 use Rattle.ktm_world.specs.Present.{Present}
 use Rattle.ktm_core.specs.Core.{CoreState, IsPowered}

@@ -6,9 +6,9 @@ use Rattle.ktm_base.specs.Disk.{DiskState}
 use Rattle.ktm_journal.specs.Append.{has_no_room}
 use Rattle.ktm_journal.specs.Image.{JournalState, page_count}
 use Rattle.ktm_memory.specs.Stored.{units_put}
-use Rattle.ktm_types.specs.Groups.{Group}
-use Rattle.ktm_types.specs.declared.reply.Reply.{Reply}
-use Rattle.ktm_types.specs.declared.reply.Reply.TheVariants.{Refused}
+use Rattle.ktm_world.specs.Groups.{Group}
+use Rattle.ktm_world.specs.declared.reply.Reply.{Reply}
+use Rattle.ktm_world.specs.declared.reply.Reply.TheVariants.{Refused}
 use Rattle.ktm_world.specs.Present.{Present}
 use Rattle.ktm_world.specs.Outcome.{Outcome, apply}
 use Rattle.ktm_core.specs.Core.{CoreState, HoldsPlaces, LeavesEitherPlaces}

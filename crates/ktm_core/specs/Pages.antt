@@ -11,7 +11,7 @@ use Rattle.ktm_page.specs.Row.{page_of}
 use Rattle.ktm_store.specs.Marks.{is_held}
 use Rattle.ktm_store.specs.Store.{IsStoredAt, StoreState}
 use Rattle.ktm_store.specs.Stored.{is_stored}
-use Rattle.ktm_types.specs.Groups.{Group}
+use Rattle.ktm_world.specs.Groups.{Group}
 use Rattle.ktm_world.specs.Files.{FilesNow}
 use Rattle.ktm_memory.specs.Stored.{AreFilesHeld}
 use Rattle.ktm_core.specs.Core.{PagesAgree}

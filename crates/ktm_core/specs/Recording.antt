@@ -11,13 +11,13 @@ use Rattle.ktm_journal.specs.Pages.{KeepsPages, LeavesPages}
 use Rattle.ktm_log.specs.OnDisk.{AllSynced, OnDisk}
 use Rattle.ktm_paged.specs.Paged.{IsSound, meant_group}
 use Rattle.ktm_restart.specs.Logs.{AppliesTo, JournalFor, PagedFor}
-use Rattle.ktm_room.specs.Frames.{FitsEmptyLog}
+use Rattle.ktm_route.specs.Frames.{FitsEmptyLog}
 use Rattle.ktm_standing.specs.Standing.{IsStandingNow}
-use Rattle.ktm_types.specs.Groups.{Group}
+use Rattle.ktm_world.specs.Groups.{Group}
 use Rattle.ktm_world.specs.Durable.{Durable, after_events}
 use Rattle.ktm_memory.specs.Memory.{MemoryState, present_of}
 use Rattle.ktm_store.specs.Store.{StoreState}
-use Rattle.ktm_types.specs.Sizes.{event_size}
+use Rattle.ktm_world.specs.Sizes.{event_size}
 use Rattle.ktm_core.specs.Core.{HoldsState, LeavesEitherPlaces}
 use Rattle.ktm_core.specs.Done.{most_calls}
 use Rattle.ktm_memory.specs.Recorded.{AreCutOff, AreRecorded, IsUntouched}

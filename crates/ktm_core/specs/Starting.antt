@@ -14,7 +14,7 @@ use Rattle.ktm_restart.specs.Loads.{IsJournalOf, MayStart}
 use Rattle.ktm_restart.specs.Logs.{JournalFor, PagedFor}
 use Rattle.ktm_slots.specs.Owed.{owed_slots}
 use Rattle.ktm_standing.specs.Standing.{fresh}
-use Rattle.ktm_types.specs.Sizes.{area_len, frame_size}
+use Rattle.ktm_world.specs.Sizes.{area_len, frame_size}
 use Rattle.ktm_world.specs.Durable.{Durable, after_events, is_worn}
 use Rattle.ktm_world.specs.World.{own_group}
 

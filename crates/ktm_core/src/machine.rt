@@ -11,11 +11,11 @@ ghost use Rattle.ktm_memory.specs.Memory.{IsRoomy, present_of};
 ghost use Rattle.ktm_memory.specs.Rules.{PutsAlone};
 ghost use Rattle.ktm_memory.specs.Settled.{left_to_do};
 ghost use Rattle.ktm_memory.specs.Stored.{FilesLieBelow};
-ghost use Rattle.txf_volume.specs.Held.{files_of};
-ghost use Rattle.ktm_types.specs.Groups.{Group};
+ghost use Rattle.ktm_memory.specs.Held.{files_of};
+ghost use Rattle.ktm_world.specs.Groups.{Group};
 ghost use Rattle.ktm_route.specs.Route.{AskedPutsBy, CanBeAsked, decided};
 ghost use Rattle.ktm_route.specs.Takes.{asked_takes_memory};
-ghost use Rattle.ktm_types.specs.Sizes.{area_len};
+ghost use Rattle.ktm_world.specs.Sizes.{area_len};
 
 use crate::pages::write_wanted;
 use crate::recording::record;
@@ -24,13 +24,12 @@ use ktm_event::Events;
 use ktm_laws::law_of_lawful_worlds;
 use ktm_memory::{Memory, Settlement};
 use ktm_paged::law_of_records;
-use ktm_room::law_of_frames;
-use ktm_route::{Asked, decide};
+use ktm_route::{Asked, decide, law_of_frames};
 use ktm_slots::law_of_slots;
 use ktm_standing::law_of_standing;
 use ktm_store::Store;
 use ktm_trace::{law_of_contents, law_of_kept};
-use ktm_types::Reply;
+use ktm_world::Reply;
 use std::alloc::Global;
 
 /// What a machine holds in memory, over the places of bytes, with the pages on which they are, and the memory for what it records.

@@ -5,7 +5,7 @@ ghost use Rattle.ktm_core.specs.Pages.{AreHeldRead, ArePagesLoaded, IsPageRead, 
 ghost use Rattle.ktm_core.specs.Core.{AreSoundFiles};
 ghost use Rattle.ktm_journal.specs.Image.{IsHeaded, page_count};
 ghost use Rattle.ktm_store.specs.Stored.{is_stored};
-ghost use Rattle.txf_volume.specs.Held.{files_of};
+ghost use Rattle.ktm_memory.specs.Held.{files_of};
 
 use ktm_base::{Disk, Down, UNIT_BYTES};
 use ktm_journal::{Journal, law_of_pages};

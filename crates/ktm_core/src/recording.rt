@@ -6,8 +6,8 @@ ghost use Rattle.ktm_journal.specs.Append.{has_no_room};
 ghost use Rattle.ktm_journal.specs.Image.{IsHeaded};
 ghost use Rattle.ktm_core.specs.Recording.{AppendLeaves, GroupLeaves, MayRecord};
 ghost use Rattle.ktm_log.specs.OnDisk.{on};
-ghost use Rattle.ktm_types.specs.Groups.{Group};
-ghost use Rattle.ktm_types.specs.Sizes.{area_len};
+ghost use Rattle.ktm_world.specs.Groups.{Group};
+ghost use Rattle.ktm_world.specs.Sizes.{area_len};
 
 use ktm_base::{Disk, Down};
 use ktm_event::Events;

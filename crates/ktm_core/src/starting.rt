@@ -9,8 +9,8 @@ ghost use Rattle.ktm_memory.specs.Memory.{Shows};
 ghost use Rattle.ktm_restart.specs.Loads.{IsJournalOf, MayStart};
 ghost use Rattle.ktm_slots.specs.Owed.{owed_slots};
 ghost use Rattle.ktm_standing.specs.Standing.{fresh};
-ghost use Rattle.ktm_states.specs.GoodState.{IsGoodState};
-ghost use Rattle.ktm_types.specs.Sizes.{area_len, frame_size};
+ghost use Rattle.txf_laws.specs.GoodState.{IsGoodState};
+ghost use Rattle.ktm_world.specs.Sizes.{area_len, frame_size};
 ghost use Rattle.ktm_world.specs.Durable.{is_worn};
 ghost use Rattle.ktm_world.specs.World.{in_doubt as all_in_doubt, own_group};
 
@@ -23,14 +23,14 @@ use ktm_memory::Memory;
 use ktm_paged::law_of_records;
 use ktm_records::law_of_spelling;
 use ktm_restart::{Durable, DurableParts, Loaded};
-use ktm_room::law_of_frames;
+use ktm_route::law_of_frames;
 use ktm_saving::compact;
 use ktm_slots::law_of_slots;
 use ktm_standing::{law_of_fresh, law_of_kept};
-use ktm_states::{law_of_good_states, law_of_own_groups};
 use ktm_trace::{Trace, law_of_contents};
 use std::alloc::Global;
 use std::mem::replace;
+use txf_laws::{law_of_good_states, law_of_own_groups};
 
 /// A state with so many boots or more is worn.
 const WORN_BOOTS: u32 = u32::MAX - 1;

@@ -3,7 +3,7 @@ use Rattle.std.proofs.Common.{◌≡◌, ◌&&◌, ◌||◌, Bool, true, false, 
 use Rattle.std.proofs.lemmas.Bool.{and_from}
 use Rattle.ktm_base.specs.declared.id.Id.{Id}
 use Rattle.ktm_event.specs.Work.{FinalFile, changes_of}
-use Rattle.ktm_types.specs.declared.options.EnlistmentKind.{EnlistmentKind}
+use Rattle.ktm_world.specs.declared.options.EnlistmentKind.{EnlistmentKind}
 use Rattle.ktm_world.specs.Enlistments.{Enlistment, Manager}
 use Rattle.ktm_world.specs.Steps.{Basis}
 use Rattle.ktm_world.specs.Transactions.{same_id}

@@ -1,9 +1,9 @@
 -- Which steps commit, and which record the changes of the files.
 use Rattle.std.specs.Prelude.{Bool, true, false, List}
 use Rattle.std.specs.List.{list_any}
-use Rattle.ktm_types.specs.declared.step.Fact.{Fact}
-use Rattle.ktm_types.specs.declared.step.Step.{Step}
-use Rattle.ktm_types.specs.declared.step.Step.TheVariants.{Commit}
+use Rattle.ktm_world.specs.declared.step.Fact.{Fact}
+use Rattle.ktm_world.specs.declared.step.Step.{Step}
+use Rattle.ktm_world.specs.declared.step.Step.TheVariants.{Commit}
 
 -- do the files and the keys commit by this step
 abbrev pub is_commit : Step → Bool

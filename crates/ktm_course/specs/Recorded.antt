@@ -6,9 +6,9 @@ use Rattle.ktm_course.specs.declared.parts.Entry.{Entry}
 use Rattle.ktm_course.specs.declared.parts.Entry.TheVariants.{Work, Held, Decide, Undo, Done}
 use Rattle.ktm_course.specs.declared.parts.Parts.{Parts}
 use Rattle.ktm_event.specs.Work.{FinalFile, IsRecordableWork, changes_of, part_of, work_event}
-use Rattle.ktm_types.specs.declared.event.Event.{Event}
-use Rattle.ktm_types.specs.declared.step.Step.{Step}
-use Rattle.ktm_types.specs.declared.step.Step.TheVariants.{Record}
+use Rattle.ktm_world.specs.declared.event.Event.{Event}
+use Rattle.ktm_world.specs.declared.step.Step.{Step}
+use Rattle.ktm_world.specs.declared.step.Step.TheVariants.{Record}
 use Rattle.ktm_world.specs.Enlistments.{Enlistment, Manager, is_durable_at}
 use Rattle.ktm_world.specs.Steps.{Basis, is_recorded_by}
 

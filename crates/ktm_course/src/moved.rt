@@ -4,7 +4,7 @@ ghost use Rattle.std.specs.List.{list_any};
 ghost use Rattle.ktm_course.specs.Moved.{is_commit, is_of_changes, records_changes, records_files};
 ghost use Rattle.ktm_world.specs.Transactions.{is_undecided};
 
-use ktm_types::{Fact, Step, Transaction, TransactionOutcome};
+use ktm_world::{Fact, Step, Transaction, TransactionOutcome};
 
 // Is this the step by which the files and the keys commit.
 fn is_commit(step: &Step) -> bool

@@ -6,16 +6,16 @@ ghost use Rattle.ktm_event.specs.Spelling.{IsRecordableChange, IsSpellableEvent}
 ghost use Rattle.ktm_event.specs.Work.{changes_of};
 ghost use Rattle.ktm_world.specs.Enlistments.{Enlistment, Manager};
 ghost use Rattle.ktm_world.specs.Steps.{Basis, event_of_caller, events_ahead, events_of, held_event, is_of_durable, is_recorded_by};
-ghost use Rattle.ktm_types.specs.Sizes.{event_size};
+ghost use Rattle.ktm_world.specs.Sizes.{event_size};
 ghost use Rattle.ktm_base.specs.declared.id.Id.{Id as OfTransaction};
-ghost use Rattle.ktm_types.specs.declared.event.DonePart.{DonePart as OfDone};
-ghost use Rattle.ktm_types.specs.declared.event.Event.{Event as Recorded};
+ghost use Rattle.ktm_world.specs.declared.event.DonePart.{DonePart as OfDone};
+ghost use Rattle.ktm_world.specs.declared.event.Event.{Event as Recorded};
 ghost use Rattle.ktm_world.specs.Changes.{has_changes};
 ghost use Rattle.ktm_world.specs.Phases.{enlistment_part, has_settings};
 
 use ktm_base::Id;
 use ktm_event::{Events, Stage, Work, WrittenFiles};
-use ktm_types::{Change, DonePart, Event, Fact, Setting, Step};
+use ktm_world::{Change, DonePart, Event, Fact, Setting, Step};
 
 /// An enlistment, as it is recorded.
 #[derive(Clone, Copy)]

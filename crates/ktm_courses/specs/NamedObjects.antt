@@ -2,11 +2,11 @@
 use Rattle.std.specs.Prelude.{◌≡◌, ℕ, true}
 use Rattle.std.specs.List.{list_all}
 use Rattle.ktm_base.specs.declared.id.Pid.{Pid}
-use Rattle.ktm_types.specs.declared.command.Command.{Command}
+use Rattle.ktm_world.specs.declared.command.Command.{Command}
 use Rattle.ktm_world.specs.Decide.{decide}
 use Rattle.ktm_world.specs.Present.{Present}
 use Rattle.ktm_world.specs.World.{decide_tick}
-use Rattle.ktm_states.specs.Grammatical.{names_objects}
+use Rattle.txf_laws.specs.Grammatical.{names_objects}
 use Rattle.ktm_courses.specs.SoundCourse.{IsSoundCourse}
 
 -- what a sound machine records names objects, whatever command it is given, and whatever time passes

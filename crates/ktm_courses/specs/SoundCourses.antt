@@ -1,7 +1,7 @@
 -- What is so of transactions, enlistments and resource managers stays so, whatever a machine does.
 use Rattle.std.specs.Prelude.{ℕ, List}
 use Rattle.ktm_base.specs.declared.id.Pid.{Pid}
-use Rattle.ktm_types.specs.declared.command.Command.{Command}
+use Rattle.ktm_world.specs.declared.command.Command.{Command}
 use Rattle.ktm_world.specs.Decide.{decide}
 use Rattle.ktm_world.specs.Durable.{Durable, stand}
 use Rattle.ktm_world.specs.Laws.{FirstOpensLieWithin}
@@ -9,7 +9,7 @@ use Rattle.ktm_world.specs.Logs.{Group, Power}
 use Rattle.ktm_world.specs.Outcome.{apply}
 use Rattle.ktm_world.specs.Present.{Present}
 use Rattle.ktm_world.specs.World.{World, present, extend, after, opened, decide_tick}
-use Rattle.ktm_states.specs.GoodState.{IsGoodState}
+use Rattle.txf_laws.specs.GoodState.{IsGoodState}
 use Rattle.ktm_courses.specs.SoundCourse.{IsSoundCourse}
 
 -- a machine stays sound, whatever command it is given, whatever time passes, and where it falls; and a restart of a good state makes a sound one

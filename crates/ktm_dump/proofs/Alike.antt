@@ -8,7 +8,7 @@ use Rattle.ktm_dump.specs.Written.{newline}
 use Rattle.ktm_mapped.specs.Mapped.{mapped_content, mapped_durable, mapped_node, mapped_recorded, mapped_tree}
 use Rattle.ktm_mapped.proofs.offered.Lists.{flat_map-same}
 use Rattle.ktm_mapped.proofs.offered.Trees.{node_at-mapped}
-use Rattle.ktm_types.specs.declared.recorded.Node.{Node}
+use Rattle.ktm_world.specs.declared.recorded.Node.{Node}
 use Rattle.ktm_world.specs.Durable.{Durable}
 use Rattle.ktm_world.specs.Tree.{Tree, node_at}
 

@@ -2,7 +2,7 @@
 use Rattle.std.proofs.Common.{◌≡◌, ℕ, zero, suc, ◌-◌, [], ◌∷◌, ◌++◌, Some, None, refl, append_assoc, arith}
 use Rattle.ktm_base.specs.Names.{backslash}
 use Rattle.ktm_dump.specs.Text.{path_up}
-use Rattle.ktm_types.specs.declared.recorded.Node.{Node}
+use Rattle.ktm_world.specs.declared.recorded.Node.{Node}
 use Rattle.ktm_world.specs.Tree.{Tree, node_at}
 
 pub path_none : (tree : Tree) (most number : ℕ) → None ≡ node_at tree number → [] ≡ path_up tree most number

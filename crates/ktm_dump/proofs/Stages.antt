@@ -3,7 +3,7 @@ use Rattle.std.proofs.Common.{◌≡◌, ℕ, List, codes, ap, subst}
 use Rattle.ktm_base.specs.declared.id.ObjectKind.TheVariants.{Transaction}
 use Rattle.ktm_base.specs.Guid.{guid_of}
 use Rattle.ktm_dump.specs.Text.{guid_line, transaction_lines}
-use Rattle.ktm_types.specs.declared.recorded.Stage.TheVariants.{Held, Decided}
+use Rattle.ktm_world.specs.declared.recorded.Stage.TheVariants.{Held, Decided}
 use Rattle.ktm_world.specs.Durable.{Recorded}
 
 module _ (image : ℕ) (t now : Recorded) (guid : List ℕ) (same : t ≡ now) (is : guid ≡ guid_of Transaction image t.id) where

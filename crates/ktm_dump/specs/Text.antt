@@ -10,9 +10,9 @@ use Rattle.ktm_codec.specs.Quoted.{quoted}
 use Rattle.ktm_dump.specs.declared.line.TheConstants.{LAYOUT}
 use Rattle.ktm_dump.specs.Written.{newline}
 use Rattle.ktm_keyed.specs.declared.keyed.Keyed.{Keyed}
-use Rattle.ktm_types.specs.declared.recorded.Node.{Node}
-use Rattle.ktm_types.specs.declared.recorded.Stage.{Stage}
-use Rattle.ktm_types.specs.declared.recorded.Stage.TheVariants.{Ready, Held, Decided}
+use Rattle.ktm_world.specs.declared.recorded.Node.{Node}
+use Rattle.ktm_world.specs.declared.recorded.Stage.{Stage}
+use Rattle.ktm_world.specs.declared.recorded.Stage.TheVariants.{Ready, Held, Decided}
 use Rattle.ktm_world.specs.Durable.{Durable, Recorded}
 use Rattle.ktm_world.specs.Tree.{Tree, node_at}
 

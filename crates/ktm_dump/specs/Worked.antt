@@ -3,8 +3,8 @@ use Rattle.std.specs.Prelude.{◌≡◌, ℕ, List, [], ◌∷◌, ◌++◌, Som
 use Rattle.ktm_base.specs.declared.id.Id.{Id}
 use Rattle.ktm_dump.specs.Text.{state_text}
 use Rattle.ktm_dump.specs.Written.{newline}
-use Rattle.ktm_types.specs.declared.recorded.Stage.{Stage}
-use Rattle.ktm_types.specs.declared.recorded.Stage.TheVariants.{Ready, Held, Decided}
+use Rattle.ktm_world.specs.declared.recorded.Stage.{Stage}
+use Rattle.ktm_world.specs.declared.recorded.Stage.TheVariants.{Ready, Held, Decided}
 use Rattle.ktm_world.specs.Durable.{Durable, Recorded, empty_state}
 
 -- lines, each of which ends with a newline

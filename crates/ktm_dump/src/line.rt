@@ -11,8 +11,7 @@ use crate::waiting::put;
 use ktm_base::{Bytes, Failed, Id, ObjectKind, Sink, guid};
 use ktm_keyed::Keyed;
 use ktm_restart::Durable;
-use ktm_types::Stage;
-use ktm_world::Recorded;
+use ktm_world::{Recorded, Stage};
 use txf_tree::{NodeRef, Tree};
 use uuid::Uuid;
 

@@ -1,16 +1,16 @@
 -- What holds of each byte of each content, by the number of its file and its index there.
 use Rattle.std.specs.Prelude.{ℕ, suc, List, [], ◌∷◌, All, ⊤}
-use Rattle.ktm_types.specs.declared.change.Change.{Change}
-use Rattle.ktm_types.specs.declared.change.Change.TheVariants.{Put}
-use Rattle.ktm_types.specs.declared.event.Event.{Event}
-use Rattle.ktm_types.specs.declared.event.Part.{Part}
-use Rattle.ktm_types.specs.declared.recorded.Node.{Node}
+use Rattle.ktm_world.specs.declared.change.Change.{Change}
+use Rattle.ktm_world.specs.declared.change.Change.TheVariants.{Put}
+use Rattle.ktm_world.specs.declared.event.Event.{Event}
+use Rattle.ktm_world.specs.declared.event.Part.{Part}
+use Rattle.ktm_world.specs.declared.recorded.Node.{Node}
 use Rattle.ktm_world.specs.Changes.{bytes_in}
 use Rattle.ktm_world.specs.Durable.{Durable, Recorded, changes_in}
 use Rattle.ktm_world.specs.Files.{FilesNow, FirstOpen, OwnChanges}
 use Rattle.ktm_world.specs.Logs.{Group}
 use Rattle.ktm_world.specs.Tree.{Tree, bytes_or_none}
-use Rattle.ktm_states.specs.Grammatical.{changes_of_event}
+use Rattle.txf_laws.specs.Grammatical.{changes_of_event}
 
 -- ---- bytes
 

@@ -1,8 +1,8 @@
 -- What holds of each byte of each content goes on to hold.
 use Rattle.std.specs.Prelude.{ℕ, List, Option, All, IfSome}
 use Rattle.ktm_base.specs.declared.id.Id.{Id}
-use Rattle.ktm_types.specs.declared.change.Change.{Change}
-use Rattle.ktm_types.specs.declared.event.Event.{Event}
+use Rattle.ktm_world.specs.declared.change.Change.{Change}
+use Rattle.ktm_world.specs.declared.event.Event.{Event}
 use Rattle.ktm_world.specs.Changes.{changed, changed_all}
 use Rattle.ktm_world.specs.Committed.{changes_to_commit, final_bytes}
 use Rattle.ktm_world.specs.Durable.{Durable, after_event, after_events, stand}

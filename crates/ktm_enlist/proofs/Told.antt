@@ -13,7 +13,7 @@ use Rattle.ktm_world.specs.Outcome.{served}
 use Rattle.ktm_manager.proofs.offered.Served.{served_nothing, served_twice, there_served}
 use Rattle.ktm_manager.specs.Rising.{IsAt, IsNowhere}
 use Rattle.ktm_enlist.specs.Places.{changed, is_own, place_from, HasNone, IsOnlyAt, PassesAt}
-use Rattle.ktm_types.specs.declared.step.Who.{Who}
+use Rattle.ktm_world.specs.declared.step.Who.{Who}
 use Rattle.ktm_world.specs.Steps.{is_one_of}
 use Rattle.ktm_world.specs.Transactions.{same_id}
 use Rattle.ktm_enlist.specs.declared.telling.Told.{Told}

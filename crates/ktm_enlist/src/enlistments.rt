@@ -21,7 +21,7 @@ use crate::telling::{Told, tell_one};
 use ktm_base::{Bytes, Id, NoMemory, Notify};
 use ktm_manager::{Managers, order_of};
 use ktm_phase::Enlistment;
-use ktm_types::{Answered, Owed, Who};
+use ktm_world::{Answered, Owed, Who};
 use std::alloc::Global;
 use std::cmp::Ordering;
 use std::marker::Model;

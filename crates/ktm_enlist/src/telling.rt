@@ -8,7 +8,7 @@ use ktm_base::{Id, Notify};
 use ktm_manager::Managers;
 use ktm_notify::Note;
 use ktm_phase::Enlistment;
-use ktm_types::{Owed, Who};
+use ktm_world::{Owed, Who};
 
 /// Whom of a transaction's enlistments, where this one calls, and what they are told.
 #[derive(Clone, Copy)]

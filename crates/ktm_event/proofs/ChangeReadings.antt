@@ -4,11 +4,11 @@ use Rattle.ktm_base.specs.Grammar.{IsU8, IsU32}
 use Rattle.ktm_codec.specs.Spans.{Spans, Reads}
 use Rattle.ktm_codec.proofs.Forms.{unambiguous_u8, unambiguous_u32}
 use Rattle.ktm_codec.proofs.SpansLemmas.{one_reading, spans_parts}
-use Rattle.ktm_types.specs.declared.change.Change.{Change}
-use Rattle.ktm_types.specs.declared.change.Change.TheVariants.{Make, Put, Cut, Move, Drop}
-use Rattle.ktm_types.specs.declared.change.Contents.TheVariants.{Whole, Paged}
-use Rattle.ktm_types.specs.declared.change.NodeKind.TheVariants.{File, Directory}
-use Rattle.ktm_types.specs.EventGrammar.{IsKindOf, IsPutOf, IsChangeOf}
+use Rattle.ktm_world.specs.declared.change.Change.{Change}
+use Rattle.ktm_world.specs.declared.change.Change.TheVariants.{Make, Put, Cut, Move, Drop}
+use Rattle.ktm_world.specs.declared.change.Contents.TheVariants.{Whole, Paged}
+use Rattle.ktm_world.specs.declared.change.NodeKind.TheVariants.{File, Directory}
+use Rattle.ktm_world.specs.EventGrammar.{IsKindOf, IsPutOf, IsChangeOf}
 use Rattle.ktm_event.specs.Reading.{Behind}
 use Rattle.ktm_event.proofs.Tags.{other_tag, no_byte}
 use Rattle.ktm_event.proofs.Changes.{IsMakeOf, IsPagedOf, IsPutAtOf, IsCutToOf, IsMoveOf}

@@ -3,12 +3,12 @@ use Rattle.std.proofs.Common.{ℕ, zero, suc, List, refl, ap}
 use Rattle.ktm_base.specs.Grammar.{IsU32, IsU64, IsTextOf, Then, IsListOf}
 use Rattle.ktm_codec.specs.Spans.{Unambiguous, OneSpelling}
 use Rattle.ktm_codec.proofs.Forms.{HasOne, unambiguous_u8, unambiguous_u32, unambiguous_u64, unambiguous_text, unambiguous_list, unambiguous_tagged, other_tags, one_u8, one_u32, one_u64, one_text, one_list, one_then, one_tagged}
-use Rattle.ktm_types.specs.declared.change.Change.TheVariants.{Make, Put, Cut, Move, Drop}
-use Rattle.ktm_types.specs.declared.change.Contents.{Contents}
-use Rattle.ktm_types.specs.declared.change.Contents.TheVariants.{Whole, Paged}
-use Rattle.ktm_types.specs.declared.change.NodeKind.{NodeKind}
-use Rattle.ktm_types.specs.declared.change.NodeKind.TheVariants.{File, Directory}
-use Rattle.ktm_types.specs.EventGrammar.{IsKindOf, IsPutOf, IsChangeOf}
+use Rattle.ktm_world.specs.declared.change.Change.TheVariants.{Make, Put, Cut, Move, Drop}
+use Rattle.ktm_world.specs.declared.change.Contents.{Contents}
+use Rattle.ktm_world.specs.declared.change.Contents.TheVariants.{Whole, Paged}
+use Rattle.ktm_world.specs.declared.change.NodeKind.{NodeKind}
+use Rattle.ktm_world.specs.declared.change.NodeKind.TheVariants.{File, Directory}
+use Rattle.ktm_world.specs.EventGrammar.{IsKindOf, IsPutOf, IsChangeOf}
 use Rattle.ktm_event.proofs.Tags.{other}
 use Rattle.ktm_event.proofs.Pairs.{Both, unambiguous_both}
 

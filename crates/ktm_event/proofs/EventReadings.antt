@@ -1,9 +1,9 @@
 -- How what is read of an event at one place goes on at the next.
 use Rattle.std.proofs.Common.{◌≢◌, ℕ, None, List, [], refl}
 use Rattle.ktm_codec.specs.Spans.{Reads}
-use Rattle.ktm_types.specs.declared.event.Event.{Event}
-use Rattle.ktm_types.specs.declared.event.Event.TheVariants.{Boot, MadeRm, Plain, Ready, Single, Held, Decide, Undo}
-use Rattle.ktm_types.specs.EventGrammar.{IsIdOf, IsPartOf, IsSoleOf, IsDoneOf, IsEventOf}
+use Rattle.ktm_world.specs.declared.event.Event.{Event}
+use Rattle.ktm_world.specs.declared.event.Event.TheVariants.{Boot, MadeRm, Plain, Ready, Single, Held, Decide, Undo}
+use Rattle.ktm_world.specs.EventGrammar.{IsIdOf, IsPartOf, IsSoleOf, IsDoneOf, IsEventOf}
 use Rattle.ktm_event.specs.Reading.{Behind, IsRecordedOf}
 use Rattle.ktm_event.proofs.Tags.{other_tag, no_byte}
 use Rattle.ktm_event.proofs.Pairs.{Both}

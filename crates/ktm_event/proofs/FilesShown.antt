@@ -5,8 +5,8 @@ use Rattle.std.proofs.lemmas.List.Sums.{sum_by-append}
 use Rattle.std.proofs.lemmas.Option.{same_Some, none-some}
 use Rattle.std.specs.List.{flat_map}
 use Rattle.std.specs.Prelude.{nat_lt}
-use Rattle.ktm_types.specs.declared.change.Change.{Change}
-use Rattle.ktm_types.specs.Sizes.{change_size}
+use Rattle.ktm_world.specs.declared.change.Change.{Change}
+use Rattle.ktm_world.specs.Sizes.{change_size}
 use Rattle.ktm_event.specs.Work.{AreAbove, AreRising, FinalFile, changes_of_file, final_file, first_above, first_of}
 use Rattle.ktm_event.specs.declared.work.FilePages.{FilePages}
 

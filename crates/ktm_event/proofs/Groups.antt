@@ -8,8 +8,8 @@ use Rattle.std.proofs.lemmas.Result.{err_from_is_err_and}
 use Rattle.ktm_base.specs.Grammar.{IsListOf}
 use Rattle.ktm_codec.specs.Spans.{Spans}
 use Rattle.ktm_codec.proofs.SpansLemmas.{one_reading}
-use Rattle.ktm_types.specs.declared.event.Event.{Event}
-use Rattle.ktm_types.specs.EventGrammar.{IsEventOf, IsGroupOf}
+use Rattle.ktm_world.specs.declared.event.Event.{Event}
+use Rattle.ktm_world.specs.EventGrammar.{IsEventOf, IsGroupOf}
 use Rattle.ktm_event.specs.declared.fault.EventFault.{EventFault}
 use Rattle.ktm_event.specs.declared.fault.EventFault.TheVariants.{NotAnEvent, NoMemory}
 use Rattle.ktm_event.specs.Reading.{Gives}

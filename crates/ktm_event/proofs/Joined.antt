@@ -4,8 +4,8 @@ use Rattle.std.specs.List.{AllByRecursion}
 use Rattle.std.proofs.lemmas.List.Elements.{recursion_from_All, All-from_recursion}
 use Rattle.std.proofs.lemmas.List.Sums.{sum_by-append}
 use Rattle.ktm_event.specs.Spelling.{IsSpellableEvent}
-use Rattle.ktm_types.specs.Sizes.{event_size}
-use Rattle.ktm_types.specs.declared.event.Event.{Event}
+use Rattle.ktm_world.specs.Sizes.{event_size}
+use Rattle.ktm_world.specs.declared.event.Event.{Event}
 
 pub first_spelled : (some others : List Event) → All IsSpellableEvent (some ++ others) → All IsSpellableEvent some × All IsSpellableEvent others
 first_spelled some others all = let both = parts some (recursion_from_All IsSpellableEvent (some ++ others) all) in (All-from_recursion IsSpellableEvent some both.0, All-from_recursion IsSpellableEvent others both.1)

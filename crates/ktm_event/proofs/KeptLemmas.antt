@@ -12,9 +12,9 @@ use Rattle.ktm_codec.proofs.Adding.{row-push}
 use Rattle.ktm_codec.proofs.SpansLemmas.{one_reading}
 use Rattle.ktm_log.specs.Settle.{behind_gate}
 use Rattle.ktm_log.proofs.Appends.{length-behind_gate, length-body}
-use Rattle.ktm_types.specs.declared.event.Event.{Event}
-use Rattle.ktm_types.specs.EventGrammar.{IsEventOf}
-use Rattle.ktm_types.specs.Sizes.{event_size}
+use Rattle.ktm_world.specs.declared.event.Event.{Event}
+use Rattle.ktm_world.specs.EventGrammar.{IsEventOf}
+use Rattle.ktm_world.specs.Sizes.{event_size}
 use Rattle.ktm_event.specs.declared.fault.EventFault.{EventFault}
 use Rattle.ktm_event.specs.declared.fault.EventFault.TheVariants.{NotAnEvent, NoMemory}
 use Rattle.ktm_event.specs.Kept.{EventsState, Holds, IsBodyKept, payload_of}

@@ -4,11 +4,11 @@ use Rattle.ktm_base.specs.declared.id.Id.{Id}
 use Rattle.ktm_base.specs.Grammar.{IsU32, Then, Tagged, IsListOf}
 use Rattle.ktm_codec.specs.Spans.{Unambiguous, OneSpelling}
 use Rattle.ktm_codec.proofs.Forms.{HasOne, unambiguous_u32, unambiguous_tagged, unambiguous_list, other_tags, one_u32, one_then, one_tagged, one_list}
-use Rattle.ktm_types.specs.declared.event.Part.{Part}
-use Rattle.ktm_types.specs.declared.event.DonePart.{DonePart}
-use Rattle.ktm_types.specs.declared.event.Event.{Event}
-use Rattle.ktm_types.specs.declared.event.Event.TheVariants.{Boot, MadeRm, Plain, Ready, Single, Held, Decide, Undo}
-use Rattle.ktm_types.specs.EventGrammar.{IsIdOf, IsChangeOf, IsPartOf, IsSoleOf, IsDoneOf, IsEventOf, IsGroupOf}
+use Rattle.ktm_world.specs.declared.event.Part.{Part}
+use Rattle.ktm_world.specs.declared.event.DonePart.{DonePart}
+use Rattle.ktm_world.specs.declared.event.Event.{Event}
+use Rattle.ktm_world.specs.declared.event.Event.TheVariants.{Boot, MadeRm, Plain, Ready, Single, Held, Decide, Undo}
+use Rattle.ktm_world.specs.EventGrammar.{IsIdOf, IsChangeOf, IsPartOf, IsSoleOf, IsDoneOf, IsEventOf, IsGroupOf}
 use Rattle.ktm_event.proofs.Tags.{other}
 use Rattle.ktm_event.proofs.Pairs.{Both, unambiguous_both}
 use Rattle.ktm_event.proofs.Changes.{unambiguous_change, one_change}

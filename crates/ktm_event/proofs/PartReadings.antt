@@ -7,11 +7,11 @@ use Rattle.ktm_codec.specs.Spans.{Spans, Reads}
 use Rattle.ktm_codec.proofs.Forms.{unambiguous_list}
 use Rattle.ktm_codec.proofs.SpansLemmas.{Spans-map, spans_then, one_reading}
 use Rattle.ktm_keyed.specs.declared.keyed.Keyed.{Keyed}
-use Rattle.ktm_types.specs.declared.event.Part.{Part}
-use Rattle.ktm_types.specs.declared.event.Part.TheVariants.{Enlistment, Changes, Settings}
-use Rattle.ktm_types.specs.declared.event.DonePart.{DonePart}
-use Rattle.ktm_types.specs.declared.event.DonePart.TheVariants.{Files, Keys}
-use Rattle.ktm_types.specs.EventGrammar.{IsIdOf, IsSetTo, IsSettingOf, AreSettingsOf, IsChangeOf, IsPartOf, IsSoleOf, IsDoneOf}
+use Rattle.ktm_world.specs.declared.event.Part.{Part}
+use Rattle.ktm_world.specs.declared.event.Part.TheVariants.{Enlistment, Changes, Settings}
+use Rattle.ktm_world.specs.declared.event.DonePart.{DonePart}
+use Rattle.ktm_world.specs.declared.event.DonePart.TheVariants.{Files, Keys}
+use Rattle.ktm_world.specs.EventGrammar.{IsIdOf, IsSetTo, IsSettingOf, AreSettingsOf, IsChangeOf, IsPartOf, IsSoleOf, IsDoneOf}
 use Rattle.ktm_keyed.specs.Keyed.{is_rising}
 use Rattle.ktm_event.specs.Reading.{Behind, IsKeyOf, IsRecordedOf}
 use Rattle.ktm_event.proofs.Tags.{other_tag, no_byte}

@@ -4,11 +4,11 @@ use Rattle.ktm_base.specs.declared.id.Id.{Id}
 use Rattle.ktm_base.specs.Grammar.{IsU32, IsTextOf, IsValueOf, Tagged, IsListOf}
 use Rattle.ktm_codec.specs.Spans.{Unambiguous, OneSpelling}
 use Rattle.ktm_codec.proofs.Forms.{HasOne, unambiguous_u32, unambiguous_text, unambiguous_value, unambiguous_then, unambiguous_tagged, unambiguous_list, other_tags, one_u8, one_u32, one_text, one_value, one_then, one_exact, one_tagged, one_list}
-use Rattle.ktm_types.specs.declared.event.Part.{Part}
-use Rattle.ktm_types.specs.declared.event.Part.TheVariants.{Enlistment, Changes, Settings}
-use Rattle.ktm_types.specs.declared.event.DonePart.{DonePart}
-use Rattle.ktm_types.specs.declared.event.DonePart.TheVariants.{Files, Keys}
-use Rattle.ktm_types.specs.EventGrammar.{IsIdOf, IsSetTo, IsSettingOf, AreSettingsOf, IsChangeOf, IsRecordOf, IsPartOf, IsSoleOf, IsDoneOf}
+use Rattle.ktm_world.specs.declared.event.Part.{Part}
+use Rattle.ktm_world.specs.declared.event.Part.TheVariants.{Enlistment, Changes, Settings}
+use Rattle.ktm_world.specs.declared.event.DonePart.{DonePart}
+use Rattle.ktm_world.specs.declared.event.DonePart.TheVariants.{Files, Keys}
+use Rattle.ktm_world.specs.EventGrammar.{IsIdOf, IsSetTo, IsSettingOf, AreSettingsOf, IsChangeOf, IsRecordOf, IsPartOf, IsSoleOf, IsDoneOf}
 use Rattle.ktm_event.specs.Reading.{IsKeyOf}
 use Rattle.ktm_event.proofs.Tags.{other}
 use Rattle.ktm_event.proofs.Pairs.{Both, unambiguous_both}

@@ -7,8 +7,8 @@ use Rattle.ktm_base.specs.Grammar.{IsU8, IsU32, IsTextOf, Tagged}
 use Rattle.ktm_codec.specs.Spans.{Spans, Reads, Unambiguous}
 use Rattle.ktm_codec.proofs.Forms.{unambiguous_u32, unambiguous_text}
 use Rattle.ktm_codec.proofs.SpansLemmas.{Spans-map, spans_then, one_reading, then_no_first, then_no_second, then_same, tagged_rest, tagged_none}
-use Rattle.ktm_types.specs.EventGrammar.{IsIdOf}
-use Rattle.ktm_types.specs.Values.{IsText}
+use Rattle.ktm_world.specs.EventGrammar.{IsIdOf}
+use Rattle.ktm_world.specs.Values.{IsText}
 use Rattle.ktm_event.specs.declared.fault.EventFault.{EventFault}
 use Rattle.ktm_event.specs.declared.fault.EventFault.TheVariants.{NotAnEvent, NoMemory}
 use Rattle.ktm_event.specs.Reading.{Gives, Behind, IsKeyOf}

@@ -3,15 +3,15 @@ use Rattle.std.proofs.Common.{ℕ, List, [], ◌∷◌, All}
 use Rattle.std.proofs.lemmas.List.Elements.{All-from_recursion}
 use Rattle.std.specs.List.{AllByRecursion}
 use Rattle.ktm_base.specs.Grammar.{IsRow}
-use Rattle.ktm_types.specs.declared.change.Change.{Change}
-use Rattle.ktm_types.specs.declared.change.Change.TheVariants.{Make, Put, Cut, Move, Drop}
-use Rattle.ktm_types.specs.declared.change.Contents.{Contents}
-use Rattle.ktm_types.specs.declared.change.Contents.TheVariants.{Whole, Paged}
-use Rattle.ktm_types.specs.declared.event.Event.{Event}
-use Rattle.ktm_types.specs.declared.event.Event.TheVariants.{Boot, MadeRm, Plain, Ready, Single, Held, Decide, Undo, Done}
-use Rattle.ktm_types.specs.declared.event.Part.{Part}
-use Rattle.ktm_types.specs.declared.event.Part.TheVariants.{Enlistment, Changes, Settings}
-use Rattle.ktm_types.specs.EventGrammar.{IsPutOf, IsChangeOf, IsPartOf, IsEventOf, IsGroupOf}
+use Rattle.ktm_world.specs.declared.change.Change.{Change}
+use Rattle.ktm_world.specs.declared.change.Change.TheVariants.{Make, Put, Cut, Move, Drop}
+use Rattle.ktm_world.specs.declared.change.Contents.{Contents}
+use Rattle.ktm_world.specs.declared.change.Contents.TheVariants.{Whole, Paged}
+use Rattle.ktm_world.specs.declared.event.Event.{Event}
+use Rattle.ktm_world.specs.declared.event.Event.TheVariants.{Boot, MadeRm, Plain, Ready, Single, Held, Decide, Undo, Done}
+use Rattle.ktm_world.specs.declared.event.Part.{Part}
+use Rattle.ktm_world.specs.declared.event.Part.TheVariants.{Enlistment, Changes, Settings}
+use Rattle.ktm_world.specs.EventGrammar.{IsPutOf, IsChangeOf, IsPartOf, IsEventOf, IsGroupOf}
 use Rattle.ktm_event.specs.Spelling.{StandOnPages, IsRecordableChange, IsRecordablePart, IsRecordable}
 use Rattle.ktm_event.proofs.Parts.{sole_is_part}
 

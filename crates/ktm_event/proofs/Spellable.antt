@@ -7,18 +7,18 @@ use Rattle.ktm_base.specs.declared.id.Id.{Id}
 use Rattle.ktm_base.specs.Bytes.{AreBytes}
 use Rattle.ktm_base.specs.Grammar.{IsU32, IsTextOf, IsRow, IsListOf, Then, Tagged}
 use Rattle.ktm_codec.proofs.Forms.{AreBytes-parts, u16_fits, u32_fits}
-use Rattle.ktm_types.specs.declared.change.Change.{Change}
-use Rattle.ktm_types.specs.declared.change.Change.TheVariants.{Make, Put, Cut, Move, Drop}
-use Rattle.ktm_types.specs.declared.change.Contents.{Contents}
-use Rattle.ktm_types.specs.declared.change.Contents.TheVariants.{Whole, Paged}
+use Rattle.ktm_world.specs.declared.change.Change.{Change}
+use Rattle.ktm_world.specs.declared.change.Change.TheVariants.{Make, Put, Cut, Move, Drop}
+use Rattle.ktm_world.specs.declared.change.Contents.{Contents}
+use Rattle.ktm_world.specs.declared.change.Contents.TheVariants.{Whole, Paged}
 use Rattle.ktm_keyed.specs.declared.keyed.Keyed.{Keyed}
-use Rattle.ktm_types.specs.declared.event.Part.{Part}
-use Rattle.ktm_types.specs.declared.event.Part.TheVariants.{Enlistment, Changes, Settings}
-use Rattle.ktm_types.specs.declared.event.DonePart.{DonePart}
-use Rattle.ktm_types.specs.declared.event.DonePart.TheVariants.{Files, Keys}
-use Rattle.ktm_types.specs.declared.event.Event.{Event}
-use Rattle.ktm_types.specs.declared.event.Event.TheVariants.{Boot, MadeRm, Plain, Ready, Single, Held, Decide, Undo}
-use Rattle.ktm_types.specs.EventGrammar.{IsIdOf, IsSetTo, IsSettingOf, AreSettingsOf, IsPutOf, IsChangeOf, IsRecordOf, IsPartOf, IsSoleOf, IsDoneOf, IsEventOf, IsGroupOf}
+use Rattle.ktm_world.specs.declared.event.Part.{Part}
+use Rattle.ktm_world.specs.declared.event.Part.TheVariants.{Enlistment, Changes, Settings}
+use Rattle.ktm_world.specs.declared.event.DonePart.{DonePart}
+use Rattle.ktm_world.specs.declared.event.DonePart.TheVariants.{Files, Keys}
+use Rattle.ktm_world.specs.declared.event.Event.{Event}
+use Rattle.ktm_world.specs.declared.event.Event.TheVariants.{Boot, MadeRm, Plain, Ready, Single, Held, Decide, Undo}
+use Rattle.ktm_world.specs.EventGrammar.{IsIdOf, IsSetTo, IsSettingOf, AreSettingsOf, IsPutOf, IsChangeOf, IsRecordOf, IsPartOf, IsSoleOf, IsDoneOf, IsEventOf, IsGroupOf}
 use Rattle.ktm_event.specs.Spelling.{IsSpellableId, IsSpellableSetting, AreSpellableSettings, AreSpellablePages, IsSpellableContents, IsSpellableChange, AreSpellableChanges, IsSpellableRecord, IsSpellablePart, IsSpellableSole, IsSpellableDone, IsSpellableEvent, AreSpellableEvents}
 
 -- what a spelling in bytes shows, one behind the other

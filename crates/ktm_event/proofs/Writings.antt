@@ -10,13 +10,13 @@ use Rattle.ktm_keyed.specs.Keyed.{is_rising}
 use Rattle.ktm_codec.specs.Spans.{Adds}
 use Rattle.ktm_codec.proofs.Adding.{adds_then, adds_tagged}
 use Rattle.ktm_codec.proofs.SpansLemmas.{then_tagged}
-use Rattle.ktm_types.specs.declared.change.Change.{Change}
-use Rattle.ktm_types.specs.declared.change.Contents.TheVariants.{Paged}
-use Rattle.ktm_types.specs.declared.event.Part.{Part}
-use Rattle.ktm_types.specs.declared.event.Part.TheVariants.{Enlistment, Changes, Settings}
-use Rattle.ktm_types.specs.EventGrammar.{IsIdOf, IsPutOf, IsSetTo, IsSettingOf, AreSettingsOf, IsPartOf, IsSoleOf, IsEventOf}
-use Rattle.ktm_types.specs.Sizes.{event_size, part_size}
-use Rattle.ktm_types.specs.Values.{IsText}
+use Rattle.ktm_world.specs.declared.change.Change.{Change}
+use Rattle.ktm_world.specs.declared.change.Contents.TheVariants.{Paged}
+use Rattle.ktm_world.specs.declared.event.Part.{Part}
+use Rattle.ktm_world.specs.declared.event.Part.TheVariants.{Enlistment, Changes, Settings}
+use Rattle.ktm_world.specs.EventGrammar.{IsIdOf, IsPutOf, IsSetTo, IsSettingOf, AreSettingsOf, IsPartOf, IsSoleOf, IsEventOf}
+use Rattle.ktm_world.specs.Sizes.{event_size, part_size}
+use Rattle.ktm_world.specs.Values.{IsText}
 use Rattle.ktm_event.specs.Spelling.{IsSpellableId, AreSpellableChanges, AreSpellableSettings, IsSpellablePart, IsSpellableRecord, IsSpellableSole, IsSpellableEvent}
 use Rattle.ktm_event.specs.Work.{stage_tag, work_event}
 use Rattle.ktm_event.specs.declared.work.Stage.{Stage}

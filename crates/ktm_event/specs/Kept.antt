@@ -2,9 +2,9 @@
 use Rattle.std.specs.Prelude.{◌≡◌, ℕ, ◌+◌, ◌-◌, ◌*◌, ◌^◌, ◌<◌, ◌≤◌, List, length, take, drop, sum_by}
 use Rattle.ktm_base.specs.Grammar.{IsU32, Then, IsListOf}
 use Rattle.ktm_log.specs.Settle.{IsBodyOf}
-use Rattle.ktm_types.specs.declared.event.Event.{Event}
-use Rattle.ktm_types.specs.EventGrammar.{IsEventOf}
-use Rattle.ktm_types.specs.Sizes.{event_size}
+use Rattle.ktm_world.specs.declared.event.Event.{Event}
+use Rattle.ktm_world.specs.EventGrammar.{IsEventOf}
+use Rattle.ktm_world.specs.Sizes.{event_size}
 
 -- what such a list tells
 pub record EventsState : Type 0 where

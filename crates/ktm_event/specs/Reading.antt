@@ -3,8 +3,8 @@ use Rattle.std.specs.Prelude.{ℕ, List, ◌∷◌, Result, Ok, Err, None}
 use Rattle.ktm_base.specs.declared.id.Id.{Id}
 use Rattle.ktm_base.specs.Grammar.{IsTextOf}
 use Rattle.ktm_codec.specs.Spans.{Spans, Reads}
-use Rattle.ktm_types.specs.EventGrammar.{IsRecordOf}
-use Rattle.ktm_types.specs.Values.{IsText}
+use Rattle.ktm_world.specs.EventGrammar.{IsRecordOf}
+use Rattle.ktm_world.specs.Values.{IsText}
 use Rattle.ktm_event.specs.declared.fault.EventFault.{EventFault}
 use Rattle.ktm_event.specs.declared.fault.EventFault.TheVariants.{NotAnEvent, NoMemory}
 

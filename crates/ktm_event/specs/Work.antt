@@ -2,12 +2,12 @@
 use Rattle.std.specs.Prelude.{ℕ, zero, suc, ◌<◌, All, List, [], ◌∷◌, ◌++◌, Option, Some, None, find, nat_lt}
 use Rattle.std.specs.List.{flat_map}
 use Rattle.ktm_base.specs.declared.id.Id.{Id}
-use Rattle.ktm_types.specs.declared.change.Change.{Change}
-use Rattle.ktm_types.specs.declared.change.Change.TheVariants.{Put, Cut}
-use Rattle.ktm_types.specs.declared.change.Contents.TheVariants.{Paged}
-use Rattle.ktm_types.specs.declared.event.Part.{Part}
-use Rattle.ktm_types.specs.declared.event.Event.{Event}
-use Rattle.ktm_types.specs.declared.event.Event.TheVariants.{Ready, Single}
+use Rattle.ktm_world.specs.declared.change.Change.{Change}
+use Rattle.ktm_world.specs.declared.change.Change.TheVariants.{Put, Cut}
+use Rattle.ktm_world.specs.declared.change.Contents.TheVariants.{Paged}
+use Rattle.ktm_world.specs.declared.event.Part.{Part}
+use Rattle.ktm_world.specs.declared.event.Event.{Event}
+use Rattle.ktm_world.specs.declared.event.Event.TheVariants.{Ready, Single}
 use Rattle.ktm_event.specs.Spelling.{IsRecordableChange}
 use Rattle.ktm_event.specs.declared.work.FilePages.{FilePages}
 use Rattle.ktm_event.specs.declared.work.Work.{Work}

@@ -2,10 +2,10 @@
 ghost use Rattle.std.specs.Prelude.{◌≡◌, ◌+◌, ◌<◌, ◌≤◌, ◌^◌, [], All, length, sum_by, OnErr, OnOk, vec_len, vec_capacity};
 ghost use Rattle.ktm_base.specs.Grammar.{IsListOf, IsRow, IsU32};
 ghost use Rattle.ktm_codec.specs.Spans.{Adds};
-ghost use Rattle.ktm_types.specs.EventGrammar.{IsChangeOf, IsKindOf, IsPutOf};
-ghost use Rattle.ktm_types.specs.Sizes.{change_size, pages_size, put_size};
-ghost use Rattle.ktm_types.specs.declared.change.Change.TheVariants.{Cut, Drop, Make, Move, Put};
-ghost use Rattle.ktm_types.specs.declared.change.Contents.TheVariants.{Paged};
+ghost use Rattle.ktm_world.specs.EventGrammar.{IsChangeOf, IsKindOf, IsPutOf};
+ghost use Rattle.ktm_world.specs.Sizes.{change_size, pages_size, put_size};
+ghost use Rattle.ktm_world.specs.declared.change.Change.TheVariants.{Cut, Drop, Make, Move, Put};
+ghost use Rattle.ktm_world.specs.declared.change.Contents.TheVariants.{Paged};
 ghost use Rattle.ktm_event.specs.Reading.{Behind, Gives};
 ghost use Rattle.ktm_event.specs.Spelling.{AreSpellableChanges, AreSpellablePages, IsRecordableChange, IsSpellableChange, IsSpellableContents, StandOnPages};
 
@@ -13,7 +13,7 @@ use crate::EventFault;
 use crate::field::{count_at, name_at, number_at, tag_at};
 use ktm_base::{NoMemory, PageList};
 use ktm_codec::{put_text, put_u8, put_u32, put_u64};
-use ktm_types::{Change, Changes, Contents, NodeKind};
+use ktm_world::{Change, Changes, Contents, NodeKind};
 use std::alloc::Global;
 
 const MAKE: u8 = 1;

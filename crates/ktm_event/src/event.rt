@@ -2,12 +2,12 @@
 ghost use Rattle.std.specs.Prelude.{◌≡◌, ◌+◌, ◌<◌, ◌≤◌, OnErr, OnOk, vec_len, vec_capacity};
 ghost use Rattle.ktm_base.specs.Grammar.{Tagged};
 ghost use Rattle.ktm_codec.specs.Spans.{Adds};
-ghost use Rattle.ktm_types.specs.EventGrammar.{IsEventOf, IsIdOf};
-ghost use Rattle.ktm_types.specs.Sizes.{change_size, done_size, event_size, part_size, record_size};
-ghost use Rattle.ktm_types.specs.declared.change.Change.TheVariants.{Cut, Put};
-ghost use Rattle.ktm_types.specs.declared.change.Contents.TheVariants.{Paged};
-ghost use Rattle.ktm_types.specs.declared.event.Event.{Event};
-ghost use Rattle.ktm_types.specs.declared.event.Event.TheVariants.{Boot, Held, Plain, Ready, Single};
+ghost use Rattle.ktm_world.specs.EventGrammar.{IsEventOf, IsIdOf};
+ghost use Rattle.ktm_world.specs.Sizes.{change_size, done_size, event_size, part_size, record_size};
+ghost use Rattle.ktm_world.specs.declared.change.Change.TheVariants.{Cut, Put};
+ghost use Rattle.ktm_world.specs.declared.change.Contents.TheVariants.{Paged};
+ghost use Rattle.ktm_world.specs.declared.event.Event.{Event};
+ghost use Rattle.ktm_world.specs.declared.event.Event.TheVariants.{Boot, Held, Plain, Ready, Single};
 ghost use Rattle.ktm_event.specs.Reading.{Behind, Gives};
 ghost use Rattle.ktm_event.specs.Spelling.{AreSpellablePages, IsRecordable, IsRecordableChange, IsRecordablePart, IsSpellableChange, IsSpellableContents, IsSpellableDone, IsSpellableEvent, IsSpellableId, IsSpellablePart, IsSpellableRecord, IsSpellableSole};
 ghost use Rattle.ktm_event.specs.Work.{IsRecordableWork, part_of, work_event};
@@ -21,7 +21,7 @@ use crate::part::{
 use crate::{EventFault, Stage, Work, WrittenFiles};
 use ktm_base::{Id, NoMemory};
 use ktm_codec::{put_u8, put_u32};
-use ktm_types::{Change, DonePart, Event, Part};
+use ktm_world::{Change, DonePart, Event, Part};
 use std::alloc::Global;
 
 const BOOT: u8 = 1;

@@ -2,8 +2,8 @@
 ghost use Rattle.std.specs.Prelude.{◌≡◌, ◌↔◌, ◌+◌, ◌≤◌, IsTrue, vec_len, vec_capacity};
 ghost use Rattle.ktm_base.specs.Grammar.{IsTextOf, IsU8, IsU32, IsU64};
 ghost use Rattle.ktm_codec.specs.Spans.{Adds, Reads};
-ghost use Rattle.ktm_types.specs.EventGrammar.{IsIdOf};
-ghost use Rattle.ktm_types.specs.Values.{IsText, IsTextByte};
+ghost use Rattle.ktm_world.specs.EventGrammar.{IsIdOf};
+ghost use Rattle.ktm_world.specs.Values.{IsText, IsTextByte};
 ghost use Rattle.ktm_event.specs.Reading.{Gives, IsKeyOf};
 ghost use Rattle.ktm_event.specs.Spelling.{IsSpellableId};
 

@@ -4,8 +4,8 @@ ghost use Rattle.std.specs.Prelude.{◌≡◌, ◌+◌, ◌<◌, ◌≤◌, ◌^
 ghost use Rattle.std.specs.List.{flat_map};
 ghost use Rattle.ktm_base.specs.Grammar.{IsListOf, IsRow};
 ghost use Rattle.ktm_codec.specs.Spans.{Adds};
-ghost use Rattle.ktm_types.specs.EventGrammar.{IsChangeOf};
-ghost use Rattle.ktm_types.specs.Sizes.{change_size};
+ghost use Rattle.ktm_world.specs.EventGrammar.{IsChangeOf};
+ghost use Rattle.ktm_world.specs.Sizes.{change_size};
 ghost use Rattle.ktm_event.specs.Spelling.{AreSpellableChanges, IsRecordableChange, IsSpellableChange};
 ghost use Rattle.ktm_event.specs.Work.{changes_of, changes_of_file, final_file};
 
@@ -13,7 +13,7 @@ use crate::change::{put_cut, put_paged, put_row};
 use crate::{FilePages, WrittenFiles};
 use ktm_base::NoMemory;
 use ktm_codec::put_u32;
-use ktm_types::Change;
+use ktm_world::Change;
 
 // A cut, and a put where there are bytes.
 fn count_of_file(file: &FilePages<'_>) -> usize

@@ -1,13 +1,13 @@
 // Groups of events, each the payload of one frame of the log.
 ghost use Rattle.std.specs.Prelude.{◌≡◌, List, Err, IfOk};
-ghost use Rattle.ktm_types.specs.EventGrammar.{IsGroupOf};
-ghost use Rattle.ktm_types.specs.declared.event.Event.{Event};
+ghost use Rattle.ktm_world.specs.EventGrammar.{IsGroupOf};
+ghost use Rattle.ktm_world.specs.declared.event.Event.{Event};
 ghost use Rattle.ktm_event.specs.declared.fault.EventFault.{EventFault};
 
 use crate::EventFault;
 use crate::event::read_event;
 use crate::field::count_at;
-use ktm_types::Event;
+use ktm_world::Event;
 use std::alloc::Global;
 
 /// The events of a group, of which there is one at least. They fill the payload.

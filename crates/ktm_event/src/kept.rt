@@ -3,12 +3,12 @@ ghost use Rattle.std.specs.Prelude.{◌≡◌, ◌↔◌, ◌+◌, ◌*◌, ◌^
 ghost use Rattle.std.specs.Int.{to_le_bytes, w32};
 ghost use Rattle.ktm_base.specs.Bytes.{written};
 ghost use Rattle.ktm_log.specs.Settle.{IsBodyOf, behind_gate};
-ghost use Rattle.ktm_types.specs.EventGrammar.{IsGroupOf};
-ghost use Rattle.ktm_types.specs.Sizes.{event_size, frame_size};
-ghost use Rattle.ktm_types.specs.declared.event.Event.{Event};
-ghost use Rattle.ktm_types.specs.declared.change.Change.TheVariants.{Cut, Put};
-ghost use Rattle.ktm_types.specs.declared.change.Contents.TheVariants.{Paged};
-ghost use Rattle.ktm_types.specs.declared.event.Event.TheVariants.{Held, Plain};
+ghost use Rattle.ktm_world.specs.EventGrammar.{IsGroupOf};
+ghost use Rattle.ktm_world.specs.Sizes.{event_size, frame_size};
+ghost use Rattle.ktm_world.specs.declared.event.Event.{Event};
+ghost use Rattle.ktm_world.specs.declared.change.Change.TheVariants.{Cut, Put};
+ghost use Rattle.ktm_world.specs.declared.change.Contents.TheVariants.{Paged};
+ghost use Rattle.ktm_world.specs.declared.event.Event.TheVariants.{Held, Plain};
 ghost use Rattle.ktm_event.specs.Kept.{Holds};
 ghost use Rattle.ktm_event.specs.Spelling.{AreSpellablePages, IsRecordable, IsSpellableContents, IsSpellableEvent};
 ghost use Rattle.ktm_event.specs.Work.{IsRecordableWork, part_of, work_event};
@@ -16,7 +16,7 @@ ghost use Rattle.ktm_event.specs.Work.{IsRecordableWork, part_of, work_event};
 use crate::event::{put_held, put_plain_cut, put_plain_put, put_work, write_event};
 use crate::{Stage, Work, WrittenFiles};
 use ktm_base::{Id, NoMemory};
-use ktm_types::Event;
+use ktm_world::Event;
 use std::alloc::Global;
 use std::marker::Model;
 

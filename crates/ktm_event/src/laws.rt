@@ -2,16 +2,16 @@
 ghost use Rattle.std.specs.Prelude.{◌≡◌, ◌⊎◌, ℕ, All, List, length, Ok, Err};
 ghost use Rattle.ktm_base.specs.Bytes.{AreBytes};
 ghost use Rattle.ktm_codec.specs.Spans.{OneSpelling, Unambiguous};
-ghost use Rattle.ktm_types.specs.EventGrammar.{IsEventOf, IsGroupOf};
-ghost use Rattle.ktm_types.specs.Sizes.{event_size, group_size};
-ghost use Rattle.ktm_types.specs.declared.event.Event.{Event};
+ghost use Rattle.ktm_world.specs.EventGrammar.{IsEventOf, IsGroupOf};
+ghost use Rattle.ktm_world.specs.Sizes.{event_size, group_size};
+ghost use Rattle.ktm_world.specs.declared.event.Event.{Event};
 ghost use Rattle.ktm_event.specs.declared.fault.EventFault.{EventFault};
 ghost use Rattle.ktm_event.specs.Kept.{EventsState, Holds};
 ghost use Rattle.ktm_event.specs.Spelling.{AreSpellableEvents, IsRecordable, IsSpellableEvent};
 
 use crate::EventFault;
 use crate::event::{read_event, write_event};
-use ktm_types::Event;
+use ktm_world::Event;
 use std::alloc::Global;
 
 /// No event's spelling begins another one's, so what is written is read again, whatever follows it. An event has one

@@ -1,9 +1,9 @@
 // Parts, each a tag and an enlistment or a list, and who is done.
 ghost use Rattle.std.specs.Prelude.{◌≡◌, ◌+◌, ◌<◌, ◌≤◌, All, sum_by, OnErr, OnOk, vec_len, vec_capacity};
 ghost use Rattle.ktm_codec.specs.Spans.{Adds};
-ghost use Rattle.ktm_types.specs.EventGrammar.{IsDoneOf, IsPartOf, IsRecordOf, IsSoleOf};
-ghost use Rattle.ktm_types.specs.Sizes.{change_size, done_size, part_size, record_size, setting_size};
-ghost use Rattle.ktm_types.specs.declared.event.Part.TheVariants.{Changes, Enlistment, Settings};
+ghost use Rattle.ktm_world.specs.EventGrammar.{IsDoneOf, IsPartOf, IsRecordOf, IsSoleOf};
+ghost use Rattle.ktm_world.specs.Sizes.{change_size, done_size, part_size, record_size, setting_size};
+ghost use Rattle.ktm_world.specs.declared.event.Part.TheVariants.{Changes, Enlistment, Settings};
 ghost use Rattle.ktm_event.specs.Reading.{Gives, IsRecordedOf};
 ghost use Rattle.ktm_event.specs.Spelling.{AreSpellableChanges, AreSpellableSettings, IsRecordableChange, IsRecordablePart, IsSpellableDone, IsSpellablePart, IsSpellableRecord};
 ghost use Rattle.ktm_event.specs.Work.{changes_of};
@@ -15,7 +15,7 @@ use crate::setting::{put_settings, settings_at};
 use crate::{EventFault, WrittenFiles};
 use ktm_base::{Bytes, Id, NoMemory};
 use ktm_codec::{put_text, put_u8};
-use ktm_types::{Change, DonePart, Part, Setting};
+use ktm_world::{Change, DonePart, Part, Setting};
 use std::alloc::Global;
 
 const ENLISTMENT: u8 = 1;

@@ -2,8 +2,8 @@
 ghost use Rattle.std.specs.Prelude.{◌≡◌, ◌+◌, ◌<◌, ◌≤◌, ◌^◌, length, sum_by, IfSome, OnErr, OnOk, vec_len, vec_capacity};
 ghost use Rattle.ktm_base.specs.Grammar.{IsListOf};
 ghost use Rattle.ktm_codec.specs.Spans.{Adds};
-ghost use Rattle.ktm_types.specs.EventGrammar.{AreSettingsOf, IsSetTo, IsSettingOf};
-ghost use Rattle.ktm_types.specs.Sizes.{set_to_size, setting_size};
+ghost use Rattle.ktm_world.specs.EventGrammar.{AreSettingsOf, IsSetTo, IsSettingOf};
+ghost use Rattle.ktm_world.specs.Sizes.{set_to_size, setting_size};
 ghost use Rattle.ktm_event.specs.Reading.{Gives};
 ghost use Rattle.ktm_event.specs.Spelling.{AreSpellableSettings, IsSpellableSetting};
 
@@ -12,7 +12,7 @@ use crate::field::{count_at, key_at, tag_at};
 use ktm_base::{Bytes, NoMemory};
 use ktm_codec::{put_text, put_u8, put_u32, put_value, value_at};
 use ktm_keyed::is_rising;
-use ktm_types::{Setting, Settings};
+use ktm_world::{Setting, Settings};
 use std::alloc::Global;
 
 const UNSET: u8 = 0;

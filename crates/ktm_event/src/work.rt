@@ -4,7 +4,7 @@ ghost use Rattle.ktm_event.specs.Work.{AreRising, FinalFile, final_file, first_a
 
 use crate::event::{READY, SINGLE};
 use ktm_base::Id;
-use ktm_types::{Change, Setting};
+use ktm_world::{Change, Setting};
 
 /// A file that a transaction wrote, as it is recorded.
 #[derive(Clone, Copy)]

@@ -9,13 +9,13 @@ use Rattle.ktm_base.specs.declared.refusal.Refusal.TheVariants.{MachineDown}
 use Rattle.ktm_kernel.specs.Stands.{KernelState}
 use Rattle.ktm_keyed.specs.Keyed.{value_at}
 use Rattle.ktm_log.specs.OnDisk.{OnDisk}
-use Rattle.ktm_types.specs.declared.command.Command.{Command}
-use Rattle.ktm_types.specs.declared.command.Command.TheVariants.{CloseHandle, CommitTransaction, CreateFileTransacted, CreateTransaction, KvSet, WriteFile}
-use Rattle.ktm_types.specs.declared.object.Transaction.{Transaction}
-use Rattle.ktm_types.specs.declared.options.Access.TheVariants.{Write}
-use Rattle.ktm_types.specs.declared.options.Disposition.TheVariants.{CreateAlways}
-use Rattle.ktm_types.specs.declared.options.ShareMode.TheVariants.{Nothing}
-use Rattle.ktm_types.specs.declared.reply.Reply.{Reply}
+use Rattle.ktm_world.specs.declared.command.Command.{Command}
+use Rattle.ktm_world.specs.declared.command.Command.TheVariants.{CloseHandle, CommitTransaction, CreateFileTransacted, CreateTransaction, KvSet, WriteFile}
+use Rattle.ktm_world.specs.declared.object.Transaction.{Transaction}
+use Rattle.ktm_world.specs.declared.options.Access.TheVariants.{Write}
+use Rattle.ktm_world.specs.declared.options.Disposition.TheVariants.{CreateAlways}
+use Rattle.ktm_world.specs.declared.options.ShareMode.TheVariants.{Nothing}
+use Rattle.ktm_world.specs.declared.reply.Reply.{Reply}
 use Rattle.ktm_world.specs.Decide.{decide}
 use Rattle.ktm_world.specs.Keys.{own_settings}
 use Rattle.ktm_world.specs.Labels.{transaction_named}

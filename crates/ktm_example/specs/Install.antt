@@ -4,11 +4,11 @@ use Rattle.ktm_base.specs.declared.id.Label.{Label}
 use Rattle.ktm_base.specs.declared.refusal.Refusal.TheVariants.{MachineDown}
 use Rattle.ktm_kernel.specs.Stands.{KernelState}
 use Rattle.ktm_log.specs.OnDisk.{OnDisk}
-use Rattle.ktm_types.specs.declared.command.Command.{Command}
-use Rattle.ktm_types.specs.declared.command.Command.TheVariants.{CloseHandle, CommitTransaction, CreateFileTransacted, CreateTransaction, KvSet, WriteFile}
-use Rattle.ktm_types.specs.declared.options.Access.TheVariants.{Write}
-use Rattle.ktm_types.specs.declared.options.Disposition.TheVariants.{CreateAlways}
-use Rattle.ktm_types.specs.declared.options.ShareMode.TheVariants.{Nothing}
+use Rattle.ktm_world.specs.declared.command.Command.{Command}
+use Rattle.ktm_world.specs.declared.command.Command.TheVariants.{CloseHandle, CommitTransaction, CreateFileTransacted, CreateTransaction, KvSet, WriteFile}
+use Rattle.ktm_world.specs.declared.options.Access.TheVariants.{Write}
+use Rattle.ktm_world.specs.declared.options.Disposition.TheVariants.{CreateAlways}
+use Rattle.ktm_world.specs.declared.options.ShareMode.TheVariants.{Nothing}
 use Rattle.ktm_works.specs.Works.{Contents, Keeps, contents_now}
 use Rattle.ktm_world.specs.Decide.{decide}
 use Rattle.ktm_world.specs.Outcome.{apply}

@@ -1,10 +1,10 @@
 -- What a call tells, by its form.
 use Rattle.std.specs.Prelude.{ℕ}
 use Rattle.ktm_base.specs.declared.id.Pid.{Pid}
-use Rattle.ktm_types.specs.declared.command.Command.{Command}
-use Rattle.ktm_types.specs.declared.command.Command.TheVariants.{CreateTransaction, CommitTransaction, GetTransactionInformation, CreateResourceManager, GetNotificationResourceManager, CreateEnlistment, GetEnlistmentRecoveryInformation, ReadFile, GetFileSizeEx, FindFiles, FindFilesTransacted, KvGet, KvList}
-use Rattle.ktm_types.specs.declared.reply.Reply.{Reply}
-use Rattle.ktm_types.specs.declared.reply.Reply.TheVariants.{Refused, Done, Guid, Committed, Pending, Information, Notification, Contents, Size, Names, Keys}
+use Rattle.ktm_world.specs.declared.command.Command.{Command}
+use Rattle.ktm_world.specs.declared.command.Command.TheVariants.{CreateTransaction, CommitTransaction, GetTransactionInformation, CreateResourceManager, GetNotificationResourceManager, CreateEnlistment, GetEnlistmentRecoveryInformation, ReadFile, GetFileSizeEx, FindFiles, FindFilesTransacted, KvGet, KvList}
+use Rattle.ktm_world.specs.declared.reply.Reply.{Reply}
+use Rattle.ktm_world.specs.declared.reply.Reply.TheVariants.{Refused, Done, Guid, Committed, Pending, Information, Notification, Contents, Size, Names, Keys}
 use Rattle.ktm_world.specs.Decide.{decide}
 use Rattle.ktm_world.specs.Present.{Present}
 use Rattle.ktm_world.specs.World.{decide_tick}

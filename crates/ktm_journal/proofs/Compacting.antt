@@ -14,8 +14,8 @@ use Rattle.ktm_log.specs.declared.area.Area.{Area}
 use Rattle.ktm_log.proofs.Parts.{not_covered, written_part}
 use Rattle.ktm_log.proofs.Reading.{calls_most}
 use Rattle.ktm_log.proofs.Steps.{Goes-two, IfSome-from_tells, IsSomeAnd-two}
-use Rattle.ktm_types.specs.Groups.{Group}
-use Rattle.ktm_types.specs.Sizes.{area_len}
+use Rattle.ktm_world.specs.Groups.{Group}
+use Rattle.ktm_world.specs.Sizes.{area_len}
 use Rattle.ktm_journal.specs.declared.half.Half.{Half}
 use Rattle.ktm_journal.specs.declared.half.Half.TheVariants.{A, B}
 use Rattle.ktm_journal.specs.Compact.{Compacts, IsCutOff, LeavesOldOrNew, compacted, next_selector}

@@ -15,7 +15,7 @@ use Rattle.ktm_log.specs.Settle.{Tore}
 use Rattle.ktm_log.proofs.Frames.{closed_at, first_at}
 use Rattle.ktm_log.proofs.Parts.{get_or-area, length-area, not_covered, same_part, written_part}
 use Rattle.ktm_log.proofs.Steps.{Goes-two}
-use Rattle.ktm_types.specs.Sizes.{area_len}
+use Rattle.ktm_world.specs.Sizes.{area_len}
 use Rattle.ktm_journal.specs.declared.half.Half.{Half}
 use Rattle.ktm_journal.specs.Format.{LaysHalf}
 use Rattle.ktm_journal.specs.Image.{half_at, image_len, log_area}

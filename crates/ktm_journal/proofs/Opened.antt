@@ -8,7 +8,7 @@ use Rattle.ktm_log.specs.Log.{LogState, Rests, area_bytes, IsLog, payloads_in}
 use Rattle.ktm_log.specs.OnDisk.{OnDisk}
 use Rattle.ktm_log.specs.Scan.{IsScanned}
 use Rattle.ktm_log.proofs.Reading.{read_most}
-use Rattle.ktm_types.specs.Groups.{Group}
+use Rattle.ktm_world.specs.Groups.{Group}
 use Rattle.ktm_journal.specs.declared.header.Header.{Header}
 use Rattle.ktm_journal.specs.Image.{IsFormatted, IsHeaded, IsImage, JournalAt, JournalState, half_of, log_area}
 use Rattle.ktm_journal.specs.Open.{IsOpened, log_reads}

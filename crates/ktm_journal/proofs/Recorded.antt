@@ -10,9 +10,9 @@ use Rattle.ktm_log.specs.declared.fault.AppendFault.TheVariants.{Down, Full}
 use Rattle.ktm_log.specs.Log.{LogState}
 use Rattle.ktm_log.specs.OnDisk.{OnDisk, on}
 use Rattle.ktm_log.specs.Settle.{IsBodyOf}
-use Rattle.ktm_types.specs.EventGrammar.{IsGroupOf}
-use Rattle.ktm_types.specs.Sizes.{frame_size}
-use Rattle.ktm_types.specs.Groups.{Group, is_full}
+use Rattle.ktm_world.specs.EventGrammar.{IsGroupOf}
+use Rattle.ktm_world.specs.Sizes.{frame_size}
+use Rattle.ktm_world.specs.Groups.{Group, is_full}
 use Rattle.ktm_journal.specs.Append.{RecordLeaves, Records, has_no_room, with_group}
 use Rattle.ktm_journal.specs.Image.{IsHeaded, JournalState, half_of, log_area}
 use Rattle.ktm_journal.proofs.offered.Images.{group_added, group_or_not, keeps_pages, leaves_pages, stays_headed}

@@ -3,7 +3,7 @@ use Rattle.std.specs.Prelude.{slice_range, IfSome}
 use Rattle.std.proofs.Common.{◌≡◌, ℕ, ◌+◌, ◌-◌, ◌^◌, ◌<◌, Option, None, Some, List, length, take, drop, ◌∙◌, ap, arith}
 use Rattle.std.specs.Int.{from_le_bytes, w64}
 use Rattle.ktm_base.specs.Disk.{DiskState}
-use Rattle.ktm_types.specs.Sizes.{area_len}
+use Rattle.ktm_world.specs.Sizes.{area_len}
 use Rattle.ktm_journal.specs.declared.half.Half.{Half}
 use Rattle.ktm_journal.specs.Bad.{HasNoSnapshot}
 use Rattle.ktm_journal.specs.Image.{half_at}

@@ -6,8 +6,8 @@ use Rattle.ktm_event.specs.Kept.{EventsState, Holds}
 use Rattle.ktm_log.specs.declared.fault.AppendFault.{AppendFault}
 use Rattle.ktm_log.specs.declared.fault.AppendFault.TheVariants.{Down, Full}
 use Rattle.ktm_log.specs.OnDisk.{AllSynced, OnDisk}
-use Rattle.ktm_types.specs.Sizes.{frame_size}
-use Rattle.ktm_types.specs.Groups.{Group, is_full}
+use Rattle.ktm_world.specs.Sizes.{frame_size}
+use Rattle.ktm_world.specs.Groups.{Group, is_full}
 use Rattle.ktm_journal.specs.Image.{IsHeaded, JournalAt, JournalState, LeavesGroupOrNot}
 use Rattle.ktm_journal.specs.Pages.{KeepsPages, LeavesPages}
 

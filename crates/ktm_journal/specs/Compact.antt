@@ -4,7 +4,7 @@ use Rattle.ktm_base.specs.declared.fault.Down.{Down}
 use Rattle.ktm_base.specs.Disk.{DeviceCalls, DiskState, MayLeave}
 use Rattle.ktm_base.specs.Told.{Goes}
 use Rattle.ktm_log.specs.OnDisk.{AllSynced, OnDisk}
-use Rattle.ktm_types.specs.Groups.{Group}
+use Rattle.ktm_world.specs.Groups.{Group}
 use Rattle.ktm_journal.specs.Image.{IsHeaded, IsImage, JournalAt, JournalState, half_of, log_area}
 use Rattle.ktm_journal.specs.Pages.{KeepsPages, LeavesPages}
 

@@ -4,7 +4,7 @@ use Rattle.std.specs.Int.{from_le_bytes, w16, w32}
 use Rattle.ktm_base.specs.Bytes.{SameOutside, written}
 use Rattle.ktm_base.specs.Disk.{DiskState, IsSafe}
 use Rattle.ktm_log.specs.Log.{IsLog, area_bytes}
-use Rattle.ktm_types.specs.Sizes.{area_len}
+use Rattle.ktm_world.specs.Sizes.{area_len}
 use Rattle.ktm_journal.specs.declared.half.Half.{Half}
 use Rattle.ktm_journal.specs.Image.{HasSnapshot, half_at, image_len, log_area}
 

@@ -4,7 +4,7 @@ use Rattle.ktm_base.specs.Disk.{IsSafe}
 use Rattle.ktm_log.specs.Log.{IsBadLog, IsLog, area_bytes, end_of, payloads_in}
 use Rattle.ktm_log.specs.OnDisk.{OnDisk, ReadsInto, WasRead}
 use Rattle.ktm_log.specs.Scan.{IsTooShort}
-use Rattle.ktm_types.specs.Groups.{Group}
+use Rattle.ktm_world.specs.Groups.{Group}
 use Rattle.ktm_journal.specs.declared.fault.LoadFault.{LoadFault}
 use Rattle.ktm_journal.specs.declared.fault.LoadFault.TheVariants.{Down, Bad, NoMemory}
 use Rattle.ktm_journal.specs.declared.header.Header.{Header}

@@ -5,7 +5,7 @@ use Rattle.ktm_base.specs.Bytes.{SameOutside, covers, written}
 use Rattle.ktm_base.specs.Disk.{Dirtied, DiskState, MayLeave, Synced}
 use Rattle.ktm_log.specs.Log.{IsLog, area_bytes, end_of}
 use Rattle.ktm_page.specs.Row.{page_of}
-use Rattle.ktm_types.specs.Groups.{Group}
+use Rattle.ktm_world.specs.Groups.{Group}
 use Rattle.ktm_journal.specs.Image.{HoldGroups, IsFormatted, IsImage, JournalAt, JournalState, half_of, log_area, pages_at, row_of}
 
 -- where a page begins

@@ -5,7 +5,7 @@ ghost use Rattle.ktm_base.specs.Told.{Goes};
 ghost use Rattle.ktm_base.specs.Disk.{DeviceCalls, IsSafe};
 ghost use Rattle.ktm_journal.specs.declared.half.Half.TheVariants.{A};
 ghost use Rattle.ktm_journal.specs.Image.{IsImage, empty_snapshot, half_at, image_len, log_area, page_count, pages_at, snapshot_area};
-ghost use Rattle.ktm_types.specs.Sizes.{area_len};
+ghost use Rattle.ktm_world.specs.Sizes.{area_len};
 ghost use Rattle.ktm_journal.specs.Format.{Anything, IsHeader, IsLaid, SettledBoth};
 ghost use Rattle.ktm_journal.specs.Pages.{page_at};
 

@@ -1,7 +1,7 @@
 // Laws of the definitions, each the contract of a function that does nothing.
 ghost use Rattle.std.specs.Prelude.{List, ℕ};
 ghost use Rattle.ktm_base.specs.Disk.{DiskState, MayLeave};
-ghost use Rattle.ktm_types.specs.Groups.{Group};
+ghost use Rattle.ktm_world.specs.Groups.{Group};
 ghost use Rattle.ktm_journal.specs.Image.{IsImage, JournalAt, JournalState};
 ghost use Rattle.ktm_journal.specs.Pages.{PagesLaw};
 

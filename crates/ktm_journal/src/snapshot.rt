@@ -6,7 +6,7 @@ ghost use Rattle.ktm_base.specs.Told.{Goes};
 ghost use Rattle.ktm_base.specs.Disk.{DeviceCalls};
 ghost use Rattle.ktm_log.specs.OnDisk.{on};
 ghost use Rattle.ktm_log.specs.Settle.{Tore};
-ghost use Rattle.ktm_types.specs.Sizes.{area_len};
+ghost use Rattle.ktm_world.specs.Sizes.{area_len};
 ghost use Rattle.ktm_journal.specs.Format.{LaysHalf};
 ghost use Rattle.ktm_journal.specs.Image.{IsHeaded, empty_snapshot, half_at, image_len};
 ghost use Rattle.ktm_journal.specs.Snapshot.{SnapshotLeaves};

@@ -10,22 +10,21 @@ use Rattle.ktm_each.specs.Each.{EachOfFiles}
 use Rattle.ktm_journal.specs.Image.{page_count}
 use Rattle.ktm_laws.specs.Running.{HasEventsLeft}
 use Rattle.ktm_log.specs.OnDisk.{on}
-use Rattle.ktm_memory.specs.Rules.{Follows}
-use Rattle.ktm_memory.specs.Stored.{AreFilesHeld}
+use Rattle.ktm_core.specs.Rules.{Follows}
+use Rattle.ktm_core.specs.Stored.{AreFilesHeld}
 use Rattle.ktm_paged.specs.Laws.{RowsSeen}
-use Rattle.ktm_route.specs.declared.asked.Asked.{Asked}
-use Rattle.ktm_route.specs.declared.asked.Asked.TheVariants.{Call, Units, Tick}
-use Rattle.ktm_route.specs.Route.{AskedPutsBy, CanBeAsked, decided}
+use Rattle.ktm_core.specs.Asked.{Asked}
+use Rattle.ktm_core.specs.Asked.TheVariants.{Call, Units, Tick}
+use Rattle.ktm_core.specs.Route.{AskedPutsBy, CanBeAsked, decided}
 use Rattle.ktm_standing.specs.Laws.{StandingLaw}
 use Rattle.ktm_standing.specs.Standing.{IsStandingNow}
 use Rattle.ktm_store.specs.Marks.{MarksState}
-use Rattle.ktm_types.specs.declared.command.Command.TheVariants.{WriteUnits}
-use Rattle.ktm_types.specs.declared.reply.Reply.{Reply}
-use Rattle.ktm_units.specs.Units.{IsSameOutcome}
+use Rattle.ktm_world.specs.declared.command.Command.TheVariants.{WriteUnits}
+use Rattle.ktm_world.specs.declared.reply.Reply.{Reply}
 use Rattle.ktm_world.specs.Outcome.{Outcome, apply}
 use Rattle.ktm_world.specs.Present.{Present}
 use Rattle.ktm_kernel.specs.Answers.{AnswerLeaves, IsAsItWas}
-use Rattle.ktm_kernel.specs.Staging.{AreHeldFor, is_held_at}
+use Rattle.ktm_kernel.specs.Staging.{AreHeldFor, IsOverPlaces, is_held_at}
 use Rattle.ktm_kernel.specs.Stands.{IsCoreReady, IsReady, KernelState, machine_of}
 use Rattle.ktm_kernel.proofs.Given.{given}
 use Rattle.ktm_kernel.proofs.Lifted.{lifted}
@@ -107,7 +106,7 @@ module _ (law : StandingLaw) (seen : RowsSeen) (old new : CoreState) (asked : As
     (held : AreFilesHeld old.store old.now.files) (puts : AreHeldFor old asked) (can : CanBeAsked old.now asked) (left : HasEventsLeft old.now)
     (rules : KeepsRules (λ rule. AskedPutsBy old.now rule asked) old.now new.now) where
   -- what was answered over the places is answered over the bytes
-  pub answer-leaves : (o : Outcome) → IsSameOutcome (byte_at old.store.seen) old.now (decided old.now asked) o → (r : Result Reply NoMemory) → CoreLeaves (decided old.now asked) (on old before s) (on new now t) r
+  pub answer-leaves : (o : Outcome) → IsOverPlaces (byte_at old.store.seen) old.now (decided old.now asked) o → (r : Result Reply NoMemory) → CoreLeaves (decided old.now asked) (on old before s) (on new now t) r
       → AnswerLeaves o (on (machine_of old) before s) (on (machine_of new) now t) r
   answer-leaves o is (Ok reply) answered = lifted seen old new (decided old.now asked) o is before now s t reply answered (stays-ready law old new asked before now s t reply ready count sound held puts can left answered rules)
   answer-leaves o is (Err fault) untouched = record { told = untouched.told; status = untouched.status }
@@ -116,7 +115,7 @@ module _ (law : StandingLaw) (seen : RowsSeen) (old new : CoreState) (asked : As
 abbrev AnswersAs : CoreState → Asked → Option DiskState → Option DiskState → DiskStatus → DiskStatus → CoreState → Result Reply NoMemory → KernelState → Type 0
 AnswersAs old asked before now s t new r k =
     k.now.machine.is_up ≡ true → IsReady k before s → HasEventsLeft k.now → CanBeAsked k.core.now asked → IsSoundFor (page_count k.core.journal.units) k.core.now asked → AreHeldFor k.core asked
-    → (o : Outcome) → IsSameOutcome (byte_at k.core.store.seen) k.core.now (decided k.core.now asked) o → AnswerLeaves o (on k before s) (on (machine_of new) now t) r
+    → (o : Outcome) → IsOverPlaces (byte_at k.core.store.seen) k.core.now (decided k.core.now asked) o → AnswerLeaves o (on k before s) (on (machine_of new) now t) r
 
 pub answered-by : StandingLaw → RowsSeen → (k : KernelState) (old new : CoreState) (asked : Asked) (before now : Option DiskState) (s t : DiskStatus) (r : Result Reply NoMemory) → machine_of old ≡ k
     → CoreLeaves (decided old.now asked) (on old before s) (on new now t) r → KeepsRules (λ rule. AskedPutsBy old.now rule asked) old.now new.now → AnswersAs old asked before now s t new r k

@@ -9,30 +9,31 @@ use Rattle.ktm_base.specs.declared.limits.TheConstants.{MOST_AT_ONCE, UNIT_BYTES
 use Rattle.ktm_base.specs.declared.refusal.Refusal.{Refusal}
 use Rattle.ktm_base.specs.declared.refusal.Refusal.TheVariants.{InvalidParameter, MachineDown}
 use Rattle.ktm_alike.specs.Alike.{mapped_present}
+use Rattle.ktm_alike.specs.Laws.{AlikeLaw}
 use Rattle.ktm_content.specs.Places.{byte_at}
 use Rattle.ktm_core.specs.Core.{AreSoundFiles, is_sound}
 use Rattle.ktm_each.specs.Each.{EachFrom, EachOfFiles}
 use Rattle.ktm_each.proofs.offered.Files.{bytes_seen-each}
-use Rattle.ktm_memory.specs.Rules.{Follows}
-use Rattle.ktm_memory.specs.Stored.{AreFilesHeld}
-use Rattle.ktm_memory.specs.Units.{AreUnits, SuitsExtent}
-use Rattle.ktm_memory.specs.declared.extent.Extent.{Extent}
+use Rattle.ktm_core.specs.Rules.{Follows}
+use Rattle.ktm_core.specs.Stored.{AreFilesHeld}
+use Rattle.ktm_core.specs.Units.{AreUnits, SuitsExtent}
+use Rattle.ktm_core.specs.Extent.{Extent}
 use Rattle.ktm_paged.specs.Laws.{StatesApart}
 use Rattle.ktm_paged.specs.Paged.{owners_with}
-use Rattle.ktm_route.specs.declared.asked.Asked.TheVariants.{Call, Units}
-use Rattle.ktm_route.specs.declared.targets.Target.{Target}
-use Rattle.ktm_route.specs.Targets.{IsTarget, MayBeSoLong}
+use Rattle.ktm_core.specs.Asked.TheVariants.{Call, Units}
+use Rattle.ktm_core.specs.Target.{Target}
+use Rattle.ktm_core.specs.Targets.{IsTarget, MayBeSoLong}
 use Rattle.ktm_store.specs.Marks.{MarksState}
 use Rattle.ktm_store.specs.Store.{AreHeld, IsHeldAt, IsTouched, Made, StoreState, bytes_at}
 use Rattle.ktm_store.proofs.offered.Holding.{bytes-kept}
-use Rattle.ktm_types.specs.Values.{IsCommand, IsLabel}
-use Rattle.ktm_types.specs.declared.command.Command.TheVariants.{SetEndOfFile, WriteFile, WriteUnits}
+use Rattle.ktm_world.specs.Values.{IsCommand, IsLabel}
+use Rattle.ktm_world.specs.declared.command.Command.TheVariants.{SetEndOfFile, WriteFile, WriteUnits}
 use Rattle.ktm_standing.proofs.offered.Applied.{apply-reply}
 use Rattle.ktm_standing.proofs.offered.Decided.{decided_law}
 use Rattle.ktm_standing.specs.Laws.{FilesLaw}
-use Rattle.ktm_types.specs.declared.command.Command.{Command}
-use Rattle.ktm_types.specs.declared.reply.Reply.TheVariants.{Refused}
-use Rattle.ktm_memory.specs.declared.extent.Extent.TheVariants.{End, Put}
+use Rattle.ktm_world.specs.declared.command.Command.{Command}
+use Rattle.ktm_world.specs.declared.reply.Reply.TheVariants.{Refused}
+use Rattle.ktm_core.specs.Extent.TheVariants.{End, Put}
 use Rattle.ktm_units.specs.Units.{IsSameOutcome, UnitsLaw}
 use Rattle.ktm_world.specs.Decide.{decide, own_tests, refusal_of}
 use Rattle.ktm_world.specs.FileCalls.{write_file_tests, write_units_tests}
@@ -42,10 +43,12 @@ use Rattle.ktm_world.specs.Outcome.{Outcome, first_refusal, only_reply}
 use Rattle.ktm_world.specs.Present.{Present}
 use Rattle.ktm_world.specs.Tree.{cut_to, put_over}
 use Rattle.ktm_world.specs.Uses.{file_room}
-use Rattle.ktm_kernel.specs.Staging.{KeepsContents, MayAsk, MayStage, is_held_at}
+use Rattle.ktm_kernel.specs.Staging.{IsOverPlaces, KeepsContents, MayAsk, MayStage, is_held_at}
+use Rattle.ktm_kernel.proofs.Given.{command-over}
 use Rattle.ktm_kernel.proofs.Rooms.{few-units, recorded-tree, suits-end, suits-put, touched-end, touched-some}
 use Rattle.ktm_kernel.proofs.Rules.{held-rule}
 use Rattle.ktm_kernel.proofs.Stages.{all-from, files-sound, from-all, puts-sound}
+use Rattle.ktm_kernel.proofs.Writing.{end-over, write-over}
 
 -- contents that are seen of files are held
 pub seen-held : (marks : MarksState) (files : FilesNow) → EachOfFiles (λ file index place. IsHeldAt marks place) files → (t : Target) → t.contents ≡ bytes_seen files t.who t.node → AreHeld marks.held t.contents
@@ -93,7 +96,7 @@ module _ (apart : StatesApart) (x : Present) (process : Pid) (file : Label) (t :
   result = named-seen (λ seen. map (byte_at new.seen) (put_over seen start part) ≡ after (map (byte_at new.seen) seen)) (made.bytes ∙ ap after (sym kept)) target.file target.named
 
   module _ (extent : Extent) (suits : SuitsExtent (length t.contents) start part extent) (label : IsLabel file) (some : 1 ≤ length part) (few : length part < 2 ^ 32) (outcome : Outcome)
-      (same : IsSameOutcome (byte_at new.seen) x (decide x process (WriteUnits file start part)) outcome) where
+      (over : IsOverPlaces (byte_at new.seen) x (decide x process (WriteUnits file start part)) outcome) where
     unit : ℕ
     unit = start / UNIT_BYTES
 
@@ -110,7 +113,7 @@ module _ (apart : StatesApart) (x : Present) (process : Pid) (file : Label) (t :
             (puts-sound apart old new start part made.pages made.lie made.once made.were_free made.held made.keeps.count (start / UNIT_BYTES) begins sound.0 t.node);
       };
       held = λ o named. from-all (Follows (is_held_at new.marks) o.node) (λ place. IsHeldAt new.marks place) (λ index place. held-rule new.marks o.node index place) start part made.held;
-      same = same;
+      comes_to = over;
     }
       where
         owners : ℕ → ℕ × ℕ
@@ -142,8 +145,9 @@ module _ (units : UnitsLaw) (files : FilesLaw) (apart : StatesApart) (x : Presen
       (Put offset (length bytes)) (suits-put (length t.contents) offset (length bytes) start part some fits touched) label puts
       (few-there (max (length t.contents) (offset + length bytes)) long.small (touched-end (length t.contents) offset (offset + length bytes) start part touched))
       (decide (mapped_present (byte_at new.seen) x) process (WriteFile file offset bytes))
+      (write-over (byte_at new.seen) x process file t long.target start part offset bytes puts some touched
       (((units.1 (byte_at new.seen) refl).1 x process file long.target.file (recorded-tree files x may.standing) long.target.named).write start offset part bytes puts some once
-      (result apart x process file t long.target room new start part (λ before. put_over before offset bytes) many made keeps.held sound-there))
+      (result apart x process file t long.target room new start part (λ before. put_over before offset bytes) many made keeps.held sound-there)))
 
   -- the end that makes the file longer
   pub end-asks : (size many : ℕ) → length t.contents < size → MayBeSoLong x process file size t
@@ -160,13 +164,14 @@ module _ (units : UnitsLaw) (files : FilesLaw) (apart : StatesApart) (x : Presen
       may-ask apart x process file t long.target room new start part (λ before. cut_to before size) many made keeps.held sound-there
       End (suits-end (length t.contents) size start part longer fits touched) label puts (few-there size long.small ends)
       (decide (mapped_present (byte_at new.seen) x) process (SetEndOfFile file size))
+      (end-over (byte_at new.seen) x process file t long.target start part size puts longer touched
       (((units.1 (byte_at new.seen) refl).1 x process file long.target.file (recorded-tree files x may.standing) long.target.named).grow start size part puts
-      (result apart x process file t long.target room new start part (λ before. cut_to before size) many made keeps.held sound-there))
+      (result apart x process file t long.target room new start part (λ before. cut_to before size) many made keeps.held sound-there)))
 
 -- an end that makes no file longer
-pub cuts-asked : UnitsLaw → (x : Present) (process : Pid) (file : Label) (size : ℕ) (t : Target) (count : ℕ) (store : StoreState) → MayStage x count store → IsCommand (SetEndOfFile file size) → IsTarget x process file t → size ≤ length t.contents
+pub cuts-asked : UnitsLaw → AlikeLaw → (x : Present) (process : Pid) (file : Label) (size : ℕ) (t : Target) (count : ℕ) (store : StoreState) → MayStage x count store → IsCommand (SetEndOfFile file size) → IsTarget x process file t → size ≤ length t.contents
     → MayAsk x store (Call process (SetEndOfFile file size)) (decide (mapped_present (byte_at store.seen) x) process (SetEndOfFile file size))
-cuts-asked units x process file size t count store may command target shorter = record {
+cuts-asked units alike x process file size t count store may command target shorter = record {
   can = (
     command,
     λ o named. subst (λ (f : OpenFile). size ≤ length (bytes_seen x.files f.transaction f.node)) (same_Some target.file o (sym target.named ∙ named))
@@ -174,7 +179,7 @@ cuts-asked units x process file size t count store may command target shorter = 
   );
   sound = record { owner = sound.0; files = sound.1; puts = tt };
   held = tt;
-  same = ((units.1 (byte_at store.seen) refl).0 x).command process (SetEndOfFile file size) tt;
+  comes_to = command-over units alike (byte_at store.seen) refl x process (SetEndOfFile file size) tt;
 }
   where
     sound : AreSoundFiles (length store.marks.held) x.files

@@ -10,8 +10,8 @@ use Rattle.ktm_journal.specs.Pages.{PagesLaw}
 use Rattle.ktm_mapped.specs.Mapped.{mapped_durable}
 use Rattle.ktm_page.specs.Row.{page_of}
 use Rattle.ktm_paged.specs.Laws.{RowsSeen}
-use Rattle.ktm_restart.specs.Logs.{StandsFor}
-use Rattle.ktm_restart.proofs.offered.Journals.{left}
+use Rattle.ktm_core.specs.Logs.{StandsFor}
+use Rattle.ktm_core.specs.Journals.{left}
 use Rattle.ktm_store.specs.Store.{IsStoredAt, page_at}
 use Rattle.ktm_store.specs.Stored.{is_stored}
 use Rattle.ktm_store.proofs.offered.Holding.{byte-same}

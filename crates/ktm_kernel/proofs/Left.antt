@@ -6,7 +6,7 @@ use Rattle.ktm_base.specs.Disk.{DiskState}
 use Rattle.ktm_base.proofs.offered.ToldSteps.{IsSomeAnd-map}
 use Rattle.ktm_journal.specs.Pages.{PagesLaw}
 use Rattle.ktm_paged.specs.Laws.{RowsSeen}
-use Rattle.ktm_restart.specs.Logs.{StandsFor}
+use Rattle.ktm_core.specs.Logs.{StandsFor}
 use Rattle.ktm_world.specs.Durable.{Durable, stand}
 use Rattle.ktm_world.specs.Present.{Present}
 use Rattle.ktm_world.specs.World.{World, possible_logs}

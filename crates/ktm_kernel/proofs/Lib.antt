@@ -11,6 +11,7 @@ pub mod Rules
 pub mod Answered
 pub mod Stages
 pub mod Rooms
+pub mod Writing
 pub mod Asking
 pub mod Staged
 pub mod Left
@@ -19,3 +20,4 @@ pub mod Reserved
 pub mod Ready
 pub mod Events
 pub mod Reading
+pub mod Openings

@@ -1,5 +1,5 @@
 -- What was answered over the places of bytes, as it is over the bytes.
-use Rattle.std.proofs.Common.{◌≡◌, ℕ, Bool, true, false, [], ◌∷◌, Option, refl, sym, ◌∙◌, ap, subst, inl, inr}
+use Rattle.std.proofs.Common.{◌≡◌, ℕ, Bool, true, false, Option, refl, sym, ◌∙◌, ap, subst, inl, inr}
 use Rattle.ktm_base.specs.Disk.{DiskState, DiskStatus}
 use Rattle.ktm_base.proofs.offered.ToldSteps.{IsSomeAnd-map}
 use Rattle.ktm_alike.specs.Alike.{mapped_present}
@@ -9,20 +9,19 @@ use Rattle.ktm_core.specs.Core.{CoreState, LeavesEitherPlaces}
 use Rattle.ktm_core.specs.Done.{Ends as CoreEnds, IsCutOff as IsCoreCutOff, IsDone as IsCoreDone, TouchesNothing, fallen}
 use Rattle.ktm_log.specs.OnDisk.{on}
 use Rattle.ktm_paged.specs.Laws.{RowsSeen}
-use Rattle.ktm_restart.specs.Logs.{StandsFor}
-use Rattle.ktm_types.specs.Groups.{Group}
-use Rattle.ktm_types.specs.declared.reply.Reply.{Reply}
-use Rattle.ktm_units.specs.Units.{AreEventsSame, IsSameOutcome}
+use Rattle.ktm_core.specs.Logs.{StandsFor}
+use Rattle.ktm_world.specs.declared.reply.Reply.{Reply}
 use Rattle.ktm_world.specs.Durable.{Durable}
 use Rattle.ktm_world.specs.Outcome.{Outcome, apply}
 use Rattle.ktm_world.specs.Present.{Present}
 use Rattle.ktm_kernel.specs.Answers.{IsAnswered}
 use Rattle.ktm_kernel.specs.Done.{Ends, IsCutOff, IsDone, LeavesEither}
+use Rattle.ktm_kernel.specs.Staging.{IsOverPlaces}
 use Rattle.ktm_kernel.specs.Stands.{IsCoreReady, machine_of}
 use Rattle.ktm_kernel.proofs.Images.{left-stands}
-use Rattle.ktm_kernel.proofs.Sizes.{calls-same}
+use Rattle.ktm_kernel.proofs.Sizes.{calls-same, no-events}
 
-module _ (seen : RowsSeen) (old new : CoreState) (o asked : Outcome) (same : IsSameOutcome (byte_at old.store.seen) old.now o asked) where
+module _ (seen : RowsSeen) (old new : CoreState) (o asked : Outcome) (over : IsOverPlaces (byte_at old.store.seen) old.now o asked) where
   -- the bytes at the places
   abbrev f : ℕ → ℕ
   f = byte_at old.store.seen
@@ -35,15 +34,15 @@ module _ (seen : RowsSeen) (old new : CoreState) (o asked : Outcome) (same : IsS
   either-left : (s : DiskState) → LeavesEitherPlaces old.store.seen old.now.recorded (apply old.now o).recorded s → LeavesEither (machine_of old).now.recorded (apply (machine_of old).now asked).recorded s
   either-left s leaves image may = elim (leaves image may) [
     | inl first ↦ inl (left-stands seen old.store.seen old.now.recorded image first)
-    | inr then ↦ inr (subst (λ (d : Durable). StandsFor d image) (sym (ap (λ (x : Present). x.recorded) same.leaves.comes_to)) (left-stands seen old.store.seen (apply old.now o).recorded image then))
+    | inr then ↦ inr (subst (λ (d : Durable). StandsFor d image) (sym (ap (λ (x : Present). x.recorded) over.same.leaves.comes_to)) (left-stands seen old.store.seen (apply old.now o).recorded image then))
   ]
 
   module _ (reply : Reply) (before now : Option DiskState) where
     done : IsCoreDone old o reply new before now → IsDone (machine_of old) asked reply (machine_of new) before now
     done is = record {
       is = refl;
-      says = is.says ∙ sym same.reply;
-      state = seen-now (apply old.now o) is.state is.keeps.seen ∙ sym same.leaves.comes_to;
+      says = is.says ∙ sym over.same.reply;
+      state = seen-now (apply old.now o) is.state is.keeps.seen ∙ sym over.same.leaves.comes_to;
       units = is.keeps.units;
       image = is.keeps.image;
       disk = is.disk;
@@ -63,14 +62,9 @@ module _ (seen : RowsSeen) (old new : CoreState) (o asked : Outcome) (same : IsS
     ends true is = cut is
 
   -- what touches nothing of the bytes touches nothing of the places
-  no-events : (events : Group) → AreEventsSame f events asked.events → asked.events ≡ [] → events ≡ []
-  no-events [] are none = refl
-  no-events (e ∷ es) (inl is) none = (let more = sym is ∙ none in absurd (cc))
-  no-events (e ∷ es) (inr writes) none = (let more = sym writes.asked_are ∙ none in absurd (cc))
-
   touches : (reply : Reply) → TouchesNothing asked reply → TouchesNothing o reply
   touches reply (inl refused) = inl refused
-  touches reply (inr none) = inr (no-events o.events same.leaves.events none)
+  touches reply (inr none) = inr (no-events f o.events asked.events over.same.leaves.events none)
 
   pub lifted : (before now : Option DiskState) (s t : DiskStatus) (reply : Reply) → IsCoreAnswered o (on old before s) (on new now t) reply
       → ((machine_of new).now.machine.is_up ≡ true → IsCoreReady (machine_of new) now t)
@@ -79,7 +73,7 @@ module _ (seen : RowsSeen) (old new : CoreState) (o asked : Outcome) (same : IsS
     ends = ends reply before now t.is_down is.ends;
     powered = record { power = is.powered.power; settled = is.powered.settled; image = is.powered.image };
     slots = is.slots;
-    calls = calls-same f old.journal o.events asked.events s t t.is_down same.leaves.events is.calls;
+    calls = calls-same f (machine_of old) o.events asked.events s t t.is_down over.same.leaves.events over.few is.calls;
     untouched = λ nothing. let un = is.untouched (touches reply nothing) in record { told = un.told; status = un.status };
     core = ready;
   }

@@ -14,16 +14,16 @@ use Rattle.ktm_base.specs.Disk.{DiskState, DiskStatus}
 use Rattle.ktm_content.specs.Places.{byte_at}
 use Rattle.ktm_each.specs.Each.{EachOfFiles}
 use Rattle.ktm_log.specs.OnDisk.{on}
-use Rattle.ktm_route.specs.Takes.{effect_takes_memory, takes_memory}
+use Rattle.ktm_core.specs.Takes.{effect_takes_memory, takes_memory}
 use Rattle.ktm_standing.proofs.offered.Applied.{apply-reply}
 use Rattle.ktm_store.proofs.offered.Holding.{held-below}
 use Rattle.ktm_store.specs.Marks.{MarksState}
 use Rattle.ktm_store.specs.Store.{AreBelow, IsHeldAt}
-use Rattle.ktm_types.specs.declared.command.Command.{Command}
-use Rattle.ktm_types.specs.declared.command.Command.TheVariants.{CreateFile, CreateFileTransacted, ReadFile, WriteFile, WriteUnits, DeleteFile, CreateDirectory, RemoveDirectory, MoveFile, DeleteFileTransacted, CreateDirectoryTransacted, RemoveDirectoryTransacted, MoveFileTransacted, FindFiles, FindFilesTransacted}
-use Rattle.ktm_types.specs.declared.reply.Reply.{Reply}
-use Rattle.ktm_types.specs.declared.reply.Reply.TheVariants.{Contents}
-use Rattle.ktm_types.specs.Values.{IsCommand}
+use Rattle.ktm_world.specs.declared.command.Command.{Command}
+use Rattle.ktm_world.specs.declared.command.Command.TheVariants.{CreateFile, CreateFileTransacted, ReadFile, WriteFile, WriteUnits, DeleteFile, CreateDirectory, RemoveDirectory, MoveFile, DeleteFileTransacted, CreateDirectoryTransacted, RemoveDirectoryTransacted, MoveFileTransacted, FindFiles, FindFilesTransacted}
+use Rattle.ktm_world.specs.declared.reply.Reply.{Reply}
+use Rattle.ktm_world.specs.declared.reply.Reply.TheVariants.{Contents}
+use Rattle.ktm_world.specs.Values.{IsCommand}
 use Rattle.ktm_units.specs.Units.{IsOfNoBytes, UnitsLaw}
 use Rattle.ktm_world.specs.Decide.{command_effect, decide, of_files, on_file, own_tests, refusal_of}
 use Rattle.ktm_world.specs.FileCalls.{read_file, read_file_tests}

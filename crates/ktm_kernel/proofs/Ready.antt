@@ -8,12 +8,12 @@ use Rattle.ktm_base.specs.Count.{Rose}
 use Rattle.ktm_base.specs.Disk.{DiskState, DiskStatus, DeviceCalls}
 use Rattle.ktm_log.specs.OnDisk.{OnDisk}
 use Rattle.ktm_slots.specs.Owed.{owed_slots}
-use Rattle.ktm_types.specs.declared.command.Command.{Command}
-use Rattle.ktm_types.specs.declared.command.Line.{Line}
-use Rattle.ktm_types.specs.declared.command.Line.TheVariants.{Process, Tick}
-use Rattle.ktm_types.specs.declared.reply.Reply.{Reply}
-use Rattle.ktm_types.specs.declared.reply.Reply.TheVariants.{Refused}
-use Rattle.ktm_types.specs.Values.{IsGiven}
+use Rattle.ktm_world.specs.declared.command.Command.{Command}
+use Rattle.ktm_world.specs.declared.command.Line.{Line}
+use Rattle.ktm_world.specs.declared.command.Line.TheVariants.{Process, Tick}
+use Rattle.ktm_world.specs.declared.reply.Reply.{Reply}
+use Rattle.ktm_world.specs.declared.reply.Reply.TheVariants.{Refused}
+use Rattle.ktm_world.specs.Values.{IsGiven}
 use Rattle.ktm_world.specs.Decide.{decide}
 use Rattle.ktm_world.specs.Outcome.{Outcome, apply}
 use Rattle.ktm_world.specs.Present.{Present}
@@ -107,7 +107,7 @@ module _ (line : Line) (decides : Present → Outcome) (does : (w : World) (k : 
   up_answered goes_on old new up ready left few standing other reply reserved answered = record {
     does = λ w at. does w new.it new.told reply (ended_line decides new.status.is_down old.it new.it reply old.told new.told up left goes_on answered.ends w at);
     says = ends_says new.status.is_down old.it new.it (decides old.it.now) reply old.told new.told answered.ends;
-    cause = down_cause (most_calls old.it.journal (decides old.it.now).events) new.status.is_down old.it new.it (decides old.it.now) reply old.told new.told old.status new.status other (ready.powered.power up) answered.ends answered.calls;
+    cause = down_cause (most_calls old.it (decides old.it.now).events) new.status.is_down old.it new.it (decides old.it.now) reply old.told new.told old.status new.status other (ready.powered.power up) answered.ends answered.calls;
     ready = record {
       powered = answered.powered;
       standing = ends_standing new.status.is_down old.it new.it (decides old.it.now) reply old.told new.told standing answered.ends;

@@ -22,19 +22,19 @@ use Rattle.ktm_log.specs.declared.area.Area.{Area}
 use Rattle.ktm_log.specs.OnDisk.{OnDisk, ReadsInto, on}
 use Rattle.ktm_mapped.specs.Laws.{MappedLaw}
 use Rattle.ktm_mapped.specs.Mapped.{IsBlank, mapped_durable}
-use Rattle.ktm_memory.specs.Memory.{IsRoomy, MemoryState, held, present_of}
-use Rattle.ktm_memory.specs.Stored.{AreFilesHeld}
+use Rattle.ktm_core.specs.Memory.{IsRoomy, MemoryState, held, present_of}
+use Rattle.ktm_core.specs.Stored.{AreFilesHeld}
 use Rattle.ktm_page.specs.Row.{page_of}
 use Rattle.ktm_records.specs.Spelling.{AreRecordedTexts, SpellingLaw}
-use Rattle.ktm_restart.specs.Loads.{IsBadImage, IsJournalOf, IsLoaded}
-use Rattle.ktm_restart.specs.declared.replay.Loaded.{Loaded}
-use Rattle.ktm_restart.specs.Logs.{IsSafeFor, JournalFor, PagedFor, StandsFor, bytes_seen}
+use Rattle.ktm_core.specs.Loads.{IsBadImage, IsJournalOf, IsLoaded}
+use Rattle.ktm_core.specs.Loaded.{Loaded}
+use Rattle.ktm_core.specs.Logs.{IsSafeFor, JournalFor, PagedFor, StandsFor, bytes_seen}
 use Rattle.ktm_slots.specs.Owed.{owed_slots}
 use Rattle.ktm_standing.specs.Laws.{FreshLaw, StandingLaw}
 use Rattle.ktm_standing.specs.Standing.{IsStandingNow, fresh}
 use Rattle.ktm_store.specs.Store.{IsStoredAt, StoreState, page_at}
 use Rattle.ktm_store.proofs.offered.Holding.{byte-same}
-use Rattle.ktm_types.specs.Sizes.{area_len}
+use Rattle.ktm_world.specs.Sizes.{area_len}
 use Rattle.ktm_units.specs.Units.{Agree, SeenLaw}
 use Rattle.ktm_world.specs.Durable.{Durable, is_worn, stand}
 use Rattle.ktm_world.specs.Logs.{Group}
@@ -186,15 +186,15 @@ module _ {Z : Type 0} (most : ℕ) (old mid : OnDisk (Vec ℕ Z)) (loaded : Load
     few-begun (Some s) units image selector headed there = (sym there.units_are ∙ headed.units_are, headed.least)
 
     -- it takes as many device calls as the units of its image ask for
-    pub few_calls : (a b c units image selector : ℕ) → IsSomeAnd old.told (λ s. IsHeaded units image selector s.seen) → b ≤ a + (log_reads units + 5) → c ≤ b + (page_count m.journal.units + 6) → c ≤ a + (8 * units + 70)
+    pub few_calls : (a b c units image selector : ℕ) → IsSomeAnd old.told (λ s. IsHeaded units image selector s.seen) → b ≤ a + (log_reads units + 5) → c ≤ b + (page_count m.journal.units + 6) → c ≤ a + (4 * units + 91)
     few_calls a b c units image selector headed first second =
         let (same, least) = few-begun old.told units image selector headed (subst (λ (t : Option DiskState). IfSome t (λ s. IsHeaded m.journal.units m.journal.image m.journal.selector s.seen)) is.read.reads.reads.same (headed_begun loaded events m mid.told begun is.headed)) in
         omega (arith, same, least, first, second)
 
     -- and no more than those of any image ask for
-    pub all_calls : (t : DiskStatus) (refused : Bool) → most ≤ log_reads MOST_UNITS + 5 → DeviceCalls (page_count m.journal.units + 6) mid.status t refused → DeviceCalls (8 * MOST_UNITS + 70) old.status t refused
+    pub all_calls : (t : DiskStatus) (refused : Bool) → most ≤ log_reads MOST_UNITS + 5 → DeviceCalls (page_count m.journal.units + 6) mid.status t refused → DeviceCalls (4 * MOST_UNITS + 91) old.status t refused
     all_calls t refused few calls =
-        more_calls (most + (page_count m.journal.units + 6)) (8 * MOST_UNITS + 70) old.status t refused (omega (arith, few, units_of_state, is.state.most))
+        more_calls (most + (page_count m.journal.units + 6)) (4 * MOST_UNITS + 91) old.status t refused (omega (arith, few, units_of_state, is.state.most))
         (calls_law old.status mid.status t most (page_count m.journal.units + 6) refused is.read.reads.reads.calls calls)
 
     -- the start was recorded

@@ -1,10 +1,12 @@
 -- How many units are touched, what stands gives of sizes, and that there is room.
 use Rattle.std.proofs.Common.{◌≡◌, ℕ, ◌+◌, ◌-◌, ◌*◌, ◌/◌, ◌^◌, ◌<◌, ◌≤◌, ◌||◌, nat_lt, Bool, true, false, List, length, refl, sym, ◌∙◌, ap, subst, arith, ltb-false}
 use Rattle.std.specs.Prelude.{min, max}
-use Rattle.std.proofs.Math.Nat.{le-max_right, le-min, max-eq_right, min-eq_left, min-le_left}
+use Rattle.std.proofs.Math.Nat.{le-max_right, le-min, max-eq_right, min-eq_left, min-le_left, min-le_right}
 use Rattle.ktm_base.specs.declared.limits.TheConstants.{MOST_UNITS, UNIT_BYTES}
-use Rattle.ktm_memory.specs.Units.{SuitsEnd, SuitsPut}
-use Rattle.ktm_memory.proofs.offered.Standing.{kept}
+use Rattle.ktm_content.specs.Contents.{units_of}
+use Rattle.ktm_core.specs.Units.{SuitsEnd, SuitsPut}
+use Rattle.ktm_core.specs.Standing.{kept}
+use Rattle.ktm_paged.specs.Meaning.{first_unit, units_from}
 use Rattle.ktm_standing.specs.Laws.{FilesLaw}
 use Rattle.ktm_standing.specs.Standing.{IsStanding, IsStandingNow}
 use Rattle.ktm_store.specs.Store.{IsTouched}
@@ -57,6 +59,12 @@ module _ (size at end start : ℕ) (part : List ℕ) (t : IsTouched size at end 
   touched-end =
       let least = min-le_left (max size end) (((end - 1) / UNIT_BYTES + 1) * UNIT_BYTES) in
       omega (arith, t.last, least)
+
+  -- they are no more than there are from the first one on
+  pub touched-few : 1 ≤ end → units_of part ≤ units_from (first_unit size at) end
+  touched-few some =
+      let least = min-le_right (max size end) (((end - 1) / UNIT_BYTES + 1) * UNIT_BYTES) in
+      omega (arith, t.first, t.last, least, some)
 
 -- units that are touched by a write suit it
 pub suits-put : (size at len start : ℕ) (part : List ℕ) → 1 ≤ len → at + len < 2 ^ 64 → IsTouched size at (at + len) start part → SuitsPut size start part at len

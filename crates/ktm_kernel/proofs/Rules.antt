@@ -3,8 +3,8 @@ use Rattle.std.proofs.Common.{◌≡◌, ℕ, ◌==◌, true, refl, inl, inr}
 use Rattle.std.proofs.lemmas.Bool.{both_ways, cases_Bool, eq-eqb, eqb-true}
 use Rattle.ktm_core.proofs.offered.Places.{files-weaker}
 use Rattle.ktm_each.specs.Each.{EachOfFiles}
-use Rattle.ktm_memory.specs.Rules.{Follows}
-use Rattle.ktm_memory.specs.Stored.{AreFilesHeld}
+use Rattle.ktm_core.specs.Rules.{Follows}
+use Rattle.ktm_core.specs.Stored.{AreFilesHeld}
 use Rattle.ktm_store.specs.Marks.{MarksState}
 use Rattle.ktm_store.specs.Store.{IsHeldAt, StoreState}
 use Rattle.ktm_world.specs.Files.{FilesNow}

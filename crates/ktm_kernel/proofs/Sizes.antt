@@ -1,29 +1,32 @@
 -- What is recorded of bytes takes as many device calls as what is recorded of their places.
 use Rattle.std.proofs.Common.{◌≡◌, ℕ, ◌+◌, ◌-◌, ◌*◌, ◌/◌, ◌≤◌, nat_lt, Bool, true, false, List, [], ◌∷◌, map, refl, sym, ◌∙◌, ap, arith, inl, inr}
-use Rattle.std.specs.Prelude.{min, sum_by, if◌then◌else◌}
+use Rattle.std.specs.Prelude.{sum_by}
+use Rattle.std.proofs.Math.Nat.{min-le_right}
 use Rattle.std.proofs.lemmas.Bool.{cases_Bool}
 use Rattle.std.proofs.lemmas.List.{length-map}
 use Rattle.std.proofs.lemmas.List.Sums.{sum_by-cons}
 use Rattle.ktm_base.specs.Disk.{DeviceCalls, DiskStatus}
-use Rattle.ktm_core.specs.Done.{most_calls as most_core_calls, page_calls}
+use Rattle.ktm_core.specs.Done.{most_calls as most_core_calls}
 use Rattle.ktm_journal.specs.Append.{has_no_room}
-use Rattle.ktm_journal.specs.Image.{JournalState, page_count}
 use Rattle.ktm_mapped.specs.Mapped.{mapped_change, mapped_contents, mapped_event, mapped_group, mapped_part}
-use Rattle.ktm_memory.specs.Stored.{units_of_change, units_put}
-use Rattle.ktm_states.specs.Grammatical.{changes_of_event}
-use Rattle.ktm_types.specs.Groups.{Group, is_full}
-use Rattle.ktm_types.specs.Sizes.{change_size, event_size, frame_size, part_size, put_size}
-use Rattle.ktm_types.specs.declared.change.Change.{Change}
-use Rattle.ktm_types.specs.declared.change.Change.TheVariants.{Make, Put, Cut, Move, Drop}
-use Rattle.ktm_types.specs.declared.change.Contents.{Contents}
-use Rattle.ktm_types.specs.declared.change.Contents.TheVariants.{Whole, Paged}
-use Rattle.ktm_types.specs.declared.event.Event.{Event}
-use Rattle.ktm_types.specs.declared.event.Event.TheVariants.{Boot, MadeRm, Plain, Ready, Single, Held, Decide, Undo}
-use Rattle.ktm_types.specs.declared.event.Part.{Part}
-use Rattle.ktm_types.specs.declared.event.Part.TheVariants.{Enlistment, Changes, Settings}
+use Rattle.ktm_core.specs.Stored.{units_of_change, units_put}
+use Rattle.txf_laws.specs.Grammatical.{changes_of_event}
+use Rattle.ktm_world.specs.Groups.{Group, is_full}
+use Rattle.ktm_world.specs.Sizes.{change_size, event_size, frame_size, part_size, put_size}
+use Rattle.ktm_world.specs.declared.change.Change.{Change}
+use Rattle.ktm_world.specs.declared.change.Change.TheVariants.{Make, Put, Cut, Move, Drop}
+use Rattle.ktm_world.specs.declared.change.Contents.{Contents}
+use Rattle.ktm_world.specs.declared.change.Contents.TheVariants.{Whole, Paged}
+use Rattle.ktm_world.specs.declared.event.Event.{Event}
+use Rattle.ktm_world.specs.declared.event.Event.TheVariants.{Boot, MadeRm, Plain, Ready, Single, Held, Decide, Undo}
+use Rattle.ktm_world.specs.declared.event.Part.{Part}
+use Rattle.ktm_world.specs.declared.event.Part.TheVariants.{Enlistment, Changes, Settings}
 use Rattle.ktm_units.specs.Units.{AreEventsSame}
+use Rattle.ktm_paged.specs.Meaning.{size_before}
 use Rattle.ktm_world.specs.Durable.{changes_in}
-use Rattle.ktm_kernel.specs.Done.{is_write, most_calls}
+use Rattle.ktm_world.specs.Present.{Present}
+use Rattle.ktm_kernel.specs.Done.{is_write, most_calls, units_touched, units_written}
+use Rattle.ktm_kernel.specs.Stands.{KernelState}
 
 -- more calls are allowed
 pub more_calls : (few most : ℕ) (old new : DiskStatus) (refused : Bool) → few ≤ most → DeviceCalls few old new refused → DeviceCalls most old new refused
@@ -35,6 +38,14 @@ sum-mapped size g same [] = refl
 sum-mapped size g same (x ∷ xs) = sum_by-cons size (g x) (map g xs) ∙ (λ i. same x i + sum-mapped size g same xs i) ∙ sym (sum_by-cons size x xs)
 
 module _ (f : ℕ → ℕ) where
+  -- ---- nothing
+
+  -- what records nothing of the bytes records nothing of the places
+  pub no-events : (events asked : Group) → AreEventsSame f events asked → asked ≡ [] → events ≡ []
+  no-events [] asked are none = refl
+  no-events (e ∷ es) asked (inl is) none = (let more = sym is ∙ none in absurd (cc))
+  no-events (e ∷ es) asked (inr writes) none = (let more = sym writes.asked_are ∙ none in absurd (cc))
+
   -- ---- sizes
 
   put-same : (contents : Contents) → put_size (mapped_contents f contents) ≡ put_size contents
@@ -99,31 +110,41 @@ module _ (f : ℕ → ℕ) where
   group-units : (events : Group) → units_put (mapped_group f events) ≡ units_put events
   group-units events = sum-mapped (λ event. sum_by units_of_change (changes_of_event event)) (mapped_event f) event-units events
 
+  -- the bytes in the place of the places touch no fewer
+  change-touches : (size : ℕ) (c : Change) → units_of_change c ≤ units_touched size (mapped_change f c)
+  change-touches size (Put node offset (Whole bytes)) =
+      let least = min-le_right size offset in
+      let same = length-map bytes f in
+      omega (arith, least, same)
+  change-touches size c = omega arith
+
+  pub group-writes : (x : Present) (events : Group) → units_put events ≤ units_written x (mapped_group f events)
+  group-writes x [] = omega arith
+  group-writes x (Plain c ∷ []) = let few = change-touches (size_before x.files.tree (mapped_change f c)) c in omega (arith, few)
+  group-writes x (e ∷ es) = let same = group-units (e ∷ es) in omega (arith, same)
+
   -- ---- device calls
 
   full-same : (left : ℕ) (events : Group) → is_full left (mapped_group f events) ≡ is_full left events
   full-same left [] = refl
   full-same left (e ∷ es) = ap (λ n. nat_lt left (n + 1)) (frame-same (e ∷ es))
 
-  -- so many are enough for any write
-  most-write : (j : JournalState) (events : Group) → most_core_calls j events ≤ 10 + page_calls (page_count j.units)
-  most-write j events = elim (cases_Bool (has_no_room j events)) [
-    | inl full ↦ rw full (omega arith)
-    | inr room ↦ rw room (omega arith)
-  ]
-
-  most-same : (j : JournalState) (events : Group) → most_core_calls j (mapped_group f events) ≡ most_core_calls j events
-  most-same j events = λ i. page_calls (min (group-units events i) (page_count j.units)) + (if full-same (j.log.area.len - j.log.end) events i then 10 else 4)
-
   -- what is recorded of the bytes takes no more
-  most-enough : (j : JournalState) (events asked : Group) → AreEventsSame f events asked → most_core_calls j events ≤ most_calls j asked
-  most-enough j events asked same = elim (cases_Bool (is_write asked)) [
-    | inl write ↦ rw write (most-write j events)
+  most-enough : (k : KernelState) (events asked : Group) → AreEventsSame f events asked → units_put events ≤ units_written k.now asked → most_core_calls k.journal events ≤ most_calls k asked
+  most-enough k events asked same few = elim (cases_Bool (is_write asked)) [
+    | inl write ↦ rw write (elim (cases_Bool (has_no_room k.journal events)) [
+      | inl full ↦ rw full (omega (arith, few))
+      | inr room ↦ rw room (omega (arith, few))
+    ])
     | inr other ↦ rw other (elim same [
-      | inl is ↦ (let e = ap (most_core_calls j) is ∙ most-same j events in omega (arith, e))
+      | inl is ↦ rw (ap (has_no_room k.journal) is ∙ full-same (k.journal.log.area.len - k.journal.log.end) events) (elim (cases_Bool (has_no_room k.journal events)) [
+        | inl full ↦ rw full (omega (arith, few))
+        | inr room ↦ rw room (omega (arith, few))
+      ])
       | inr writes ↦ (let e : true ≡ false = sym writes.second ∙ sym (ap is_write writes.asked_are) ∙ other in absurd (cc))
     ])
   ]
 
-  pub calls-same : (j : JournalState) (events asked : Group) (s t : DiskStatus) (refused : Bool) → AreEventsSame f events asked → DeviceCalls (most_core_calls j events) s t refused → DeviceCalls (most_calls j asked) s t refused
-  calls-same j events asked s t refused same calls = more_calls (most_core_calls j events) (most_calls j asked) s t refused (most-enough j events asked same) calls
+  pub calls-same : (k : KernelState) (events asked : Group) (s t : DiskStatus) (refused : Bool) → AreEventsSame f events asked → units_put events ≤ units_written k.now asked
+      → DeviceCalls (most_core_calls k.journal events) s t refused → DeviceCalls (most_calls k asked) s t refused
+  calls-same k events asked s t refused same few calls = more_calls (most_core_calls k.journal events) (most_calls k asked) s t refused (most-enough k events asked same few) calls

@@ -13,14 +13,14 @@ use Rattle.ktm_core.specs.Done.{fallen}
 use Rattle.ktm_each.specs.Each.{EachOfDurable}
 use Rattle.ktm_journal.specs.Image.{JournalState}
 use Rattle.ktm_log.specs.OnDisk.{OnDisk, on}
-use Rattle.ktm_memory.specs.Memory.{MemoryState, held, present_of}
-use Rattle.ktm_memory.proofs.offered.Following.{recorded-each}
+use Rattle.ktm_core.specs.Memory.{MemoryState, held, present_of}
+use Rattle.ktm_core.specs.Following.{recorded-each}
 use Rattle.ktm_standing.proofs.offered.Applied.{apply-reply}
 use Rattle.ktm_standing.specs.Standing.{IsStandingNow}
 use Rattle.ktm_store.specs.Store.{IsStoredAt, StoreState}
 use Rattle.ktm_base.specs.declared.refusal.Refusal.{Refusal}
-use Rattle.ktm_types.specs.declared.reply.Reply.{Reply}
-use Rattle.ktm_types.specs.declared.reply.Reply.TheVariants.{Refused}
+use Rattle.ktm_world.specs.declared.reply.Reply.{Reply}
+use Rattle.ktm_world.specs.declared.reply.Reply.TheVariants.{Refused}
 use Rattle.ktm_units.specs.Units.{Agree, SeenLaw}
 use Rattle.ktm_world.specs.Outcome.{Outcome, apply}
 use Rattle.ktm_world.specs.Present.{Present}
@@ -107,7 +107,7 @@ leaves-before a b o before s new (Ok reply) was is = record {
   ends = ends-before new.status.is_down a b new.it o reply before new.told was is.ends;
   powered = is.powered;
   slots = is.slots;
-  calls = subst (λ (j : JournalState). DeviceCalls (most_calls j o.events) s new.status new.status.is_down) was.journal is.calls;
+  calls = subst (λ most. DeviceCalls most s new.status new.status.is_down) (λ i. most_calls (record a { now = was.now i; journal = was.journal i }) o.events) is.calls;
   untouched = λ nothing. let un = is.untouched nothing in record { told = un.told; status = un.status };
   core = is.core;
 }

@@ -10,8 +10,8 @@ use Rattle.ktm_content.proofs.offered.Bytes.{place-lie}
 use Rattle.ktm_core.specs.Core.{is_sound}
 use Rattle.ktm_core.proofs.offered.Places.{files-both, files-weaker}
 use Rattle.ktm_each.specs.Each.{EachFrom, EachOfFiles}
-use Rattle.ktm_memory.specs.Rules.{Follows}
-use Rattle.ktm_memory.specs.Stored.{AreFilesHeld, HoldsFiles}
+use Rattle.ktm_core.specs.Rules.{Follows}
+use Rattle.ktm_core.specs.Stored.{AreFilesHeld, HoldsFiles}
 use Rattle.ktm_page.specs.Row.{page_of}
 use Rattle.ktm_paged.specs.Paged.{Differ, IsOwned, owners_with, page_at as page_of_place}
 use Rattle.ktm_paged.specs.Laws.{StatesApart}

@@ -7,13 +7,13 @@ use Rattle.ktm_base.specs.declared.refusal.Refusal.TheVariants.{ImageWorn, Machi
 use Rattle.ktm_base.specs.Disk.{DeviceCalls, DiskState, DiskStatus}
 use Rattle.ktm_base.proofs.offered.Images.{safe_law, power_law as images_power_law}
 use Rattle.ktm_base.proofs.offered.ToldSteps.{IsSomeAnd-map, IsSomeAnd-step}
-use Rattle.ktm_restart.specs.Bad.{IsBadAt}
+use Rattle.ktm_core.specs.Bad.{IsBadAt}
 use Rattle.ktm_core.specs.Starting.{started as what_starts}
 use Rattle.ktm_journal.specs.Image.{IsHeaded}
-use Rattle.ktm_restart.specs.Logs.{IsSafeFor, StandsFor}
-use Rattle.ktm_types.specs.declared.command.Line.TheVariants.{Restart}
-use Rattle.ktm_types.specs.declared.reply.Reply.{Reply}
-use Rattle.ktm_types.specs.declared.reply.Reply.TheVariants.{BadImage, Refused, Restarted}
+use Rattle.ktm_core.specs.Logs.{IsSafeFor, StandsFor}
+use Rattle.ktm_world.specs.declared.command.Line.TheVariants.{Restart}
+use Rattle.ktm_world.specs.declared.reply.Reply.{Reply}
+use Rattle.ktm_world.specs.declared.reply.Reply.TheVariants.{BadImage, Refused, Restarted}
 use Rattle.ktm_world.specs.Durable.{Durable, is_worn, stand}
 use Rattle.ktm_world.specs.World.{World, present, own_group, opened, possible_logs, interrupted_restart, found_worn, is_worn_log, with_own}
 use Rattle.ktm_laws.specs.Running.{is_good_log}
@@ -158,8 +158,8 @@ found_is_good law k (Some s) offset bad w at =
     law (stand w.base log) s.seen offset stands bad
 
 -- it takes as many device calls as the units of the run's image ask for
-pub found_few : (k : KernelState) (told : Option DiskState) (a b : ℕ) → ((units image selector : ℕ) → IsSomeAnd told (λ s. IsHeaded units image selector s.seen) → b ≤ a + (8 * units + 70))
-    → (w : World) → FoundAt k told w → b ≤ a + (8 * w.base.units + 70)
+pub found_few : (k : KernelState) (told : Option DiskState) (a b : ℕ) → ((units image selector : ℕ) → IsSomeAnd told (λ s. IsHeaded units image selector s.seen) → b ≤ a + (4 * units + 91))
+    → (w : World) → FoundAt k told w → b ≤ a + (4 * w.base.units + 91)
 found_few k None a b few w at = absurd at.disk
 found_few k (Some s) a b few w at =
     let (safe, held) = at.disk in

@@ -8,12 +8,12 @@ use Rattle.ktm_base.proofs.offered.ToldSteps.{IsSomeAnd-map}
 use Rattle.ktm_laws.specs.Running.{HasEventsLeft}
 use Rattle.ktm_journal.specs.Pages.{PagesLaw}
 use Rattle.ktm_paged.specs.Laws.{RowsSeen}
-use Rattle.ktm_restart.specs.Logs.{StandsFor}
-use Rattle.ktm_types.specs.declared.command.Command.{Command}
-use Rattle.ktm_types.specs.declared.command.Line.TheVariants.{Crash}
-use Rattle.ktm_types.specs.declared.reply.Reply.{Reply}
-use Rattle.ktm_types.specs.declared.reply.Reply.TheVariants.{Refused, Done}
-use Rattle.ktm_types.specs.Values.{IsGiven}
+use Rattle.ktm_core.specs.Logs.{StandsFor}
+use Rattle.ktm_world.specs.declared.command.Command.{Command}
+use Rattle.ktm_world.specs.declared.command.Line.TheVariants.{Crash}
+use Rattle.ktm_world.specs.declared.reply.Reply.{Reply}
+use Rattle.ktm_world.specs.declared.reply.Reply.TheVariants.{Refused, Done}
+use Rattle.ktm_world.specs.Values.{IsGiven}
 use Rattle.ktm_world.specs.Decide.{command_tests, decide, refusal_of}
 use Rattle.ktm_world.specs.Durable.{Durable, stand}
 use Rattle.ktm_world.specs.Logs.{Group, Power, up, down, is_up, as_groups, prefixes_from}

@@ -7,17 +7,17 @@ use Rattle.ktm_base.specs.declared.refusal.Refusal.TheVariants.{ImageWorn, Machi
 use Rattle.ktm_base.specs.Disk.{DeviceCalls, DiskState, DiskStatus}
 use Rattle.ktm_log.specs.OnDisk.{OnDisk}
 use Rattle.ktm_slots.specs.Owed.{owed_slots}
-use Rattle.ktm_types.specs.declared.command.Command.{Command}
-use Rattle.ktm_types.specs.declared.command.Line.{Line}
-use Rattle.ktm_types.specs.declared.command.Line.TheVariants.{Process, Restart}
-use Rattle.ktm_types.specs.declared.reply.Reply.{Reply}
-use Rattle.ktm_types.specs.declared.reply.Reply.TheVariants.{BadImage, Refused, Restarted}
+use Rattle.ktm_world.specs.declared.command.Command.{Command}
+use Rattle.ktm_world.specs.declared.command.Line.{Line}
+use Rattle.ktm_world.specs.declared.command.Line.TheVariants.{Process, Restart}
+use Rattle.ktm_world.specs.declared.reply.Reply.{Reply}
+use Rattle.ktm_world.specs.declared.reply.Reply.TheVariants.{BadImage, Refused, Restarted}
 use Rattle.ktm_world.specs.Decide.{decide}
 use Rattle.ktm_world.specs.Outcome.{Outcome, apply}
 use Rattle.ktm_world.specs.Present.{Present}
 use Rattle.ktm_world.specs.World.{World}
 use Rattle.ktm_records.specs.Spelling.{most_at_once}
-use Rattle.ktm_memory.specs.Recorded.{IsUntouched}
+use Rattle.ktm_core.specs.Recorded.{IsUntouched}
 use Rattle.ktm_kernel.specs.Restarts.{IsFreshlyCounted}
 use Rattle.ktm_core.specs.Done.{TouchesNothing, fallen}
 use Rattle.ktm_kernel.specs.Done.{Ends, most_calls}
@@ -32,7 +32,7 @@ pub record IsAnswered (o : Outcome) (old new : OnDisk KernelState) (reply : Repl
   pub powered : IsPowered new.it new.told new.status
   -- there is room for all notifications that may come to be sent without a call that makes room
   pub slots : new.it.now.machine.is_up ≡ true → owed_slots new.it.now ≤ new.it.slots
-  pub calls : DeviceCalls (most_calls old.it.journal o.events) old.status new.status new.status.is_down
+  pub calls : DeviceCalls (most_calls old.it o.events) old.status new.status new.status.is_down
   pub untouched : TouchesNothing o reply → IsUntouched old new
   pub core : new.it.now.machine.is_up ≡ true → IsCoreReady new.it new.told new.status
 
@@ -61,7 +61,7 @@ pub record IsLineAnswered (line : Line) (o : Outcome) (old new : OnDisk KernelSt
   pub says : ((reply ≡ o.reply) × (new.it.now ≡ apply old.it.now o)) ⊎ ((reply ≡ Refused MachineDown) × (new.it.now ≡ fallen old.it.now))
   pub cause : reply ≡ Refused MachineDown → (old.it.now.machine.is_up ≡ false) ⊎ Rose old.status.downs new.status.downs
   pub ready : IsReady new.it new.told new.status
-  pub calls : DeviceCalls (most_calls old.it.journal o.events) old.status new.status new.status.is_down
+  pub calls : DeviceCalls (most_calls old.it o.events) old.status new.status new.status.is_down
   pub untouched : TouchesNothing o reply → IsUntouched old new
   -- few events more were recorded
   pub counts : new.it.now.recorded.events ≤ old.it.now.recorded.events + most_at_once

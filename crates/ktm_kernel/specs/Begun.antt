@@ -8,7 +8,7 @@ use Rattle.ktm_core.specs.Starting.{IsNotRecorded, IsRecorded}
 use Rattle.ktm_event.specs.Kept.{EventsState}
 use Rattle.ktm_journal.specs.Image.{page_count}
 use Rattle.ktm_log.specs.OnDisk.{OnDisk, on}
-use Rattle.ktm_memory.specs.Memory.{MemoryState}
+use Rattle.ktm_core.specs.Memory.{MemoryState}
 use Rattle.ktm_store.specs.Store.{StoreState}
 use Rattle.txf_volume.specs.Held.{files_of}
 use Rattle.ktm_kernel.specs.Stands.{KernelState, machine_of}

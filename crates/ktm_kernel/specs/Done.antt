@@ -1,17 +1,24 @@
 -- What an outcome did to the machine and to what its disk stands for, for whatever world it stands for.
-use Rattle.std.specs.Prelude.{◌≡◌, ◌⊎◌, ℕ, ◌+◌, Bool, true, false, List, [], ◌∷◌, Option, IsSomeAnd, if◌then◌else◌}
+use Rattle.std.specs.Prelude.{◌≡◌, ◌⊎◌, ℕ, ◌+◌, ◌/◌, ◌||◌, Bool, true, false, min, nat_lt, List, [], ◌∷◌, length, Option, IsSomeAnd, if◌then◌else◌}
+use Rattle.ktm_base.specs.declared.limits.TheConstants.{UNIT_BYTES}
 use Rattle.ktm_base.specs.declared.refusal.Refusal.TheVariants.{MachineDown}
 use Rattle.ktm_base.specs.Disk.{DiskState, MayLeave}
-use Rattle.ktm_core.specs.Done.{fallen, most_calls as most_core_calls, page_calls}
-use Rattle.ktm_journal.specs.Image.{JournalState, page_count}
-use Rattle.ktm_restart.specs.Logs.{StandsFor}
-use Rattle.ktm_types.specs.declared.event.Event.{Event}
-use Rattle.ktm_types.specs.declared.event.Event.TheVariants.{Plain}
-use Rattle.ktm_types.specs.declared.reply.Reply.{Reply}
-use Rattle.ktm_types.specs.declared.reply.Reply.TheVariants.{Refused}
-use Rattle.ktm_world.specs.Changes.{changes_bytes}
+use Rattle.ktm_core.specs.Done.{fallen, page_calls}
+use Rattle.ktm_core.specs.Logs.{StandsFor}
+use Rattle.ktm_core.specs.Stored.{units_put}
+use Rattle.ktm_journal.specs.Append.{has_no_room}
+use Rattle.ktm_journal.specs.Image.{page_count}
+use Rattle.ktm_paged.specs.Meaning.{first_unit, size_before, units_from}
+use Rattle.ktm_world.specs.declared.change.Change.{Change}
+use Rattle.ktm_world.specs.declared.change.Change.TheVariants.{Cut, Put}
+use Rattle.ktm_world.specs.declared.event.Event.{Event}
+use Rattle.ktm_world.specs.declared.event.Event.TheVariants.{Plain}
+use Rattle.ktm_world.specs.declared.reply.Reply.{Reply}
+use Rattle.ktm_world.specs.declared.reply.Reply.TheVariants.{Refused}
+use Rattle.ktm_world.specs.Changes.{bytes_in, changes_bytes}
 use Rattle.ktm_world.specs.Durable.{Durable}
 use Rattle.ktm_world.specs.Outcome.{Outcome, apply}
+use Rattle.ktm_world.specs.Present.{Present}
 use Rattle.ktm_kernel.specs.Stands.{HoldsRecorded, KernelState, machine_of}
 
 -- each image that a loss of power may leave stands for one of two states
@@ -45,7 +52,19 @@ abbrev pub is_write : List Event → Bool
 is_write (Plain change ∷ []) = changes_bytes change
 is_write events = false
 
--- how many device calls record events at most: four, and six more where the log has no room for them, for a snapshot of all that was recorded before, and those for the pages of
--- what they put. What a plain call writes may fill, with the gap in front of it, all pages that there are
-abbrev pub most_calls : JournalState → List Event → ℕ
-most_calls journal events = if is_write events then 10 + page_calls (page_count journal.units) else most_core_calls journal events
+-- how many units a change touches by the bytes that it puts into a file of so many: from the end of the file or the offset on, whichever comes first, up to the last byte that is put, and none
+-- where a cut makes the file no longer
+abbrev pub units_touched : ℕ → Change → ℕ
+units_touched size (Put node offset contents) = units_from (first_unit size offset) (offset + length (bytes_in contents))
+units_touched size (Cut node end pages) = if nat_lt size end then units_from (size / UNIT_BYTES) end else 0
+units_touched size change = 0
+
+-- how many units events write: those that one plain call touches, by the committed size of its file, and else those of the bytes that they put
+abbrev pub units_written : Present → List Event → ℕ
+units_written x (Plain change ∷ []) = units_touched (size_before x.files.tree change) change
+units_written x events = units_put events
+
+-- how many device calls record events at most: those for the pages of the units that they write, of which there are no more than the disk has, four, and six more for a snapshot of all that was
+-- recorded before, where the log has no room for them, or may have none, as for the pages of a plain write
+abbrev pub most_calls : KernelState → List Event → ℕ
+most_calls k events = page_calls (min (units_written k.now events) (page_count k.journal.units)) + (if is_write events || has_no_room k.journal events then 10 else 4)

@@ -6,3 +6,14 @@ pub mod Staging
 pub mod Begun
 pub mod Reserved
 pub mod Answers
+pub mod Begins
+pub mod Opening
+pub mod Opened
+pub use Rattle.ktm_core.specs.Back
+pub use Rattle.ktm_core.specs.Bad
+pub use Rattle.ktm_core.specs.Completions
+pub use Rattle.ktm_core.specs.Done as CoreDone
+pub use Rattle.ktm_core.specs.Loads
+pub use Rattle.ktm_core.specs.Logs
+pub use Rattle.ktm_core.specs.Stored
+pub use Rattle.ktm_core.specs.Takes

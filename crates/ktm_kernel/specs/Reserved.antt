@@ -1,8 +1,8 @@
 -- What a line leaves of what undecided transactions did to the files.
 use Rattle.std.specs.Prelude.{◌≡◌, Bool, true, false}
 use Rattle.ktm_base.specs.declared.id.Id.{Id}
-use Rattle.ktm_types.specs.declared.command.Line.{Line}
-use Rattle.ktm_types.specs.declared.command.Line.TheVariants.{Process}
+use Rattle.ktm_world.specs.declared.command.Line.{Line}
+use Rattle.ktm_world.specs.declared.command.Line.TheVariants.{Process}
 use Rattle.ktm_world.specs.Present.{Present}
 use Rattle.txf_laws.specs.Reservations.{IsLeft}
 use Rattle.txf_laws.specs.SoundFiles.{is_undecided_in}

@@ -2,16 +2,16 @@
 use Rattle.std.specs.Prelude.{◌≡◌, ◌⊎◌, ℕ, ◌+◌, ◌^◌, ◌<◌, ◌≤◌, Bool, true, false, List, [], Option, Some, None, Result, Ok, Err, length, IfSome, IsSomeAnd}
 use Rattle.ktm_base.specs.declared.limits.TheConstants.{MOST_UNITS}
 use Rattle.ktm_base.specs.Disk.{DiskState, MayLeave}
-use Rattle.ktm_restart.specs.Logs.{IsSafeFor, StandsFor}
+use Rattle.ktm_core.specs.Logs.{IsSafeFor, StandsFor}
 use Rattle.ktm_log.specs.OnDisk.{OnDisk}
 use Rattle.ktm_core.specs.Starting.{started}
 use Rattle.ktm_laws.specs.Running.{is_good_log}
-use Rattle.ktm_restart.specs.Bad.{IsBadAt}
-use Rattle.ktm_states.specs.GoodState.{IsGoodState}
+use Rattle.ktm_core.specs.Bad.{IsBadAt}
+use Rattle.txf_laws.specs.GoodState.{IsGoodState}
 use Rattle.ktm_world.specs.Durable.{Durable, is_worn, stand}
 use Rattle.ktm_world.specs.Logs.{Group}
-use Rattle.ktm_types.specs.declared.reply.Reply.{Reply}
-use Rattle.ktm_types.specs.declared.reply.Reply.TheVariants.{BadImage, Refused}
+use Rattle.ktm_world.specs.declared.reply.Reply.{Reply}
+use Rattle.ktm_world.specs.declared.reply.Reply.TheVariants.{BadImage, Refused}
 use Rattle.ktm_base.specs.declared.refusal.Refusal.TheVariants.{ImageWorn, MachineDown}
 use Rattle.ktm_world.specs.World.{in_doubt as all_in_doubt, opened}
 use Rattle.ktm_kernel.specs.declared.restart.RestartFault.{RestartFault}

@@ -1,5 +1,5 @@
 -- Pages that are filled in memory before what is written is asked. No public clause cites this module.
-use Rattle.std.specs.Prelude.{◌≡◌, ℕ, ◌==◌, ◌||◌, Bool, true, false, List, [], length, Option, None, Result, Ok, Err}
+use Rattle.std.specs.Prelude.{◌≡◌, ℕ, ◌≤◌, ◌==◌, ◌||◌, Bool, true, false, List, [], length, Option, None, Result, Ok, Err}
 use Rattle.ktm_base.specs.declared.id.Label.{Label}
 use Rattle.ktm_base.specs.declared.id.Pid.{Pid}
 use Rattle.ktm_base.specs.declared.fault.NoMemory.{NoMemory}
@@ -8,22 +8,23 @@ use Rattle.ktm_content.specs.Places.{byte_at}
 use Rattle.ktm_core.specs.Core.{AreSoundFiles, CoreState, IsSoundFor}
 use Rattle.ktm_each.specs.Each.{EachOfFiles}
 use Rattle.ktm_journal.specs.Image.{page_count}
-use Rattle.ktm_memory.specs.Stored.{AreFilesHeld}
+use Rattle.ktm_core.specs.Stored.{AreFilesHeld, units_put}
 use Rattle.ktm_page.specs.Row.{page_of}
-use Rattle.ktm_route.specs.declared.asked.Asked.{Asked}
-use Rattle.ktm_route.specs.Route.{AskedPutsBy, CanBeAsked, decided}
+use Rattle.ktm_core.specs.Asked.{Asked}
+use Rattle.ktm_core.specs.Route.{AskedPutsBy, CanBeAsked, decided}
 use Rattle.ktm_standing.specs.Standing.{IsStandingNow}
 use Rattle.ktm_store.specs.Marks.{MarksState, is_held}
 use Rattle.ktm_store.specs.Store.{IsStoredAt, StoreState, page_at}
 use Rattle.ktm_store.specs.Stored.{is_stored}
-use Rattle.ktm_types.specs.declared.command.Command.TheVariants.{SetEndOfFile, WriteFile}
-use Rattle.ktm_types.specs.declared.reply.Reply.TheVariants.{Refused}
+use Rattle.ktm_world.specs.declared.command.Command.TheVariants.{SetEndOfFile, WriteFile}
+use Rattle.ktm_world.specs.declared.reply.Reply.TheVariants.{Refused}
 use Rattle.ktm_units.specs.Units.{IsSameOutcome}
 use Rattle.ktm_alike.specs.Alike.{mapped_present}
 use Rattle.ktm_world.specs.Decide.{decide}
 use Rattle.ktm_world.specs.Files.{FilesNow}
 use Rattle.ktm_world.specs.Outcome.{Outcome, only_reply}
 use Rattle.ktm_world.specs.Present.{Present}
+use Rattle.ktm_kernel.specs.Done.{units_written}
 use Rattle.ktm_kernel.specs.declared.staging.Staged.{Staged}
 use Rattle.ktm_kernel.specs.declared.staging.Staged.TheVariants.{Ask, Refuse}
 
@@ -57,12 +58,17 @@ pub record KeepsContents (files : FilesNow) (old new : StoreState) : Type 0 wher
   pub as_were : (page : ℕ) → is_stored new.stored page ≡ true → (is_stored old.stored page ≡ true) × (page_of new.seen page ≡ page_of old.seen page)
   pub wanted : new.wanted ≡ old.wanted
 
+-- an outcome over places comes to one over the bytes, and puts no more units than that one writes
+pub record IsOverPlaces (f : ℕ → ℕ) (x : Present) (o asked : Outcome) : Type 0 where
+  pub same : IsSameOutcome f x o asked
+  pub few : units_put o.events ≤ units_written (mapped_present f x) asked.events
+
 -- what is to be asked can be, over places that are sound and held, and comes to what the command comes to over the bytes
 pub record MayAsk (x : Present) (store : StoreState) (asked : Asked) (outcome : Outcome) : Type 0 where
   pub can : CanBeAsked x asked
   pub sound : IsSoundFor (length store.marks.held) x asked
   pub held : ArePutsHeld store.marks x asked
-  pub same : IsSameOutcome (byte_at store.seen) x (decided x asked) outcome
+  pub comes_to : IsOverPlaces (byte_at store.seen) x (decided x asked) outcome
 
 -- what was staged is to be asked, or the command is refused over the bytes
 abbrev pub IsStaged : Present → StoreState → Staged → (Present → Outcome) → Type 0

@@ -4,9 +4,9 @@ use Rattle.ktm_base.specs.Disk.{DiskState, DiskStatus, MayLeave, IsSafe}
 use Rattle.ktm_base.specs.Power.{Restored, NotRestored}
 use Rattle.ktm_base.specs.Told.{Goes}
 use Rattle.ktm_journal.specs.Image.{JournalState, IsHeaded, page_count}
-use Rattle.ktm_restart.specs.Logs.{StandsFor}
-use Rattle.ktm_types.specs.declared.command.Line.{Line}
-use Rattle.ktm_types.specs.declared.reply.Reply.{Reply}
+use Rattle.ktm_core.specs.Logs.{StandsFor}
+use Rattle.ktm_world.specs.declared.command.Line.{Line}
+use Rattle.ktm_world.specs.declared.reply.Reply.{Reply}
 use Rattle.ktm_world.specs.Present.{Present}
 use Rattle.ktm_world.specs.Durable.{stand}
 use Rattle.ktm_world.specs.World.{World, present, possible_logs, interrupted_restart}
@@ -14,7 +14,7 @@ use Rattle.ktm_world.specs.Logs.{Group, is_up}
 use Rattle.ktm_standing.specs.Standing.{IsStanding, IsStandingNow}
 use Rattle.ktm_slots.specs.Owed.{owed_slots}
 use Rattle.ktm_world.specs.Transcript.{Does, Step}
-use Rattle.ktm_memory.specs.Stored.{AreFilesHeld}
+use Rattle.ktm_core.specs.Stored.{AreFilesHeld}
 use Rattle.ktm_alike.specs.Alike.{mapped_present}
 use Rattle.ktm_content.specs.Places.{byte_at}
 use Rattle.ktm_core.specs.Core.{AreSoundFiles, CoreState, HoldsPlaces, IsReady as IsReadyCore}

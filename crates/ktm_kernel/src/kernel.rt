@@ -7,18 +7,17 @@ ghost use Rattle.ktm_core.specs.Core.{IsSoundFor};
 ghost use Rattle.ktm_core.specs.Done.{fallen};
 ghost use Rattle.ktm_journal.specs.Image.{page_count};
 ghost use Rattle.ktm_kernel.specs.Answers.{AnswerLeaves, CallLeaves, IsAsItWas, IsLineAnswered};
-ghost use Rattle.ktm_kernel.specs.Staging.{AreHeldFor, IsStaged, asks};
+ghost use Rattle.ktm_kernel.specs.Staging.{AreHeldFor, IsOverPlaces, IsStaged, asks};
 ghost use Rattle.ktm_kernel.specs.Stands.{DoesLine, IsReady, KernelAt};
 ghost use Rattle.ktm_laws.specs.Running.{HasEventsLeft};
 ghost use Rattle.ktm_log.specs.OnDisk.{on};
-ghost use Rattle.ktm_route.specs.Completions.{command_of};
-ghost use Rattle.ktm_route.specs.Route.{CanBeAsked, decided};
-ghost use Rattle.ktm_route.specs.Takes.{asked_takes_memory, takes_memory};
-ghost use Rattle.ktm_types.specs.declared.command.Command.TheVariants.{ReadFile, SetEndOfFile, WriteFile};
-ghost use Rattle.ktm_types.specs.declared.command.Line.TheVariants.{Crash, Process, Tick};
-ghost use Rattle.ktm_types.specs.declared.reply.Reply.TheVariants.{Done};
-ghost use Rattle.ktm_types.specs.Values.{IsCommand};
-ghost use Rattle.ktm_units.specs.Units.{IsOfNoBytes, IsSameOutcome};
+ghost use Rattle.ktm_core.specs.Completions.{command_of};
+ghost use Rattle.ktm_core.specs.Route.{CanBeAsked, decided};
+ghost use Rattle.ktm_core.specs.Takes.{asked_takes_memory, takes_memory};
+ghost use Rattle.ktm_world.specs.declared.command.Command.TheVariants.{ReadFile, SetEndOfFile, WriteFile};
+ghost use Rattle.ktm_world.specs.declared.command.Line.TheVariants.{Crash, Process, Tick};
+ghost use Rattle.ktm_world.specs.declared.reply.Reply.TheVariants.{Done};
+ghost use Rattle.ktm_world.specs.Values.{IsCommand};
 ghost use Rattle.ktm_world.specs.Decide.{decide as model_decide};
 ghost use Rattle.ktm_world.specs.Durable.{stand};
 ghost use Rattle.ktm_world.specs.Labels.{is_bound};
@@ -29,15 +28,14 @@ ghost use Rattle.ktm_world.specs.World.{World, decide_tick};
 use crate::staging::{Staged, stage_end, stage_write};
 use ktm_alike::law_of_alike_presents;
 use ktm_base::{Bytes, Disk, Label, NoMemory, Pid, Refusal};
-use ktm_core::Core;
+use ktm_core::{Asked, Core, command_of, law_of_completions, read_target};
 use ktm_journal::law_of_pages;
 use ktm_laws::{law_of_lawful_worlds, law_of_reserved_files};
 use ktm_paged::law_of_paged_records;
 use ktm_records::law_of_spelling;
-use ktm_route::{Asked, command_of, law_of_completions, read_target};
 use ktm_standing::{law_of_kept, law_of_standing};
-use ktm_types::{Command, Completion, Reply};
 use ktm_units::law_of_units;
+use ktm_world::{Command, Completion, Reply};
 use std::alloc::Global;
 use std::marker::Model;
 
@@ -51,8 +49,8 @@ pub struct Kernel {
 impl Model for Kernel {
     ghost use Rattle.std.specs.Prelude.{◌≤◌, vec_capacity};
     ghost use Rattle.ktm_core.specs.Core.{core_of};
-    ghost use Rattle.ktm_types.specs.Sizes.{area_len};
-    ghost use Rattle.ktm_memory.specs.Memory.{IsRoomy};
+    ghost use Rattle.ktm_world.specs.Sizes.{area_len};
+    ghost use Rattle.ktm_core.specs.Memory.{IsRoomy};
     ghost use Rattle.ktm_kernel.specs.Stands.{KernelState, machine_of};
 
     ghost Value = { KernelState };
@@ -100,8 +98,8 @@ impl Kernel {
     /// Answers a call of a process, with any command of the grammar. After MACHINE_DOWN the machine is down. A call that is
     /// refused, but for MACHINE_DOWN, and one that records nothing make no device call; one that records something makes four,
     /// six more where the log has no room for it, one for each page of the files that it records, and one more behind each 64 of
-    /// these and behind the last; a plain write may fill, with the gap in front of it, all pages that there are. Out of memory
-    /// nothing has changed, in the machine or on its disk.
+    /// these and behind the last. A plain write records the pages that its bytes touch, and those of the gap in front of them.
+    /// Out of memory nothing has changed, in the machine or on its disk.
     pub fn call<D: Disk>(
         &mut self,
         disk: &mut D,
@@ -153,6 +151,7 @@ impl Kernel {
         law_of_kept();
         law_of_reserved_files();
         law_of_spelling();
+        law_of_alike_presents();
         law_of_units();
         if !self.is_up() {
             return Reply::Refused(Refusal::MachineDown);
@@ -163,7 +162,8 @@ impl Kernel {
         }
     }
 
-    // Answers what is asked of the places while the machine is up: for each outcome of the bytes that comes to the same.
+    // Answers what is asked of the places while the machine is up: for each outcome of the bytes that comes to the same, and writes no
+    // fewer units.
     fn answer<D: Disk>(&mut self, disk: &mut D, asked: Asked) -> Result<Reply, NoMemory>
         requires up { self.old.now.machine.is_up ≡ true }
         requires ready { IsReady self.old (D.told disk.old) (D.status disk.old) }
@@ -171,7 +171,7 @@ impl Kernel {
         requires asked { CanBeAsked self.old.core.now asked }
         requires sound { IsSoundFor (page_count self.old.core.journal.units) self.old.core.now asked }
         requires held { AreHeldFor self.old.core asked }
-        ensures leaves { (o : Outcome) → IsSameOutcome (byte_at self.old.core.store.seen) self.old.core.now (decided self.old.core.now asked) o
+        ensures leaves { (o : Outcome) → IsOverPlaces (byte_at self.old.core.store.seen) self.old.core.now (decided self.old.core.now asked) o
             → AnswerLeaves o (on self.old (D.told disk.old) (D.status disk.old)) (on self.new (D.told disk.new) (D.status disk.new)) result }
         ensures no_memory { OnErr result (IsAsItWas self.old self.new) }
         ensures enough { asked_takes_memory self.old.core.now asked ≡ false → IsOk result }
@@ -233,6 +233,7 @@ impl Kernel {
         ensures no_memory { OnErr result (IsAsItWas self.old self.new) }
         ensures enough { takes_memory self.old.now process (WriteFile file offset bytes) ≡ false → IsOk result }
     {
+        law_of_alike_presents();
         law_of_units();
         if bytes.is_empty() {
             let command = Command::WriteFile {

@@ -10,8 +10,8 @@ ghost use Rattle.ktm_kernel.specs.Begun.{BeginLeaves, IsMachineOf, IsNoMachine};
 ghost use Rattle.ktm_kernel.specs.Restarts.{RestartLeaves, answer_of, restart_went_down};
 ghost use Rattle.ktm_kernel.specs.Stands.{FoundAt, machine_of};
 ghost use Rattle.ktm_log.specs.OnDisk.{on};
-ghost use Rattle.ktm_memory.specs.Memory.{IsRoomy};
-ghost use Rattle.ktm_types.specs.Sizes.{area_len};
+ghost use Rattle.ktm_core.specs.Memory.{IsRoomy};
+ghost use Rattle.ktm_world.specs.Sizes.{area_len};
 ghost use Rattle.ktm_world.specs.World.{World};
 ghost use Rattle.txf_volume.specs.Held.{files_of};
 
@@ -19,17 +19,18 @@ use crate::buffers::Buffers;
 use crate::kernel::Kernel;
 use ktm_alike::law_of_alike_presents;
 use ktm_base::{Disk, Down, NoMemory, Refusal};
-use ktm_core::{Core, Starting, events_in, in_doubt, is_worn, load_pages, prepare, record_start};
+use ktm_core::{
+    Core, Memory, Starting, events_in, in_doubt, is_worn, law_of_bad_images, law_of_states, load,
+    load_pages, prepare, record_start,
+};
 use ktm_event::Events;
 use ktm_journal::LoadFault;
 use ktm_mapped::law_of_mapped_states;
-use ktm_memory::Memory;
 use ktm_records::law_of_spelling;
-use ktm_restart::{law_of_bad_images, law_of_states, load};
 use ktm_standing::{law_of_fresh, law_of_standing};
 use ktm_store::Store;
-use ktm_types::Reply;
 use ktm_units::law_of_units;
+use ktm_world::Reply;
 use std::alloc::Global;
 use std::mem::replace;
 use thiserror::Error;
@@ -171,8 +172,8 @@ impl Kernel {
     ) -> Result<Restarted, RestartFault>
         requires pending { (D.status disk.old).pending ≡ 0 }
         ensures leaves { RestartLeaves (on buffers.old (D.told disk.old) (D.status disk.old)) (on buffers.new (D.told disk.new) (D.status disk.new)) result }
-        ensures calls { DeviceCalls (8 * MOST_UNITS + 70) (D.status disk.old) (D.status disk.new) (restart_went_down result) }
-        ensures few { (units image selector : ℕ) → IsSomeAnd (D.told disk.old) (λ s. IsHeaded units image selector s.seen) → (D.status disk.new).calls ≤ (D.status disk.old).calls + (8 * units + 70) }
+        ensures calls { DeviceCalls (4 * MOST_UNITS + 91) (D.status disk.old) (D.status disk.new) (restart_went_down result) }
+        ensures few { (units image selector : ℕ) → IsSomeAnd (D.told disk.old) (λ s. IsHeaded units image selector s.seen) → (D.status disk.new).calls ≤ (D.status disk.old).calls + (4 * units + 91) }
     {
         law_of_fresh();
         law_of_standing();
@@ -233,8 +234,8 @@ impl Kernel {
         requires power { (D.status disk.old).is_down ≡ false }
         requires pending { (D.status disk.old).pending ≡ 0 }
         ensures leaves { StartAgainLeaves (on self.old (D.told disk.old) (D.status disk.old)) (on self.new (D.told disk.new) (D.status disk.new)) result }
-        ensures calls { DeviceCalls (8 * MOST_UNITS + 70) (D.status disk.old) (D.status disk.new) (D.status disk.new).is_down }
-        ensures few { (w : World) → FoundAt self.old (D.told disk.old) w → (D.status disk.new).calls ≤ (D.status disk.old).calls + (8 * w.base.units + 70) }
+        ensures calls { DeviceCalls (4 * MOST_UNITS + 91) (D.status disk.old) (D.status disk.new) (D.status disk.new).is_down }
+        ensures few { (w : World) → FoundAt self.old (D.told disk.old) w → (D.status disk.new).calls ≤ (D.status disk.old).calls + (4 * w.base.units + 91) }
     {
         law_of_standing();
         law_of_states();

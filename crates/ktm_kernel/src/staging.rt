@@ -1,22 +1,22 @@
 // Pages for what is to be written, filled in memory before it is asked.
 ghost use Rattle.std.specs.Prelude.{◌≡◌, ◌≤◌, true, IfOk, length};
 ghost use Rattle.ktm_kernel.specs.Staging.{IsPassed, IsStagedEnd, IsStagedWrite, KeepsContents, MayStage};
-ghost use Rattle.ktm_memory.specs.Memory.{present_of};
+ghost use Rattle.ktm_core.specs.Memory.{present_of};
 ghost use Rattle.ktm_store.specs.Marks.{free_ahead};
 ghost use Rattle.ktm_store.specs.Store.{touched};
-ghost use Rattle.ktm_types.specs.Values.{IsCommand};
-ghost use Rattle.ktm_types.specs.declared.command.Command.TheVariants.{SetEndOfFile, WriteFile};
+ghost use Rattle.ktm_world.specs.Values.{IsCommand};
+ghost use Rattle.ktm_world.specs.declared.command.Command.TheVariants.{SetEndOfFile, WriteFile};
 ghost use Rattle.ktm_world.specs.Decide.{refusal_of};
 ghost use Rattle.txf_volume.specs.Held.{files_of};
 
+use ktm_alike::law_of_alike_presents;
 use ktm_base::{Bytes, Label, NoMemory, Pid, Refusal, UNIT_BYTES};
-use ktm_memory::{Extent, Memory};
+use ktm_core::{Asked, Extent, Memory, end_target, write_target};
 use ktm_paged::law_of_paged_records;
-use ktm_route::{Asked, end_target, write_target};
 use ktm_standing::law_of_files;
 use ktm_store::Store;
-use ktm_types::Command;
 use ktm_units::law_of_units;
+use ktm_world::Command;
 use std::alloc::Global;
 
 /// What a write comes to over places.
@@ -108,6 +108,7 @@ pub(crate) fn stage_end(
     ensures passes { IsPassed result (refusal_of (present_of memory.now) process (SetEndOfFile file size)) }
 {
     law_of_paged_records();
+    law_of_alike_presents();
     law_of_units();
     law_of_files();
     let target = match end_target(memory, alloc, process, file, size) {

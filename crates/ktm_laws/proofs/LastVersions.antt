@@ -4,8 +4,8 @@ use Rattle.std.proofs.lemmas.Bool.{cases_Bool, and_from, and_parts, and_right, o
 use Rattle.std.proofs.lemmas.List.{take-append-le}
 use Rattle.std.proofs.lemmas.List.Sums.{fold-append}
 use Rattle.std.specs.List.{list_any, list_all}
-use Rattle.ktm_types.specs.declared.change.Change.{Change}
-use Rattle.ktm_types.specs.declared.change.Change.TheVariants.{Make, Put, Cut, Move, Drop}
+use Rattle.ktm_world.specs.declared.change.Change.{Change}
+use Rattle.ktm_world.specs.declared.change.Change.TheVariants.{Make, Put, Cut, Move, Drop}
 use Rattle.ktm_world.specs.Changes.{applies, changes_apply, changed, changes_bytes, is_drop, is_make, node_of}
 use Rattle.ktm_world.specs.Committed.{Committed, Version, version_of, versions_after, raised_version, with_change, with_work, committed_with}
 use Rattle.ktm_world.specs.Files.{FirstOpen, first_open, is_last_version}

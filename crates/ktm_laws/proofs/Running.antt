@@ -5,11 +5,11 @@ use Rattle.std.proofs.lemmas.Bool.{and_from, and_parts, or_cases, or_left, or_ri
 use Rattle.std.proofs.lemmas.List.Folds.{list_all-append}
 use Rattle.std.specs.List.{list_any, list_all}
 use Rattle.ktm_base.specs.declared.id.Pid.{Pid}
-use Rattle.ktm_types.specs.declared.command.Command.{Command}
-use Rattle.ktm_types.specs.declared.command.Line.{Line}
-use Rattle.ktm_types.specs.declared.command.Line.TheVariants.{Tick, Cut, Crash, Restart, Process}
-use Rattle.ktm_types.specs.declared.event.Event.{Event}
-use Rattle.ktm_types.specs.declared.reply.Reply.{Reply}
+use Rattle.ktm_world.specs.declared.command.Command.{Command}
+use Rattle.ktm_world.specs.declared.command.Line.{Line}
+use Rattle.ktm_world.specs.declared.command.Line.TheVariants.{Tick, Cut, Crash, Restart, Process}
+use Rattle.ktm_world.specs.declared.event.Event.{Event}
+use Rattle.ktm_world.specs.declared.reply.Reply.{Reply}
 use Rattle.ktm_world.specs.Changes.{changes_apply}
 use Rattle.ktm_world.specs.Committed.{Committed, Work, with_work, committed_with}
 use Rattle.ktm_world.specs.Conflicts.{holds_now}
@@ -30,12 +30,12 @@ use Rattle.ktm_records.specs.Agreement.{AgreeingLaw}
 use Rattle.txf_laws.specs.Elements.{IsIn}
 use Rattle.txf_laws.specs.Footprint.{ListsLaw}
 use Rattle.txf_laws.specs.Formed.{FormedLaw}
-use Rattle.ktm_states.specs.GoodStates.{GoodStatesLaw}
-use Rattle.ktm_states.specs.Grammatical.{names_objects, is_grammatical}
+use Rattle.txf_laws.specs.GoodStates.{GoodStatesLaw}
+use Rattle.txf_laws.specs.Grammatical.{names_objects, is_grammatical}
 use Rattle.ktm_records.specs.Kept.{IsWithin, are_carried_out}
 use Rattle.ktm_courses.specs.NamedObjects.{NamedLaw}
 use Rattle.ktm_laws.specs.Notes.{AreNotesTrue, NotesLaw}
-use Rattle.ktm_states.specs.OwnGroup.{OwnGroupLaw}
+use Rattle.txf_laws.specs.OwnGroup.{OwnGroupLaw}
 use Rattle.ktm_owned.specs.OwnKeys.{OwnKeysLaw}
 use Rattle.ktm_records.specs.RecordedFacts.{RecordedFactsLaw}
 use Rattle.ktm_records.specs.Spelling.{SpellingLaw, most_at_once}

@@ -5,12 +5,12 @@ use Rattle.std.proofs.lemmas.Simd.{map-map}
 use Rattle.std.specs.List.{list_any, list_all}
 use Rattle.ktm_base.specs.declared.id.Id.{Id}
 use Rattle.ktm_base.specs.declared.notify.Notify.{Notify}
-use Rattle.ktm_types.specs.declared.event.Event.{Event}
-use Rattle.ktm_types.specs.declared.input.PhaseInput.{PhaseInput}
-use Rattle.ktm_types.specs.declared.object.Phase.TheVariants.{Ended}
-use Rattle.ktm_types.specs.declared.object.TransactionOutcome.{TransactionOutcome}
-use Rattle.ktm_types.specs.declared.step.Step.{Step}
-use Rattle.ktm_types.specs.declared.step.Who.{Who}
+use Rattle.ktm_world.specs.declared.event.Event.{Event}
+use Rattle.ktm_world.specs.declared.input.PhaseInput.{PhaseInput}
+use Rattle.ktm_world.specs.declared.object.Phase.TheVariants.{Ended}
+use Rattle.ktm_world.specs.declared.object.TransactionOutcome.{TransactionOutcome}
+use Rattle.ktm_world.specs.declared.step.Step.{Step}
+use Rattle.ktm_world.specs.declared.step.Who.{Who}
 use Rattle.ktm_world.specs.Enlistments.{Enlistment, Sent, asks_pre_prepare, id_of, is_given, is_ordinary, is_superior, is_unfinished, takes_part, tell, with_enlistments}
 use Rattle.ktm_world.specs.Phases.{Course, end_notice, ended, in_phase, decided, is_its_superior, owing, telling, unchanged}
 use Rattle.ktm_world.specs.Steps.{carried, changing, is_meant, is_one_of, led, run, basis}
@@ -26,10 +26,10 @@ use Rattle.txf_laws.proofs.offered.Diamonds.{IsIn-map}
 use Rattle.txf_laws.proofs.offered.Elements.{IsIn-filter}
 use Rattle.txf_laws.proofs.offered.Lists.{IsIn-cases, IsIn-unmap}
 use Rattle.txf_laws.proofs.offered.Tables.{same_id-equal}
-use Rattle.ktm_states.specs.Grammatical.{changes_of_event}
+use Rattle.txf_laws.specs.Grammatical.{changes_of_event}
 use Rattle.ktm_courses.specs.SoundCourse.{is_outcome_of}
 use Rattle.ktm_courses.proofs.offered.Outcomes.{known-in}
-use Rattle.ktm_types.specs.declared.event.Part.{Part}
+use Rattle.ktm_world.specs.declared.event.Part.{Part}
 use Rattle.ktm_steps.proofs.offered.Ways.{if_cases}
 
 -- ---- names, and what is put

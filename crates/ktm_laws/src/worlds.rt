@@ -8,9 +8,8 @@ use ktm_courses::{law_of_courses, law_of_kept_outcomes, law_of_named_objects};
 use ktm_limits::law_of_limits;
 use ktm_owned::{law_of_files_kept, law_of_own_keys};
 use ktm_records::{law_of_agreement, law_of_file_calls, law_of_recorded_facts, law_of_spelling};
-use ktm_states::{law_of_good_states, law_of_own_groups};
 use ktm_world::{law_of_first_opens, law_of_refusals, law_of_step};
-use txf_laws::{law_of_forms, law_of_lists};
+use txf_laws::{law_of_forms, law_of_good_states, law_of_lists, law_of_own_groups};
 
 /// Every world of a run is sound, where it began with a restart of a good state.
 pub fn law_of_sound_worlds()

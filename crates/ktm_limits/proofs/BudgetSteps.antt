@@ -2,8 +2,8 @@
 use Rattle.std.proofs.Common.{◌≡◌, ℕ, ◌+◌, ◌≤◌, not, true, false, List, [], filter, sum_by, count_by, is_some, is_none, refl, sym, ◌∙◌, ap, subst, arith, inl, inr, Some}
 use Rattle.std.proofs.lemmas.Bool.{not-true}
 use Rattle.ktm_base.specs.declared.id.Id.{Id}
-use Rattle.ktm_types.specs.declared.change.Change.{Change}
-use Rattle.ktm_types.specs.declared.object.Transaction.{Transaction}
+use Rattle.ktm_world.specs.declared.change.Change.{Change}
+use Rattle.ktm_world.specs.declared.object.Transaction.{Transaction}
 use Rattle.ktm_world.specs.Changes.{changes_apply, changed_all, changes_bytes, nodes_made}
 use Rattle.ktm_world.specs.Files.{OwnChanges, bytes_seen, committed_files, own_changes}
 use Rattle.ktm_world.specs.Keys.{Own, Store, own_settings, stored_all, without_own}

@@ -6,14 +6,14 @@ use Rattle.std.proofs.lemmas.Option.{none-some, same_Some}
 use Rattle.std.specs.List.{list_any}
 use Rattle.ktm_base.specs.declared.limits.TheConstants.{MOST_LIVE}
 use Rattle.ktm_base.specs.declared.id.Id.{Id}
-use Rattle.ktm_types.specs.declared.change.Change.{Change}
-use Rattle.ktm_types.specs.declared.event.DonePart.{DonePart}
-use Rattle.ktm_types.specs.declared.event.Event.TheVariants.{Decide, Done, Held, Ready, Single}
-use Rattle.ktm_types.specs.declared.event.Part.{Part}
-use Rattle.ktm_types.specs.declared.event.Part.TheVariants.{Enlistment as EnlistmentPart, Changes, Settings}
-use Rattle.ktm_types.specs.declared.object.Transaction.{Transaction}
-use Rattle.ktm_types.specs.declared.recorded.RecordedPart.{RecordedPart}
-use Rattle.ktm_types.specs.declared.recorded.Stage.{Stage}
+use Rattle.ktm_world.specs.declared.change.Change.{Change}
+use Rattle.ktm_world.specs.declared.event.DonePart.{DonePart}
+use Rattle.ktm_world.specs.declared.event.Event.TheVariants.{Decide, Done, Held, Ready, Single}
+use Rattle.ktm_world.specs.declared.event.Part.{Part}
+use Rattle.ktm_world.specs.declared.event.Part.TheVariants.{Enlistment as EnlistmentPart, Changes, Settings}
+use Rattle.ktm_world.specs.declared.object.Transaction.{Transaction}
+use Rattle.ktm_world.specs.declared.recorded.RecordedPart.{RecordedPart}
+use Rattle.ktm_world.specs.declared.recorded.Stage.{Stage}
 use Rattle.ktm_world.specs.Changes.{changed_all}
 use Rattle.ktm_world.specs.Durable.{Durable, Recorded, after_event, changes_in, changes_of, settings_in, settings_of, emptied_part, enlistments_in, enlistments_of, fact_of, finish_recorded, decide_recorded, is_before, is_decided, is_of_enlistment, is_part_of, is_within_limits, parts_done, recorded_at, recorded_or_new, superior_ids, while_not_done, with_recorded}
 use Rattle.ktm_world.specs.Files.{OwnChanges, own_changes}
@@ -28,9 +28,9 @@ use Rattle.ktm_limits.proofs.RecordedWithin.{Budget, Counts, bounded}
 use Rattle.ktm_limits.proofs.BudgetSteps.{budget-files, budget-keys, own_without, tree_then}
 use Rattle.ktm_records.proofs.offered.DurableLimits.{limits-from}
 use Rattle.txf_laws.proofs.offered.Elements.{IsIn-filter, each_pair-filter}
-use Rattle.ktm_states.proofs.offered.Limits.{Less-while, limits-less}
+use Rattle.txf_laws.proofs.offered.Limits.{Less-while, limits-less}
 use Rattle.ktm_records.proofs.offered.NoMore.{Fits}
-use Rattle.ktm_states.proofs.offered.Parts.{gathered, gathered-map, gathered-push}
+use Rattle.txf_laws.proofs.offered.Parts.{gathered, gathered-map, gathered-push}
 use Rattle.ktm_limits.proofs.RecordedLimits.{Seats, budget-now, is_live_part, is_live_superior, managers-now, recalled-counts, recalls, seated}
 use Rattle.ktm_courses.proofs.offered.OutcomesMade.{own_changes-without, own_settings-without}
 use Rattle.txf_laws.proofs.offered.Tables.{Rises, IsIn-with_recorded, Rises-with_recorded, is_earlier, recorded_at-found, recorded_at-there, same_id-equal, same_id-from}

@@ -7,18 +7,18 @@ use Rattle.ktm_base.specs.declared.limits.TheConstants.{MOST_LIVE, MOST_HANDLES,
 use Rattle.ktm_base.specs.declared.id.Id.{Id}
 use Rattle.ktm_base.specs.declared.id.Label.{Label}
 use Rattle.ktm_base.specs.declared.id.Pid.{Pid}
-use Rattle.ktm_types.specs.declared.input.PhaseInput.{PhaseInput}
-use Rattle.ktm_types.specs.declared.object.Handle.{Handle}
-use Rattle.ktm_types.specs.declared.object.Object.{Object}
-use Rattle.ktm_types.specs.declared.object.Phase.{Phase}
-use Rattle.ktm_types.specs.declared.object.Phase.TheVariants.{Active, InDoubt, Ended}
-use Rattle.ktm_types.specs.declared.object.Transaction.{Transaction}
-use Rattle.ktm_types.specs.declared.object.TransactionOutcome.TheVariants.{Undetermined}
-use Rattle.ktm_types.specs.declared.options.Durability.{Durability}
-use Rattle.ktm_types.specs.declared.options.EnlistmentKind.{EnlistmentKind}
-use Rattle.ktm_types.specs.declared.reply.Reply.{Reply}
-use Rattle.ktm_types.specs.declared.reply.Reply.TheVariants.{Done}
-use Rattle.ktm_types.specs.declared.step.Owed.{Owed}
+use Rattle.ktm_world.specs.declared.input.PhaseInput.{PhaseInput}
+use Rattle.ktm_world.specs.declared.object.Handle.{Handle}
+use Rattle.ktm_world.specs.declared.object.Object.{Object}
+use Rattle.ktm_world.specs.declared.object.Phase.{Phase}
+use Rattle.ktm_world.specs.declared.object.Phase.TheVariants.{Active, InDoubt, Ended}
+use Rattle.ktm_world.specs.declared.object.Transaction.{Transaction}
+use Rattle.ktm_world.specs.declared.object.TransactionOutcome.TheVariants.{Undetermined}
+use Rattle.ktm_world.specs.declared.options.Durability.{Durability}
+use Rattle.ktm_world.specs.declared.options.EnlistmentKind.{EnlistmentKind}
+use Rattle.ktm_world.specs.declared.reply.Reply.{Reply}
+use Rattle.ktm_world.specs.declared.reply.Reply.TheVariants.{Done}
+use Rattle.ktm_world.specs.declared.step.Owed.{Owed}
 use Rattle.ktm_world.specs.Committed.{committed_with}
 use Rattle.ktm_world.specs.Decide.{of_keys, transacted, caller}
 use Rattle.ktm_world.specs.Enlistments.{Enlistment, Manager, is_ended, is_live_enlistment, is_live_in, is_superior, owes_pre_prepare, owes_prepare, owes_commit, owes_rollback, has_id, with_enlistments}

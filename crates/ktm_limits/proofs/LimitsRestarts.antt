@@ -7,11 +7,11 @@ use Rattle.std.proofs.lemmas.List.Sums.{count_by-le-length}
 use Rattle.std.specs.List.{flat_map}
 use Rattle.ktm_base.specs.declared.limits.TheConstants.{MOST_LIVE}
 use Rattle.ktm_base.specs.declared.id.Id.{Id}
-use Rattle.ktm_types.specs.declared.event.Part.{Part}
-use Rattle.ktm_types.specs.declared.event.Part.TheVariants.{Enlistment as EnlistmentPart, Changes, Settings}
-use Rattle.ktm_types.specs.declared.recorded.RecordedPart.{RecordedPart}
-use Rattle.ktm_types.specs.declared.recorded.Stage.{Stage}
-use Rattle.ktm_types.specs.declared.recorded.Superior.{Superior}
+use Rattle.ktm_world.specs.declared.event.Part.{Part}
+use Rattle.ktm_world.specs.declared.event.Part.TheVariants.{Enlistment as EnlistmentPart, Changes, Settings}
+use Rattle.ktm_world.specs.declared.recorded.RecordedPart.{RecordedPart}
+use Rattle.ktm_world.specs.declared.recorded.Stage.{Stage}
+use Rattle.ktm_world.specs.declared.recorded.Superior.{Superior}
 use Rattle.ktm_world.specs.Changes.{changes_apply, changes_bytes, nodes_made}
 use Rattle.ktm_world.specs.Durable.{Durable, Recorded, changes_of, settings_of, enlistments_in, enlistments_of, is_before, is_decided, is_held, stand, superior_ids, units_waiting, waiting}
 use Rattle.ktm_world.specs.Enlistments.{Enlistment, is_live_enlistment}
@@ -23,7 +23,7 @@ use Rattle.ktm_world.specs.Present.{Present}
 use Rattle.ktm_world.specs.Transactions.{is_live}
 use Rattle.ktm_world.specs.Uses.{changes_waiting}
 use Rattle.ktm_world.specs.World.{ManagerPast, back, by_rising_id, is_brought_back, enlistment_back, enlistments_back, has_own_changes, has_own_settings, in_doubt, manager_now, opened, own_group, present, superior_back, transaction_back, with_enlistment}
-use Rattle.ktm_states.specs.GoodState.{IsGoodState}
+use Rattle.txf_laws.specs.GoodState.{IsGoodState}
 use Rattle.ktm_records.specs.Kept.{IsWithin}
 use Rattle.txf_laws.specs.SoundFiles.{IsSoundFiles}
 use Rattle.ktm_records.proofs.offered.DurableLimits.{KeepsLimits, limits-kept}

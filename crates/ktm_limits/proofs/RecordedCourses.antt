@@ -3,13 +3,13 @@ use Rattle.std.specs.Prelude.{if◌then◌else◌}
 use Rattle.std.proofs.Common.{◌≡◌, ℕ, ◌+◌, ◌≤◌, ◌==◌, ◌&&◌, ◌||◌, Bool, true, false, cond, List, [], ◌∷◌, ◌++◌, count_by, Option, Some, None, refl, sym, ◌∙◌, ap, arith, inl, inr, ◌⊎◌}
 use Rattle.std.proofs.lemmas.Bool.{and_parts, and_from, or_left, or_parts, true≢false}
 use Rattle.std.proofs.lemmas.List.{append-nil}
-use Rattle.ktm_types.specs.declared.change.Change.{Change}
-use Rattle.ktm_types.specs.declared.event.DonePart.{DonePart}
-use Rattle.ktm_types.specs.declared.event.Event.{Event}
-use Rattle.ktm_types.specs.declared.event.Part.{Part}
-use Rattle.ktm_types.specs.declared.object.Phase.{Phase}
-use Rattle.ktm_types.specs.declared.object.Phase.TheVariants.{PrePreparing, Preparing, SinglePhase}
-use Rattle.ktm_types.specs.declared.object.Transaction.{Transaction}
+use Rattle.ktm_world.specs.declared.change.Change.{Change}
+use Rattle.ktm_world.specs.declared.event.DonePart.{DonePart}
+use Rattle.ktm_world.specs.declared.event.Event.{Event}
+use Rattle.ktm_world.specs.declared.event.Part.{Part}
+use Rattle.ktm_world.specs.declared.object.Phase.{Phase}
+use Rattle.ktm_world.specs.declared.object.Phase.TheVariants.{PrePreparing, Preparing, SinglePhase}
+use Rattle.ktm_world.specs.declared.object.Transaction.{Transaction}
 use Rattle.ktm_world.specs.Changes.{has_changes}
 use Rattle.ktm_world.specs.Durable.{Durable, after_event, after_events, fact_of, is_within_limits}
 use Rattle.ktm_world.specs.Enlistments.{Enlistment, is_durable_at, is_superior, superior_of}
@@ -32,9 +32,9 @@ use Rattle.ktm_limits.proofs.RecordedLimits.{is_live_superior, live-from}
 use Rattle.txf_laws.proofs.offered.Sums.{one_where, sum-one}
 use Rattle.ktm_world.specs.Rows.{all_readies, commits, is_last, participants, prepare_completes, proceeds_without, read_onlies, without}
 use Rattle.ktm_world.specs.TransactionCalls.{course_of}
-use Rattle.ktm_types.specs.declared.input.Seen.{Seen}
-use Rattle.ktm_types.specs.declared.input.Share.{Share}
-use Rattle.ktm_types.specs.declared.step.Step.{Step}
+use Rattle.ktm_world.specs.declared.input.Seen.{Seen}
+use Rattle.ktm_world.specs.declared.input.Share.{Share}
+use Rattle.ktm_world.specs.declared.step.Step.{Step}
 
 -- ---- events one after another
 

@@ -8,11 +8,11 @@ use Rattle.std.proofs.lemmas.Option.{none-some}
 use Rattle.std.specs.List.{flat_map}
 use Rattle.ktm_base.specs.declared.limits.TheConstants.{MOST_LIVE}
 use Rattle.ktm_base.specs.declared.id.Id.{Id}
-use Rattle.ktm_types.specs.declared.object.Phase.{Phase}
-use Rattle.ktm_types.specs.declared.object.Phase.TheVariants.{Ended}
-use Rattle.ktm_types.specs.declared.object.Transaction.{Transaction}
-use Rattle.ktm_types.specs.declared.recorded.RecordedPart.{RecordedPart}
-use Rattle.ktm_types.specs.declared.recorded.Stage.{Stage}
+use Rattle.ktm_world.specs.declared.object.Phase.{Phase}
+use Rattle.ktm_world.specs.declared.object.Phase.TheVariants.{Ended}
+use Rattle.ktm_world.specs.declared.object.Transaction.{Transaction}
+use Rattle.ktm_world.specs.declared.recorded.RecordedPart.{RecordedPart}
+use Rattle.ktm_world.specs.declared.recorded.Stage.{Stage}
 use Rattle.ktm_world.specs.Changes.{changes_apply}
 use Rattle.ktm_world.specs.Durable.{Recorded, changes_of, settings_of, enlistments_in, enlistments_of, is_ready, superior_ids}
 use Rattle.ktm_world.specs.Enlistments.{Enlistment, is_durable_at, is_live_enlistment, is_live_in, is_superior, superior_of, takes_part}

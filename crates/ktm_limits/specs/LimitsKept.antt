@@ -1,7 +1,7 @@
 -- No command, no passing of time and no restart passes a limit, in what is so now or in what is recorded.
 use Rattle.std.specs.Prelude.{◌≡◌, ℕ, true, List}
 use Rattle.ktm_base.specs.declared.id.Pid.{Pid}
-use Rattle.ktm_types.specs.declared.command.Command.{Command}
+use Rattle.ktm_world.specs.declared.command.Command.{Command}
 use Rattle.ktm_world.specs.Decide.{decide}
 use Rattle.ktm_world.specs.Durable.{Durable, stand}
 use Rattle.ktm_world.specs.Files.{FirstOpen}
@@ -11,7 +11,7 @@ use Rattle.ktm_world.specs.Outcome.{apply}
 use Rattle.ktm_world.specs.Present.{Present}
 use Rattle.ktm_world.specs.World.{decide_tick, opened, present}
 use Rattle.txf_laws.specs.Elements.{IsIn}
-use Rattle.ktm_states.specs.GoodState.{IsGoodState}
+use Rattle.txf_laws.specs.GoodState.{IsGoodState}
 use Rattle.ktm_records.specs.Kept.{IsKept, IsWithin, limits_hold}
 
 -- each version that was first opened has the same bytes in each of its first opens

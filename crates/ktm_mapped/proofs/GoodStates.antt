@@ -7,12 +7,12 @@ use Rattle.std.proofs.lemmas.List.Elements.{All-nil, All-cons, All-head, All-tai
 use Rattle.std.proofs.lemmas.Option.{none-some, same_Some}
 use Rattle.ktm_base.specs.declared.limits.TheConstants.{MOST_INFORMATION_BYTES}
 use Rattle.ktm_base.specs.Names.{IsName}
-use Rattle.ktm_types.specs.declared.change.Change.{Change}
-use Rattle.ktm_types.specs.declared.recorded.Node.{Node}
-use Rattle.ktm_types.specs.declared.recorded.RecordedPart.{RecordedPart}
-use Rattle.ktm_types.specs.declared.event.DonePart.{DonePart}
-use Rattle.ktm_types.specs.declared.event.Part.{Part}
-use Rattle.ktm_types.specs.declared.event.Part.TheVariants.{Changes}
+use Rattle.ktm_world.specs.declared.change.Change.{Change}
+use Rattle.ktm_world.specs.declared.recorded.Node.{Node}
+use Rattle.ktm_world.specs.declared.recorded.RecordedPart.{RecordedPart}
+use Rattle.ktm_world.specs.declared.event.DonePart.{DonePart}
+use Rattle.ktm_world.specs.declared.event.Part.{Part}
+use Rattle.ktm_world.specs.declared.event.Part.TheVariants.{Changes}
 use Rattle.ktm_world.specs.Changes.{changes_apply, has_changes}
 use Rattle.ktm_world.specs.Durable.{Durable, Recorded, changes_of, enlistments_of, is_before, is_decided, is_manager, is_new_in, is_part_of, is_ready, are_recorded_changes, waiting}
 use Rattle.ktm_world.specs.Keys.{are_good_settings}
@@ -23,7 +23,7 @@ use Rattle.ktm_world.proofs.offered.Lookups.{Rises, Rises-from}
 use Rattle.txf_laws.specs.Contents.{is_made_below, puts_some}
 use Rattle.txf_laws.specs.Elements.{each_pair}
 use Rattle.txf_laws.proofs.offered.ChangeTests.{All-at, number-at}
-use Rattle.ktm_states.specs.GoodState.{IsGoodState, is_drawn, enlisted_in, superiors_in, enlisted, has_one_part_each, is_ready_well, is_held_well, is_decided_well, is_done_well, are_kept_changes, are_kept_settings, wait_apart, set_no_key_both}
+use Rattle.txf_laws.specs.GoodState.{IsGoodState, is_drawn, enlisted_in, superiors_in, enlisted, has_one_part_each, is_ready_well, is_held_well, is_decided_well, is_done_well, are_kept_changes, are_kept_settings, wait_apart, set_no_key_both}
 use Rattle.ktm_mapped.specs.Mapped.{IsBlank, mapped_node, mapped_tree, mapped_change, mapped_part, mapped_recorded_part, mapped_recorded, mapped_durable}
 use Rattle.ktm_mapped.proofs.offered.Lists.{list_all-mapped, count_by-mapped, each_pair-mapped, flat_map-same}
 use Rattle.ktm_mapped.proofs.offered.Trees.{child_of-mapped, is_directory-mapped, is_at_or_below-mapped, changes_apply-mapped}

@@ -1,15 +1,15 @@
 -- What a durable state comes to does not depend on the bytes of files.
 use Rattle.std.specs.Prelude.{◌≡◌, ℕ, List, map}
 use Rattle.std.specs.List.{list_all}
-use Rattle.ktm_types.specs.declared.change.Change.{Change}
-use Rattle.ktm_types.specs.declared.event.Event.{Event}
+use Rattle.ktm_world.specs.declared.change.Change.{Change}
+use Rattle.ktm_world.specs.declared.event.Event.{Event}
 use Rattle.ktm_world.specs.Changes.{changed, changed_all, applies, changes_apply}
 use Rattle.ktm_world.specs.Durable.{Durable, after_event, after_events, stand, event_applies, events_apply, log_applies, is_within_limits, is_worn}
 use Rattle.ktm_world.specs.Logs.{Group}
 use Rattle.ktm_world.specs.Tree.{Tree}
 use Rattle.ktm_world.specs.World.{own_group}
-use Rattle.ktm_states.specs.GoodState.{IsGoodState}
-use Rattle.ktm_states.specs.Grammatical.{is_grammatical}
+use Rattle.txf_laws.specs.GoodState.{IsGoodState}
+use Rattle.txf_laws.specs.Grammatical.{is_grammatical}
 use Rattle.ktm_mapped.specs.Mapped.{IsBlank, mapped_tree, mapped_change, mapped_event, mapped_group, mapped_log, mapped_durable}
 
 -- changes with their bytes replaced apply to the same trees, and make the same ones with their bytes replaced

@@ -1,15 +1,15 @@
 -- Durable states, and what is recorded, with every byte of every content replaced by another one.
 use Rattle.std.specs.Prelude.{◌≡◌, ℕ, List, map, Option, Some, None}
-use Rattle.ktm_types.specs.declared.change.Change.{Change}
-use Rattle.ktm_types.specs.declared.change.Change.TheVariants.{Put}
-use Rattle.ktm_types.specs.declared.change.Contents.{Contents}
-use Rattle.ktm_types.specs.declared.change.Contents.TheVariants.{Whole, Paged}
-use Rattle.ktm_types.specs.declared.event.Event.{Event}
-use Rattle.ktm_types.specs.declared.event.Event.TheVariants.{Plain, Ready, Single}
-use Rattle.ktm_types.specs.declared.event.Part.{Part}
-use Rattle.ktm_types.specs.declared.event.Part.TheVariants.{Changes}
-use Rattle.ktm_types.specs.declared.recorded.Node.{Node}
-use Rattle.ktm_types.specs.declared.recorded.RecordedPart.{RecordedPart}
+use Rattle.ktm_world.specs.declared.change.Change.{Change}
+use Rattle.ktm_world.specs.declared.change.Change.TheVariants.{Put}
+use Rattle.ktm_world.specs.declared.change.Contents.{Contents}
+use Rattle.ktm_world.specs.declared.change.Contents.TheVariants.{Whole, Paged}
+use Rattle.ktm_world.specs.declared.event.Event.{Event}
+use Rattle.ktm_world.specs.declared.event.Event.TheVariants.{Plain, Ready, Single}
+use Rattle.ktm_world.specs.declared.event.Part.{Part}
+use Rattle.ktm_world.specs.declared.event.Part.TheVariants.{Changes}
+use Rattle.ktm_world.specs.declared.recorded.Node.{Node}
+use Rattle.ktm_world.specs.declared.recorded.RecordedPart.{RecordedPart}
 use Rattle.ktm_world.specs.Durable.{Durable, Recorded}
 use Rattle.ktm_world.specs.Logs.{Group}
 use Rattle.ktm_world.specs.Tree.{Tree}

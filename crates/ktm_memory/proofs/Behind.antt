@@ -4,7 +4,7 @@ use Rattle.std.proofs.lemmas.List.{length-append}
 use Rattle.std.proofs.lemmas.List.Sums.{fold-append}
 use Rattle.ktm_trace.specs.Contents.{KeptLaw}
 use Rattle.ktm_trace.specs.Traces.{traces_of}
-use Rattle.ktm_types.specs.declared.reply.Reply.TheVariants.{Done}
+use Rattle.ktm_world.specs.declared.reply.Reply.TheVariants.{Done}
 use Rattle.ktm_world.specs.Durable.{after_event, empty_state}
 use Rattle.ktm_world.specs.Outcome.{Outcome, apply, and_then, only_reply}
 use Rattle.ktm_world.specs.Present.{Present}

@@ -15,13 +15,13 @@ use Rattle.ktm_steps.proofs.offered.Staying.{Stays, run-keeps, stays, stays-step
 use Rattle.ktm_tm.specs.Courses.{caller_of}
 use Rattle.ktm_trace.proofs.Tracing.{traces_law}
 use Rattle.ktm_trace.specs.Traces.{traces_after, traces_of}
-use Rattle.ktm_types.specs.declared.event.DonePart.{DonePart}
-use Rattle.ktm_types.specs.declared.event.Event.{Event}
-use Rattle.ktm_types.specs.declared.event.Part.{Part}
-use Rattle.ktm_types.specs.declared.object.Transaction.{Transaction}
-use Rattle.ktm_types.specs.declared.reply.Reply.TheVariants.{Done}
-use Rattle.ktm_types.specs.declared.step.Fact.{Fact}
-use Rattle.ktm_types.specs.declared.step.Step.{Step}
+use Rattle.ktm_world.specs.declared.event.DonePart.{DonePart}
+use Rattle.ktm_world.specs.declared.event.Event.{Event}
+use Rattle.ktm_world.specs.declared.event.Part.{Part}
+use Rattle.ktm_world.specs.declared.object.Transaction.{Transaction}
+use Rattle.ktm_world.specs.declared.reply.Reply.TheVariants.{Done}
+use Rattle.ktm_world.specs.declared.step.Fact.{Fact}
+use Rattle.ktm_world.specs.declared.step.Step.{Step}
 use Rattle.ktm_world.specs.Changes.{has_changes}
 use Rattle.ktm_world.specs.Durable.{after_events, next_after_all}
 use Rattle.ktm_world.specs.Enlistments.{Enlistment, Manager, is_durable_at}

@@ -9,8 +9,8 @@ use Rattle.ktm_event.specs.Work.{FinalFile, changes_of as recorded_changes}
 use Rattle.ktm_paged.specs.Recorded.{IsRecordOf}
 use Rattle.ktm_paged.proofs.offered.Recording.{course-recorded}
 use Rattle.ktm_steps.specs.Laws.{EventsAheadLaw}
-use Rattle.ktm_types.specs.declared.event.Event.{Event}
-use Rattle.ktm_types.specs.declared.step.Step.{Step}
+use Rattle.ktm_world.specs.declared.event.Event.{Event}
+use Rattle.ktm_world.specs.declared.step.Step.{Step}
 use Rattle.ktm_world.specs.Durable.{Durable}
 use Rattle.ktm_world.specs.Enlistments.{Enlistment, superior_of}
 use Rattle.ktm_world.specs.Phases.{Course}

@@ -7,9 +7,9 @@ use Rattle.ktm_base.specs.Guid.{guid_of}
 use Rattle.ktm_base.specs.declared.id.Id.{Id}
 use Rattle.ktm_event.specs.Kept.{EventsState, Holds}
 use Rattle.ktm_tm.specs.TmState.{next_id}
-use Rattle.ktm_types.specs.declared.object.Transaction.{Transaction}
-use Rattle.ktm_types.specs.declared.reply.Reply.{Reply}
-use Rattle.ktm_types.specs.declared.reply.Reply.TheVariants.{Done, Guid}
+use Rattle.ktm_world.specs.declared.object.Transaction.{Transaction}
+use Rattle.ktm_world.specs.declared.reply.Reply.{Reply}
+use Rattle.ktm_world.specs.declared.reply.Reply.TheVariants.{Done, Guid}
 use Rattle.ktm_world.specs.Decide.{of_keys}
 use Rattle.ktm_world.specs.FileUses.{file_changes_waiting}
 use Rattle.ktm_world.specs.KeyCalls.{KeyOutcome}

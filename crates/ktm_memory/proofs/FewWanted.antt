@@ -11,20 +11,20 @@ use Rattle.ktm_course.specs.Moved.{is_of_changes, records_files}
 use Rattle.ktm_event.specs.OnPages.{AreEach, IsRecordedChange}
 use Rattle.ktm_event.specs.Work.{pages_changes}
 use Rattle.ktm_records.proofs.offered.AgreementOfCourses.{arrival}
-use Rattle.ktm_states.specs.Grammatical.{changes_of_event}
+use Rattle.txf_laws.specs.Grammatical.{changes_of_event}
 use Rattle.ktm_steps.specs.Laws.{EventsAheadLaw}
 use Rattle.ktm_tm.specs.Courses.{caller_of}
-use Rattle.ktm_types.specs.declared.change.Change.{Change}
-use Rattle.ktm_types.specs.declared.change.Change.TheVariants.{Make, Put, Cut, Move, Drop}
-use Rattle.ktm_types.specs.declared.change.Contents.TheVariants.{Whole, Paged}
-use Rattle.ktm_types.specs.declared.event.Event.{Event}
-use Rattle.ktm_types.specs.declared.event.Event.TheVariants.{Ready}
-use Rattle.ktm_types.specs.declared.event.Part.TheVariants.{Changes}
-use Rattle.ktm_types.specs.declared.object.Transaction.{Transaction}
-use Rattle.ktm_types.specs.declared.reply.Reply.TheVariants.{Done}
-use Rattle.ktm_types.specs.declared.step.Fact.{Fact}
-use Rattle.ktm_types.specs.declared.step.Step.{Step}
-use Rattle.ktm_types.specs.declared.step.Step.TheVariants.{Record, Tell, Ask, Enter, Decide as DecideIt, End, EndWhereFinished}
+use Rattle.ktm_world.specs.declared.change.Change.{Change}
+use Rattle.ktm_world.specs.declared.change.Change.TheVariants.{Make, Put, Cut, Move, Drop}
+use Rattle.ktm_world.specs.declared.change.Contents.TheVariants.{Whole, Paged}
+use Rattle.ktm_world.specs.declared.event.Event.{Event}
+use Rattle.ktm_world.specs.declared.event.Event.TheVariants.{Ready}
+use Rattle.ktm_world.specs.declared.event.Part.TheVariants.{Changes}
+use Rattle.ktm_world.specs.declared.object.Transaction.{Transaction}
+use Rattle.ktm_world.specs.declared.reply.Reply.TheVariants.{Done}
+use Rattle.ktm_world.specs.declared.step.Fact.{Fact}
+use Rattle.ktm_world.specs.declared.step.Step.{Step}
+use Rattle.ktm_world.specs.declared.step.Step.TheVariants.{Record, Tell, Ask, Enter, Decide as DecideIt, End, EndWhereFinished}
 use Rattle.ktm_world.specs.Changes.{has_changes}
 use Rattle.ktm_world.specs.Decide.{events_of as plain_events}
 use Rattle.ktm_world.specs.FileOutcome.{FileOutcome}

@@ -3,7 +3,7 @@ use Rattle.std.specs.Prelude.{if◌then◌else◌}
 use Rattle.std.proofs.Common.{◌≡◌, Bool, true, false, not, List, [], ◌∷◌, filter, Some, is_some, refl, sym, ◌∙◌, ap, inl, inr}
 use Rattle.std.proofs.lemmas.Bool.{cases_Bool, or_parts, true≢false}
 use Rattle.ktm_base.specs.declared.id.Id.{Id}
-use Rattle.ktm_types.specs.declared.change.Change.{Change}
+use Rattle.ktm_world.specs.declared.change.Change.{Change}
 use Rattle.ktm_world.specs.Committed.{committed_with}
 use Rattle.ktm_world.specs.Files.{FilesNow, FirstOpen, committed_files, files_with, own_changes, without_transaction}
 use Rattle.ktm_world.specs.Keys.{KeysNow, Own, OwnSettings, own_settings, stored_all, without_own}

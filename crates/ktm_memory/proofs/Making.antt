@@ -10,13 +10,13 @@ use Rattle.ktm_standing.proofs.offered.Effects.{effects_law}
 use Rattle.ktm_object.specs.Table.{HandleTable}
 use Rattle.ktm_tm.specs.TmState.{TmState, id_after, next_id, with_enlisted, with_new}
 use Rattle.ktm_trace.specs.Traces.{traces_of}
-use Rattle.ktm_types.specs.declared.change.Change.{Change}
-use Rattle.ktm_types.specs.declared.object.Handle.{Handle}
-use Rattle.ktm_types.specs.declared.object.Object.TheVariants.{Transaction as TransactionObject, Manager as ManagerObject, Enlistment as EnlistmentObject}
-use Rattle.ktm_types.specs.declared.object.Transaction.{Transaction}
-use Rattle.ktm_types.specs.declared.options.Durability.{Durability}
-use Rattle.ktm_types.specs.declared.options.Durability.TheVariants.{Durable, Volatile}
-use Rattle.ktm_types.specs.declared.options.EnlistmentKind.{EnlistmentKind}
+use Rattle.ktm_world.specs.declared.change.Change.{Change}
+use Rattle.ktm_world.specs.declared.object.Handle.{Handle}
+use Rattle.ktm_world.specs.declared.object.Object.TheVariants.{Transaction as TransactionObject, Manager as ManagerObject, Enlistment as EnlistmentObject}
+use Rattle.ktm_world.specs.declared.object.Transaction.{Transaction}
+use Rattle.ktm_world.specs.declared.options.Durability.{Durability}
+use Rattle.ktm_world.specs.declared.options.Durability.TheVariants.{Durable, Volatile}
+use Rattle.ktm_world.specs.declared.options.EnlistmentKind.{EnlistmentKind}
 use Rattle.ktm_world.specs.Durable.{next_after_all}
 use Rattle.ktm_world.specs.Enlistments.{Manager}
 use Rattle.ktm_world.specs.FileOutcome.{FileOutcome, files_after, next_node_after}

@@ -11,14 +11,14 @@ use Rattle.ktm_base.specs.Guid.{guid_of}
 use Rattle.ktm_event.specs.Kept.{EventsState, Holds}
 use Rattle.ktm_manager.specs.Managers.{first_of}
 use Rattle.ktm_tm.specs.TmState.{id_after}
-use Rattle.ktm_types.specs.declared.object.Transaction.{Transaction}
-use Rattle.ktm_states.specs.Grammatical.{changes_of_event}
-use Rattle.ktm_types.specs.declared.event.Event.TheVariants.{MadeRm}
-use Rattle.ktm_types.specs.declared.options.Durability.{Durability}
-use Rattle.ktm_types.specs.declared.options.Durability.TheVariants.{Durable, Volatile}
-use Rattle.ktm_types.specs.declared.options.EnlistmentKind.{EnlistmentKind}
-use Rattle.ktm_types.specs.declared.reply.Reply.{Reply}
-use Rattle.ktm_types.specs.declared.reply.Reply.TheVariants.{Contents, Done, Guid, Notification}
+use Rattle.ktm_world.specs.declared.object.Transaction.{Transaction}
+use Rattle.txf_laws.specs.Grammatical.{changes_of_event}
+use Rattle.ktm_world.specs.declared.event.Event.TheVariants.{MadeRm}
+use Rattle.ktm_world.specs.declared.options.Durability.{Durability}
+use Rattle.ktm_world.specs.declared.options.Durability.TheVariants.{Durable, Volatile}
+use Rattle.ktm_world.specs.declared.options.EnlistmentKind.{EnlistmentKind}
+use Rattle.ktm_world.specs.declared.reply.Reply.{Reply}
+use Rattle.ktm_world.specs.declared.reply.Reply.TheVariants.{Contents, Done, Guid, Notification}
 use Rattle.ktm_world.specs.Enlistments.{Enlistment, Manager, Note, enlistment_at, manager_at}
 use Rattle.ktm_world.specs.Labels.{holds_of}
 use Rattle.ktm_world.specs.Outcome.{Outcome, first_refusal, only_reply, refuse_or}

@@ -8,11 +8,11 @@ use Rattle.ktm_paged.specs.Meaning.{has_its_pages, meant, size_before}
 use Rattle.ktm_paged.specs.Recorded.{IsRecordOf}
 use Rattle.ktm_paged.proofs.offered.Meanings.{grown-meant, put-meant}
 use Rattle.ktm_paged.proofs.offered.Recording.{plain-recorded}
-use Rattle.ktm_types.specs.declared.change.Change.{Change}
-use Rattle.ktm_types.specs.declared.change.Change.TheVariants.{Make, Put, Cut, Move, Drop}
-use Rattle.ktm_types.specs.declared.change.Contents.TheVariants.{Whole, Paged}
-use Rattle.ktm_types.specs.declared.event.Event.{Event}
-use Rattle.ktm_types.specs.declared.event.Event.TheVariants.{Plain}
+use Rattle.ktm_world.specs.declared.change.Change.{Change}
+use Rattle.ktm_world.specs.declared.change.Change.TheVariants.{Make, Put, Cut, Move, Drop}
+use Rattle.ktm_world.specs.declared.change.Contents.TheVariants.{Whole, Paged}
+use Rattle.ktm_world.specs.declared.event.Event.{Event}
+use Rattle.ktm_world.specs.declared.event.Event.TheVariants.{Plain}
 use Rattle.txf_laws.specs.Contents.{puts_some}
 use Rattle.ktm_world.specs.Durable.{Durable}
 use Rattle.ktm_world.specs.Tree.{bytes_of}

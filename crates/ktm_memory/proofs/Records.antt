@@ -12,7 +12,7 @@ use Rattle.ktm_journal.specs.Pages.{KeepsPages}
 use Rattle.ktm_log.specs.declared.fault.AppendFault.{AppendFault}
 use Rattle.ktm_log.specs.declared.fault.AppendFault.TheVariants.{Down, Full}
 use Rattle.ktm_log.specs.OnDisk.{AllSynced, OnDisk, on}
-use Rattle.ktm_types.specs.Sizes.{log_size}
+use Rattle.ktm_world.specs.Sizes.{log_size}
 use Rattle.ktm_world.specs.Logs.{Group, as_groups}
 use Rattle.ktm_memory.specs.Memory.{MemoryState, appended}
 use Rattle.ktm_memory.specs.Recorded.{AreRecorded, LeavesWithOr, RecordingLeaves}

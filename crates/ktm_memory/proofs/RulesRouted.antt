@@ -8,8 +8,8 @@ use Rattle.ktm_base.specs.declared.refusal.Refusal.{Refusal}
 use Rattle.ktm_each.specs.Each.{EachOfEvent, EachOfFiles, EachOfGroup}
 use Rattle.ktm_event.specs.Kept.{EventsState, Holds}
 use Rattle.ktm_paged.specs.Paged.{meant_group}
-use Rattle.ktm_types.specs.declared.options.Durability.{Durability}
-use Rattle.ktm_types.specs.declared.reply.Reply.{Reply}
+use Rattle.ktm_world.specs.declared.options.Durability.{Durability}
+use Rattle.ktm_world.specs.declared.reply.Reply.{Reply}
 use Rattle.ktm_world.specs.Durable.{Durable}
 use Rattle.ktm_world.specs.Logs.{Group}
 use Rattle.ktm_world.specs.Outcome.{Outcome, refuse_or}

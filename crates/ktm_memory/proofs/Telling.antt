@@ -10,10 +10,10 @@ use Rattle.ktm_object.specs.Table.{HandleTable}
 use Rattle.ktm_tm.specs.Recovery.{recover_notes as notes_in}
 use Rattle.ktm_tm.specs.TmState.{TmState}
 use Rattle.ktm_trace.specs.Contents.{KeptLaw}
-use Rattle.ktm_types.specs.declared.object.Handle.{Handle}
-use Rattle.ktm_types.specs.declared.object.Object.{Object}
-use Rattle.ktm_types.specs.declared.reply.Reply.{Reply}
-use Rattle.ktm_types.specs.declared.reply.Reply.TheVariants.{Done}
+use Rattle.ktm_world.specs.declared.object.Handle.{Handle}
+use Rattle.ktm_world.specs.declared.object.Object.{Object}
+use Rattle.ktm_world.specs.declared.reply.Reply.{Reply}
+use Rattle.ktm_world.specs.declared.reply.Reply.TheVariants.{Done}
 use Rattle.ktm_world.specs.Enlistments.{Enlistment, Manager, Sent, enlistment_at, has_id, manager_at, with_enlistments}
 use Rattle.ktm_world.specs.Files.{FirstOpen}
 use Rattle.ktm_world.specs.HandleCalls.{bind_to, duplicate_handle}

@@ -17,16 +17,16 @@ use Rattle.ktm_paged.specs.Meaning.{pages_in}
 use Rattle.ktm_paged.specs.Paged.{page_at}
 use Rattle.ktm_paged.proofs.offered.OnPages.{pages-each, places-each}
 use Rattle.ktm_paged.proofs.offered.Recording.{change-weaker}
-use Rattle.ktm_states.specs.Grammatical.{changes_of_event}
+use Rattle.txf_laws.specs.Grammatical.{changes_of_event}
 use Rattle.ktm_store.specs.Store.{IsStoredAt}
 use Rattle.ktm_store.specs.Stored.{is_stored}
-use Rattle.ktm_types.specs.declared.change.Change.{Change}
-use Rattle.ktm_types.specs.declared.change.Change.TheVariants.{Make, Put, Cut, Move, Drop}
-use Rattle.ktm_types.specs.declared.change.Contents.{Contents}
-use Rattle.ktm_types.specs.declared.change.Contents.TheVariants.{Whole, Paged}
-use Rattle.ktm_types.specs.declared.event.Event.{Event}
-use Rattle.ktm_types.specs.declared.object.Transaction.{Transaction}
-use Rattle.ktm_types.specs.declared.step.Step.{Step}
+use Rattle.ktm_world.specs.declared.change.Change.{Change}
+use Rattle.ktm_world.specs.declared.change.Change.TheVariants.{Make, Put, Cut, Move, Drop}
+use Rattle.ktm_world.specs.declared.change.Contents.{Contents}
+use Rattle.ktm_world.specs.declared.change.Contents.TheVariants.{Whole, Paged}
+use Rattle.ktm_world.specs.declared.event.Event.{Event}
+use Rattle.ktm_world.specs.declared.object.Transaction.{Transaction}
+use Rattle.ktm_world.specs.declared.step.Step.{Step}
 use Rattle.ktm_world.specs.Changes.{bytes_in}
 use Rattle.ktm_world.specs.Decide.{events_of}
 use Rattle.ktm_world.specs.FileOutcome.{FileOutcome}

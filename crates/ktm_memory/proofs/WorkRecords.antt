@@ -9,10 +9,10 @@ use Rattle.ktm_event.specs.Spelling.{IsRecordableChange, IsSpellableChange}
 use Rattle.ktm_event.specs.Work.{FinalFile, changes_of as recorded_changes, changes_of_file, pages_changes}
 use Rattle.ktm_paged.specs.Meaning.{has_work_pages, meant}
 use Rattle.ktm_paged.proofs.offered.Meanings.{put-meant}
-use Rattle.ktm_types.specs.declared.change.Change.{Change}
-use Rattle.ktm_types.specs.declared.change.Change.TheVariants.{Make, Put, Cut, Move, Drop}
-use Rattle.ktm_types.specs.declared.change.Contents.{Contents}
-use Rattle.ktm_types.specs.declared.change.Contents.TheVariants.{Whole, Paged}
+use Rattle.ktm_world.specs.declared.change.Change.{Change}
+use Rattle.ktm_world.specs.declared.change.Change.TheVariants.{Make, Put, Cut, Move, Drop}
+use Rattle.ktm_world.specs.declared.change.Contents.{Contents}
+use Rattle.ktm_world.specs.declared.change.Contents.TheVariants.{Whole, Paged}
 use Rattle.txf_laws.specs.Contents.{puts_some}
 use Rattle.txf_overlay.specs.OverlayState.{is_of_names}
 

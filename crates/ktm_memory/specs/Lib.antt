@@ -8,3 +8,5 @@ pub mod Routed
 pub mod Rules
 pub mod Stored
 pub mod Decided
+pub use Rattle.txf_volume.specs.Held
+pub use Rattle.txf_volume.specs.Shown

@@ -6,14 +6,14 @@ use Rattle.ktm_base.specs.declared.id.Pid.{Pid}
 use Rattle.ktm_base.specs.declared.id.Id.{Id}
 use Rattle.ktm_standing.specs.Courses.{LeadsOn}
 use Rattle.ktm_course.specs.Moved.{is_commit}
-use Rattle.ktm_types.specs.declared.step.Step.{Step}
+use Rattle.ktm_world.specs.declared.step.Step.{Step}
 use Rattle.std.specs.List.{list_any}
 use Rattle.ktm_event.specs.Kept.{EventsState}
 use Rattle.ktm_journal.specs.Image.{JournalState}
-use Rattle.ktm_types.specs.Sizes.{area_len, frame_size, log_size}
+use Rattle.ktm_world.specs.Sizes.{area_len, frame_size, log_size}
 use Rattle.txf_laws.specs.Elements.{each_pair}
 use Rattle.ktm_object.specs.Table.{HandleTable}
-use Rattle.ktm_states.specs.GoodState.{IsGoodState}
+use Rattle.txf_laws.specs.GoodState.{IsGoodState}
 use Rattle.ktm_tm.specs.Courses.{caller_of}
 use Rattle.ktm_tm.specs.TmState.{TmState}
 use Rattle.ktm_trace.specs.Contents.{expanded}
@@ -21,9 +21,9 @@ use Rattle.ktm_trace.specs.Recordings.{steps_room}
 use Rattle.ktm_trace.specs.declared.room.TheConstants.{MOST_NOTED}
 use Rattle.ktm_trace.specs.Few.{AreFew}
 use Rattle.ktm_trace.specs.Traces.{Traced, traces_of}
-use Rattle.ktm_types.specs.declared.event.Event.{Event}
-use Rattle.ktm_types.specs.declared.object.Handle.{Handle}
-use Rattle.ktm_types.specs.declared.object.Transaction.{Transaction}
+use Rattle.ktm_world.specs.declared.event.Event.{Event}
+use Rattle.ktm_world.specs.declared.object.Handle.{Handle}
+use Rattle.ktm_world.specs.declared.object.Transaction.{Transaction}
 use Rattle.ktm_world.specs.Durable.{Durable, is_before}
 use Rattle.ktm_world.specs.Enlistments.{Manager, manager_at}
 use Rattle.ktm_world.specs.Outcome.{Outcome, apply}

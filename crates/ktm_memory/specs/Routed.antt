@@ -8,10 +8,10 @@ use Rattle.ktm_base.specs.declared.refusal.Refusal.TheVariants.{WaitTimeout}
 use Rattle.ktm_standing.specs.Files.{MayCommitNow, MayMake}
 use Rattle.ktm_course.specs.Moved.{is_commit}
 use Rattle.ktm_event.specs.Spelling.{IsSpellableEvent}
-use Rattle.ktm_types.specs.declared.input.PhaseInput.{PhaseInput}
-use Rattle.ktm_types.specs.declared.object.Transaction.{Transaction}
-use Rattle.ktm_types.specs.declared.reply.Reply.{Reply}
-use Rattle.ktm_types.specs.declared.reply.Reply.TheVariants.{Done}
+use Rattle.ktm_world.specs.declared.input.PhaseInput.{PhaseInput}
+use Rattle.ktm_world.specs.declared.object.Transaction.{Transaction}
+use Rattle.ktm_world.specs.declared.reply.Reply.{Reply}
+use Rattle.ktm_world.specs.declared.reply.Reply.TheVariants.{Done}
 use Rattle.ktm_world.specs.Decide.{of_keys}
 use Rattle.ktm_world.specs.Enlistments.{Enlistment, enlistment_at, manager_at}
 use Rattle.ktm_world.specs.Handles.{object_at}

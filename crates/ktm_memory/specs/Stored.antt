@@ -2,9 +2,9 @@
 use Rattle.std.specs.Prelude.{◌≡◌, ℕ, ◌+◌, ◌*◌, ◌<◌, ◌≤◌, All, Bool, true, List, length, sum_by}
 use Rattle.ktm_base.specs.declared.limits.TheConstants.{UNIT_BYTES}
 use Rattle.ktm_content.specs.Contents.{units_of}
-use Rattle.ktm_types.specs.declared.change.Change.{Change}
-use Rattle.ktm_types.specs.declared.change.Change.TheVariants.{Put}
-use Rattle.ktm_states.specs.Grammatical.{changes_of_event}
+use Rattle.ktm_world.specs.declared.change.Change.{Change}
+use Rattle.ktm_world.specs.declared.change.Change.TheVariants.{Put}
+use Rattle.txf_laws.specs.Grammatical.{changes_of_event}
 use Rattle.ktm_world.specs.Changes.{bytes_in}
 use Rattle.ktm_each.specs.Each.{EachOfFiles, EachOfGroup}
 use Rattle.ktm_store.specs.Marks.{free_ahead, is_held}

@@ -4,8 +4,8 @@ use Rattle.ktm_base.specs.declared.limits.TheConstants.{UNIT_BYTES}
 use Rattle.ktm_base.specs.declared.id.Id.{Id}
 use Rattle.ktm_content.specs.Places.{CanBePut}
 use Rattle.ktm_paged.specs.Meaning.{end_touched, first_unit, size_before}
-use Rattle.ktm_types.specs.declared.change.Change.{Change}
-use Rattle.ktm_types.specs.declared.change.Contents.TheVariants.{Paged, Whole}
+use Rattle.ktm_world.specs.declared.change.Change.{Change}
+use Rattle.ktm_world.specs.declared.change.Contents.TheVariants.{Paged, Whole}
 use Rattle.ktm_world.specs.Files.{FilesNow, bytes_seen}
 use Rattle.ktm_world.specs.Tree.{Tree}
 use Rattle.txf_calls.specs.declared.call.FileCall.{FileCall}

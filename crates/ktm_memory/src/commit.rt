@@ -6,11 +6,11 @@ ghost use Rattle.ktm_event.specs.Spelling.{IsSpellableEvent};
 ghost use Rattle.ktm_memory.specs.Decided.{HoldsRecordOf};
 ghost use Rattle.ktm_memory.specs.Units.{CanBeRecorded, CanBeRecordedIf, SuitsExtent, recorded_as};
 ghost use Rattle.ktm_paged.specs.Meaning.{size_before};
-ghost use Rattle.ktm_types.specs.Sizes.{event_size};
-ghost use Rattle.ktm_types.specs.declared.change.Change.{Change as Made};
-ghost use Rattle.ktm_types.specs.declared.change.Change.TheVariants.{Put};
-ghost use Rattle.ktm_types.specs.declared.change.Contents.TheVariants.{Whole};
-ghost use Rattle.ktm_types.specs.declared.event.Event.{Event as Recorded};
+ghost use Rattle.ktm_world.specs.Sizes.{event_size};
+ghost use Rattle.ktm_world.specs.declared.change.Change.{Change as Made};
+ghost use Rattle.ktm_world.specs.declared.change.Change.TheVariants.{Put};
+ghost use Rattle.ktm_world.specs.declared.change.Contents.TheVariants.{Whole};
+ghost use Rattle.ktm_world.specs.declared.event.Event.{Event as Recorded};
 ghost use Rattle.ktm_world.specs.Decide.{events_of};
 ghost use Rattle.ktm_world.specs.Durable.{Durable};
 ghost use Rattle.ktm_world.specs.Tree.{Tree};
@@ -18,7 +18,7 @@ ghost use Rattle.ktm_world.specs.Tree.{Tree};
 use crate::extent::Extent;
 use ktm_content::Placed;
 use ktm_event::Events;
-use ktm_types::{Change, Contents, Event};
+use ktm_world::{Change, Contents, Event};
 use txf_calls::Plan;
 
 // The change of the event of a plain call.

@@ -5,7 +5,7 @@ ghost use Rattle.ktm_memory.specs.Memory.{CanGoOn, IsReleased, Settles, SettlesW
 ghost use Rattle.ktm_memory.specs.Rules.{KeepRules};
 ghost use Rattle.ktm_tm.specs.Courses.{caller_of};
 ghost use Rattle.ktm_trace.specs.Recordings.{durable_caller, recording_of};
-ghost use Rattle.ktm_types.specs.declared.reply.Reply.TheVariants.{Done};
+ghost use Rattle.ktm_world.specs.declared.reply.Reply.TheVariants.{Done};
 ghost use Rattle.ktm_world.specs.Enlistments.{Enlistment as Caller, id_of, superior_of};
 ghost use Rattle.ktm_world.specs.Keys.{own_settings, stored_all, without_own};
 ghost use Rattle.ktm_world.specs.Present.{Present};
@@ -23,7 +23,7 @@ use ktm_course::{commits, is_undecided, records_files};
 use ktm_participant::finish;
 use ktm_phase::step;
 use ktm_trace::Recording;
-use ktm_types::{PhaseInput, Seen, Step, Transaction};
+use ktm_world::{PhaseInput, Seen, Step, Transaction};
 use kv_rm::KvRm;
 use txf_volume::Files;
 

@@ -10,7 +10,7 @@ ghost use Rattle.ktm_memory.specs.Routed.{outcome_of, AreReady, IsActiveCaller, 
 ghost use Rattle.ktm_slots.specs.Slots.{granted_in};
 ghost use Rattle.ktm_memory.specs.Takes.{labels_take_memory, routed_takes_memory};
 ghost use Rattle.ktm_memory.specs.declared.routed.Routed.TheVariants.{Create, Handles as OfLabels};
-ghost use Rattle.ktm_types.specs.Sizes.{event_size};
+ghost use Rattle.ktm_world.specs.Sizes.{event_size};
 ghost use Rattle.ktm_world.specs.Decide.{of_keys};
 ghost use Rattle.ktm_world.specs.Handles.{object_at};
 ghost use Rattle.ktm_world.specs.Outcome.{first_refusal, refuse_or};
@@ -26,7 +26,7 @@ use crate::undone::record_undone;
 use ktm_base::{Id, Label, NoMemory, ObjectKind, Pid, Refusal, guid};
 use ktm_event::Events;
 use ktm_tm::state_of;
-use ktm_types::{Reply, Transaction};
+use ktm_world::{Reply, Transaction};
 use kv_rm::KvCall;
 use std::alloc::Global;
 use txf_calls::FileCall;

@@ -11,7 +11,7 @@ ghost use Rattle.ktm_memory.specs.Rules.{KeepsRules};
 ghost use Rattle.ktm_memory.specs.Routed.{IsReadyCourse, course_to, outcome_of, reply_to};
 ghost use Rattle.ktm_memory.specs.declared.routed.Routed.TheVariants.{Course as OfCourse};
 ghost use Rattle.ktm_tm.specs.Courses.{caller_of};
-ghost use Rattle.ktm_types.specs.Sizes.{event_size};
+ghost use Rattle.ktm_world.specs.Sizes.{event_size};
 ghost use Rattle.ktm_world.specs.Enlistments.{is_durable_at, superior_of};
 ghost use Rattle.ktm_world.specs.Files.{own_changes};
 ghost use Rattle.ktm_world.specs.Phases.{Course};
@@ -27,7 +27,7 @@ use ktm_phase::{Enlistment, step};
 use ktm_standing::law_of_kept as law_of_kept_worlds;
 use ktm_steps::law_of_events_ahead;
 use ktm_trace::{law_of_few, law_of_kept};
-use ktm_types::{PhaseInput, Reply, Seen, Step, Transaction};
+use ktm_world::{PhaseInput, Reply, Seen, Step, Transaction};
 
 // Has a transaction committed at once where that is asked.
 fn commits_at_once(seen: &Seen) -> bool

@@ -15,7 +15,7 @@ ghost use Rattle.ktm_world.specs.Transactions.{transaction_at};
 use crate::memory::Memory;
 use crate::settlement::{Decision, Settlement};
 use ktm_base::{Id, Label, NoMemory, ObjectKind, Pid, Refusal, guid};
-use ktm_types::{EnlistmentKind, Reply};
+use ktm_world::{EnlistmentKind, Reply};
 use std::alloc::Global;
 
 impl Memory {

@@ -9,7 +9,7 @@ ghost use Rattle.ktm_memory.specs.Routed.{IsActiveCaller, IsFreeLabel, IsReadyCa
 ghost use Rattle.ktm_memory.specs.Opening.{files_outcome};
 ghost use Rattle.ktm_memory.specs.declared.routed.Routed.TheVariants.{Files as OfFiles};
 ghost use Rattle.ktm_memory.specs.Takes.{files_take_memory, is_quiet};
-ghost use Rattle.ktm_types.specs.Sizes.{event_size};
+ghost use Rattle.ktm_world.specs.Sizes.{event_size};
 ghost use Rattle.ktm_world.specs.Decide.{events_of};
 ghost use Rattle.ktm_world.specs.Uses.{file_room, key_room};
 ghost use Rattle.ktm_memory.specs.Rules.{CallPutsBy, KeepsRules};
@@ -28,7 +28,7 @@ use crate::settlement::{Decision, Labels, Settlement};
 use ktm_base::{Id, Label, NoMemory, Pid};
 use ktm_event::Events;
 use ktm_standing::law_of_files;
-use ktm_types::{Object, Reply};
+use ktm_world::{Object, Reply};
 use kv_rm::Room as KeyRoom;
 use std::alloc::Global;
 use std::mem::replace;

@@ -22,3 +22,4 @@ pub use extent::Extent;
 pub use memory::Memory;
 pub use routed::Routed;
 pub use settlement::{Decision, Labels, Settlement};
+pub use txf_volume::Written;

@@ -2,7 +2,7 @@
 ghost use Rattle.std.specs.Prelude.{◌≡◌, ◌+◌, ◌≤◌, true, false, None, [], IfOk, IsOk, OnErr, is_some, length, option_map, sum_by};
 ghost use Rattle.ktm_base.specs.declared.id.ObjectKind.{ObjectKind};
 ghost use Rattle.ktm_base.specs.Guid.{guid_of};
-ghost use Rattle.ktm_types.specs.declared.reply.Reply.TheVariants.{Notification};
+ghost use Rattle.ktm_world.specs.declared.reply.Reply.TheVariants.{Notification};
 ghost use Rattle.ktm_standing.specs.Standing.{IsStandingNow};
 ghost use Rattle.ktm_event.specs.Kept.{EventsState, Holds};
 ghost use Rattle.ktm_memory.specs.Decided.{Decides};
@@ -12,8 +12,8 @@ ghost use Rattle.ktm_memory.specs.Takes.{routed_takes_memory};
 ghost use Rattle.ktm_memory.specs.declared.routed.Routed.TheVariants.{MakeManager, Recover as Recovery, Take as Taking};
 ghost use Rattle.ktm_event.specs.Spelling.{IsSpellableEvent};
 ghost use Rattle.ktm_memory.specs.Decided.{manager_events};
-ghost use Rattle.ktm_types.specs.declared.event.Event.{Event as Recorded};
-ghost use Rattle.ktm_types.specs.Sizes.{event_size};
+ghost use Rattle.ktm_world.specs.declared.event.Event.{Event as Recorded};
+ghost use Rattle.ktm_world.specs.Sizes.{event_size};
 ghost use Rattle.ktm_world.specs.Enlistments.{manager_at};
 ghost use Rattle.ktm_world.specs.Handles.{object_at};
 ghost use Rattle.ktm_world.specs.TransactionCalls.{is_durable, recover_notes};
@@ -23,7 +23,7 @@ use crate::settle::is_durable;
 use crate::settlement::{Decision, Settlement};
 use ktm_base::{Id, Label, NoMemory, Notify, ObjectKind, Pid, Refusal, guid};
 use ktm_event::Events;
-use ktm_types::{Durability, Event, Reply};
+use ktm_world::{Durability, Event, Reply};
 
 // Records that a durable resource manager is made; a volatile one is not recorded.
 fn record_manager(events: &mut Events, manager: Id, durability: Durability)

@@ -21,7 +21,7 @@ use ktm_course::records_files;
 use ktm_event::{FilePages, WrittenFiles};
 use ktm_steps::law_of_events_ahead;
 use ktm_store::Store;
-use ktm_types::{Change, Contents};
+use ktm_world::{Change, Contents};
 use txf_calls::Volume;
 
 // The pages of contents are wanted.

@@ -6,8 +6,8 @@ ghost use Rattle.ktm_journal.specs.Compact.{CompactLeaves};
 ghost use Rattle.ktm_journal.specs.Image.{IsHeaded};
 ghost use Rattle.ktm_log.specs.OnDisk.{on};
 ghost use Rattle.ktm_memory.specs.Recorded.{RecordingLeaves};
-ghost use Rattle.ktm_types.specs.Groups.{Group};
-ghost use Rattle.ktm_types.specs.Sizes.{area_len};
+ghost use Rattle.ktm_world.specs.Groups.{Group};
+ghost use Rattle.ktm_world.specs.Sizes.{area_len};
 
 use crate::memory::Memory;
 use ktm_base::{Disk, Down};

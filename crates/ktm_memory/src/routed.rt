@@ -3,7 +3,7 @@ use crate::extent::Extent;
 use crate::settlement::Labels;
 use ktm_base::{Bytes, Id, Label};
 use ktm_content::Placed;
-use ktm_types::{Durability, EnlistmentKind, PhaseInput, Transaction};
+use ktm_world::{Durability, EnlistmentKind, PhaseInput, Transaction};
 use kv_rm::KvCall;
 use txf_calls::FileCall;
 use txf_opens::OpenFile;

@@ -1,11 +1,11 @@
 // What is left to do once a command is decided.
 ghost use Rattle.std.specs.Prelude.{◌≡◌};
 ghost use Rattle.ktm_memory.specs.declared.settlement.Settlement.TheVariants.{Nothing};
-ghost use Rattle.ktm_types.specs.declared.reply.Reply.TheVariants.{Done};
+ghost use Rattle.ktm_world.specs.declared.reply.Reply.TheVariants.{Done};
 
 use ktm_base::{Bytes, Id, Label, Pid};
 use ktm_phase::Steps;
-use ktm_types::{Durability, EnlistmentKind, Object, Reply, Transaction};
+use ktm_world::{Durability, EnlistmentKind, Object, Reply, Transaction};
 use txf_calls::Plan;
 use txf_volume::Ready;
 

@@ -4,15 +4,15 @@ ghost use Rattle.std.specs.List.{flat_map};
 ghost use Rattle.ktm_standing.specs.Effects.{undo_of};
 ghost use Rattle.ktm_event.specs.Kept.{Holds};
 ghost use Rattle.ktm_event.specs.Spelling.{IsSpellableEvent};
-ghost use Rattle.ktm_types.specs.Sizes.{event_size};
-ghost use Rattle.ktm_types.specs.declared.event.Event.{Event as Recorded};
+ghost use Rattle.ktm_world.specs.Sizes.{event_size};
+ghost use Rattle.ktm_world.specs.declared.event.Event.{Event as Recorded};
 ghost use Rattle.ktm_world.specs.TransactionCalls.{is_due, later};
 ghost use Rattle.ktm_world.specs.Transactions.{is_live};
 
 use ktm_base::Id;
 use ktm_event::Events;
 use ktm_tm::Tm;
-use ktm_types::{Event, Transaction};
+use ktm_world::{Event, Transaction};
 
 // Is it recorded that the transaction rolls back, so many milliseconds later.
 fn is_undone(tm: &Tm, ms: u32, t: &Transaction) -> bool

@@ -12,7 +12,7 @@ use Rattle.ktm_links.specs.Mapped.{NamedItem, key_under}
 use Rattle.ktm_links.specs.Indexed.{values_of, AreNamed, IsIndex}
 use Rattle.ktm_links.proofs.offered.Indexes.{named_at}
 use Rattle.ktm_links.proofs.offered.Keys.{on_some, same_key-true, same_key-self}
-use Rattle.ktm_types.specs.declared.object.Handle.{Handle}
+use Rattle.ktm_world.specs.declared.object.Handle.{Handle}
 use Rattle.ktm_object.specs.Table.{handle_at}
 use Rattle.ktm_object.specs.Names.{label_bytes, label_name}
 use Rattle.ktm_object.proofs.Labels.{is_handle-from, is_handle-to}

@@ -13,7 +13,7 @@ use Rattle.ktm_links.specs.Mapped.{NamedItem, Begins, IsNotBelow, key_under}
 use Rattle.ktm_links.specs.Indexed.{values_of, AreDistinct, AreNamed, IsIndex, IsFirstUnder, IsNoneUnder}
 use Rattle.ktm_links.proofs.offered.Indexes.{value_at-gone}
 use Rattle.ktm_links.proofs.offered.Keys.{same_key-true}
-use Rattle.ktm_types.specs.declared.object.Handle.{Handle}
+use Rattle.ktm_world.specs.declared.object.Handle.{Handle}
 use Rattle.ktm_object.specs.Names.{label_bytes, label_name}
 use Rattle.ktm_object.proofs.Closing.{TellsKey, tells, values_of-without}
 use Rattle.ktm_object.proofs.Labels.{handle_at-index, object_at-entry}

@@ -9,7 +9,7 @@ use Rattle.ktm_links.specs.Items.{Item}
 use Rattle.ktm_links.specs.Mapped.{NamedItem, key_at, key_under}
 use Rattle.ktm_links.specs.Indexed.{values_of, IsIndex}
 use Rattle.ktm_links.proofs.offered.Indexes.{key_at-free, named_at, option_cases}
-use Rattle.ktm_types.specs.declared.object.Handle.{Handle}
+use Rattle.ktm_world.specs.declared.object.Handle.{Handle}
 use Rattle.ktm_object.specs.declared.name.Owner.{Owner}
 use Rattle.ktm_object.specs.Names.{label_bytes, label_name, owner_bytes}
 use Rattle.ktm_object.proofs.Labels.{owner_tells, handle_at-index, object_at-entry}

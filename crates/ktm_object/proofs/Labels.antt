@@ -12,7 +12,7 @@ use Rattle.ktm_links.specs.Items.{Item, same_key, value_at}
 use Rattle.ktm_links.specs.Mapped.{NamedItem, key_under}
 use Rattle.ktm_links.specs.Indexed.{values_of, AreNamed, IsIndex}
 use Rattle.ktm_links.proofs.offered.Keys.{same_key-self}
-use Rattle.ktm_types.specs.declared.object.Handle.{Handle}
+use Rattle.ktm_world.specs.declared.object.Handle.{Handle}
 use Rattle.ktm_object.specs.Table.{handle_at}
 use Rattle.ktm_object.specs.declared.name.Owner.{Owner}
 use Rattle.ktm_object.specs.Names.{label_bytes, label_name, owner_bytes}

@@ -4,15 +4,15 @@ use Rattle.std.specs.Prelude.{IfSome, IfNone}
 use Rattle.std.proofs.lemmas.Bool.{cases_Bool, and_parts, and_from, eqb-true, eq-eqb}
 use Rattle.std.proofs.lemmas.Option.{same_Some}
 use Rattle.ktm_base.specs.declared.id.Id.{Id}
-use Rattle.ktm_types.specs.declared.object.Object.{Object}
-use Rattle.ktm_types.specs.declared.object.Object.TheVariants.{Transaction, Manager, Enlistment, File}
+use Rattle.ktm_world.specs.declared.object.Object.{Object}
+use Rattle.ktm_world.specs.declared.object.Object.TheVariants.{Transaction, Manager, Enlistment, File}
 use Rattle.ktm_world.specs.HandleCalls.{has_handle, same_object}
 use Rattle.ktm_world.specs.Transactions.{same_id}
 use Rattle.ktm_links.specs.declared.list.Key.{Key}
 use Rattle.ktm_links.specs.Items.{Item, same_key, value_at}
 use Rattle.ktm_links.specs.Mapped.{NamedItem, Begins}
 use Rattle.ktm_links.specs.Indexed.{values_of, AreNamed, IsIndex, IsFirstUnder, IsNoneUnder}
-use Rattle.ktm_types.specs.declared.object.Handle.{Handle}
+use Rattle.ktm_world.specs.declared.object.Handle.{Handle}
 use Rattle.ktm_object.specs.declared.name.Owner.{Owner}
 use Rattle.ktm_object.specs.Names.{label_name, object_name, object_owner, owner_bytes}
 use Rattle.ktm_links.proofs.offered.Numbers.{number_from}

@@ -4,7 +4,7 @@ use Rattle.ktm_links.specs.declared.list.Key.{Key}
 use Rattle.ktm_links.specs.Items.{Listed}
 use Rattle.ktm_links.specs.Mapped.{Mapped}
 use Rattle.ktm_links.specs.Indexed.{AreDistinct, IsIndex}
-use Rattle.ktm_types.specs.declared.object.Handle.{Handle}
+use Rattle.ktm_world.specs.declared.object.Handle.{Handle}
 use Rattle.ktm_object.specs.Names.{label_name, object_name}
 
 -- the two maps stand for the handles, and no key of one was given out without one of each other

@@ -3,8 +3,8 @@ use Rattle.std.specs.Prelude.{ℕ, not, List, [], ◌∷◌, Option, Some, None,
 use Rattle.std.specs.Option.{option_map}
 use Rattle.ktm_base.specs.declared.id.Label.{Label}
 use Rattle.ktm_base.specs.declared.id.Pid.{Pid}
-use Rattle.ktm_types.specs.declared.object.Handle.{Handle}
-use Rattle.ktm_types.specs.declared.object.Object.{Object}
+use Rattle.ktm_world.specs.declared.object.Handle.{Handle}
+use Rattle.ktm_world.specs.declared.object.Object.{Object}
 use Rattle.ktm_world.specs.Handles.{object_at}
 use Rattle.ktm_world.specs.HandleCalls.{has_handle, is_handle, without_handle}
 use Rattle.ktm_object.specs.declared.closed.Closed.{Closed}

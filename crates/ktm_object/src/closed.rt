@@ -1,6 +1,6 @@
 // What is told of a handle that is gone.
 use ktm_base::Label;
-use ktm_types::Object;
+use ktm_world::Object;
 
 /// A handle that is gone: what it named, and whether no other handle names that.
 #[derive(Clone, Copy)]

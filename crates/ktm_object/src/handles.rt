@@ -10,7 +10,7 @@ use crate::closed::Closed;
 use crate::name::{LabelName, OwnerName, label_bytes, object_owner, owner_bytes, owner_name};
 use ktm_base::{Label, MOST_HANDLES, NoMemory, Pid};
 use ktm_links::{Chains, Key, List, first_under, key_under};
-use ktm_types::{Handle, Object};
+use ktm_world::{Handle, Object};
 use std::alloc::Global;
 use std::marker::Model;
 

@@ -3,7 +3,7 @@ ghost use Rattle.std.specs.Prelude.{◌≡◌, []};
 ghost use Rattle.ktm_object.specs.Names.{label_bytes, owner_bytes, object_owner};
 
 use ktm_base::{Label, Pid};
-use ktm_types::Object;
+use ktm_world::Object;
 
 /// The name of a handle by its label: the process, and then the label.
 pub(crate) type LabelName = [u8; 3];

@@ -3,8 +3,8 @@ use Rattle.std.proofs.Common.{◌++◌, ◌∙◌, ◌≡◌, not, true, List, [
 use Rattle.ktm_base.specs.declared.id.Id.{Id}
 use Rattle.ktm_base.specs.declared.id.Label.{Label}
 use Rattle.ktm_base.specs.declared.id.Pid.{Pid}
-use Rattle.ktm_types.specs.declared.object.Object.{Object}
-use Rattle.ktm_types.specs.declared.reply.Reply.{Reply}
+use Rattle.ktm_world.specs.declared.object.Object.{Object}
+use Rattle.ktm_world.specs.declared.reply.Reply.{Reply}
 use Rattle.ktm_world.specs.Committed.{committed_with}
 use Rattle.ktm_world.specs.Decide.{of_files, events_of}
 use Rattle.ktm_world.specs.FileOutcome.{FileOutcome, works_of, openings_of, own_after, next_node_after, with_open, table_after}
@@ -19,7 +19,7 @@ use Rattle.txf_laws.specs.Footprint.{ListsLaw}
 use Rattle.txf_laws.specs.SoundFiles.{is_undecided_in, IsSoundFiles}
 use Rattle.txf_laws.proofs.offered.Elements.{list_any-at, list_any-from, filter-true}
 use Rattle.std.proofs.lemmas.List.{append-nil}
-use Rattle.ktm_types.specs.declared.object.Handle.{Handle}
+use Rattle.ktm_world.specs.declared.object.Handle.{Handle}
 use Rattle.ktm_world.specs.Durable.{after_events}
 use Rattle.txf_laws.specs.Formed.{FormedLaw}
 use Rattle.txf_laws.proofs.offered.Reservations.{named}

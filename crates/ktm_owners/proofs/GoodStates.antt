@@ -6,9 +6,9 @@ use Rattle.std.proofs.lemmas.List.Elements.{All-cons, All-nil}
 use Rattle.ktm_owners.proofs.OwningStates.{AllStartAtBegin, StartsAtBegin}
 use Rattle.ktm_owners.proofs.Singles.{ends-begin}
 use Rattle.ktm_paged.proofs.offered.LyingStates.{All-left, All-right, recorded-form}
-use Rattle.ktm_states.specs.GoodState.{IsGoodState, are_kept_changes}
-use Rattle.ktm_states.proofs.offered.WaitingChanges.{no_changes-left, no_changes_part}
-use Rattle.ktm_types.specs.declared.recorded.RecordedPart.{RecordedPart}
+use Rattle.txf_laws.specs.GoodState.{IsGoodState, are_kept_changes}
+use Rattle.txf_laws.proofs.offered.WaitingChanges.{no_changes-left, no_changes_part}
+use Rattle.ktm_world.specs.declared.recorded.RecordedPart.{RecordedPart}
 use Rattle.ktm_world.specs.Changes.{has_changes}
 use Rattle.ktm_world.specs.Durable.{Durable, Recorded, are_recorded_changes, changes_in, changes_of, has_changes_part, is_decided}
 use Rattle.txf_laws.specs.Elements.{IsIn}

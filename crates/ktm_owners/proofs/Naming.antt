@@ -10,13 +10,13 @@ use Rattle.ktm_owners.specs.declared.owners.Named.{Named}
 use Rattle.ktm_owners.specs.declared.owners.Owner.{Owner}
 use Rattle.ktm_owners.specs.Owners.{AreAllNamedBy, AreNamedBy, AreNamedInTurn, BeginsUnit, byte_with, named_from}
 use Rattle.ktm_owners.proofs.Owning.{IsAmong, IsKnownOrNamed}
-use Rattle.ktm_states.specs.Grammatical.{changes_of_event}
-use Rattle.ktm_types.specs.declared.change.Change.{Change}
-use Rattle.ktm_types.specs.declared.change.Change.TheVariants.{Make, Put, Cut, Move, Drop}
-use Rattle.ktm_types.specs.declared.event.Event.{Event}
+use Rattle.txf_laws.specs.Grammatical.{changes_of_event}
+use Rattle.ktm_world.specs.declared.change.Change.{Change}
+use Rattle.ktm_world.specs.declared.change.Change.TheVariants.{Make, Put, Cut, Move, Drop}
+use Rattle.ktm_world.specs.declared.event.Event.{Event}
 use Rattle.ktm_world.specs.Changes.{bytes_in}
 use Rattle.ktm_world.specs.Durable.{Durable, after_event, changes_in}
-use Rattle.ktm_types.specs.declared.recorded.RecordedPart.{RecordedPart}
+use Rattle.ktm_world.specs.declared.recorded.RecordedPart.{RecordedPart}
 use Rattle.ktm_world.specs.Tree.{bytes_or_none}
 use Rattle.txf_laws.specs.Elements.{IsIn}
 use Rattle.txf_laws.proofs.offered.CommitsOfOthers.{All-in}

@@ -9,10 +9,10 @@ use Rattle.ktm_owners.specs.declared.owners.Named.{Named}
 use Rattle.ktm_owners.specs.declared.owners.Owner.{Owner}
 use Rattle.ktm_owners.specs.Owners.{AreThere, all_given, byte_with, has_unit, is_still_on, parts_put, puts_unit}
 use Rattle.ktm_owners.proofs.Owning.{IsKnownOrNamed, contents-all-given}
-use Rattle.ktm_types.specs.declared.change.Change.{Change}
-use Rattle.ktm_types.specs.declared.change.Change.TheVariants.{Make, Put, Cut, Move, Drop}
-use Rattle.ktm_types.specs.declared.recorded.Node.{Node}
-use Rattle.ktm_types.specs.declared.recorded.RecordedPart.{RecordedPart}
+use Rattle.ktm_world.specs.declared.change.Change.{Change}
+use Rattle.ktm_world.specs.declared.change.Change.TheVariants.{Make, Put, Cut, Move, Drop}
+use Rattle.ktm_world.specs.declared.recorded.Node.{Node}
+use Rattle.ktm_world.specs.declared.recorded.RecordedPart.{RecordedPart}
 use Rattle.ktm_world.specs.Changes.{bytes_in}
 use Rattle.ktm_world.specs.Durable.{Durable, Recorded, changes_in}
 use Rattle.ktm_world.specs.Tree.{Tree, bytes_of, bytes_or_none, content_of, node_at}

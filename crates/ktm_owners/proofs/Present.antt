@@ -11,16 +11,16 @@ use Rattle.ktm_owners.specs.declared.owners.Named.{Named}
 use Rattle.ktm_owners.specs.declared.owners.Owner.{Owner}
 use Rattle.ktm_owners.specs.Owners.{AreAllNamedBy, AreNamedBy, BeginsUnit, has_unit, is_still_on, named_from, parts_put, puts_unit}
 use Rattle.ktm_owners.proofs.OwningStates.{StartsAtBegin}
-use Rattle.ktm_types.specs.declared.change.Change.{Change}
-use Rattle.ktm_types.specs.declared.change.Change.TheVariants.{Make, Put, Cut, Move, Drop}
-use Rattle.ktm_types.specs.declared.change.Contents.{Contents}
-use Rattle.ktm_types.specs.declared.event.Event.TheVariants.{Plain, Ready}
-use Rattle.ktm_types.specs.declared.event.Part.{Part}
-use Rattle.ktm_types.specs.declared.recorded.RecordedPart.{RecordedPart}
+use Rattle.ktm_world.specs.declared.change.Change.{Change}
+use Rattle.ktm_world.specs.declared.change.Change.TheVariants.{Make, Put, Cut, Move, Drop}
+use Rattle.ktm_world.specs.declared.change.Contents.{Contents}
+use Rattle.ktm_world.specs.declared.event.Event.TheVariants.{Plain, Ready}
+use Rattle.ktm_world.specs.declared.event.Part.{Part}
+use Rattle.ktm_world.specs.declared.recorded.RecordedPart.{RecordedPart}
 use Rattle.txf_laws.specs.Elements.{IsIn}
 use Rattle.txf_laws.proofs.offered.Elements.{list_any-from}
 use Rattle.txf_laws.proofs.offered.Tables.{IsIn-with_recorded-itself}
-use Rattle.ktm_types.specs.declared.recorded.Node.{Node}
+use Rattle.ktm_world.specs.declared.recorded.Node.{Node}
 use Rattle.ktm_world.specs.Changes.{applies, bytes_in, changed, is_whole}
 use Rattle.ktm_world.specs.Durable.{Durable, Recorded, after_event, changes_in, recorded_or_new}
 use Rattle.ktm_world.specs.Tree.{Tree, bytes_of, bytes_or_none, content_of, is_file, node_at, put_over}

@@ -10,9 +10,9 @@ use Rattle.ktm_paged.specs.Paged.{IsApart, IsOwned}
 use Rattle.ktm_owners.specs.declared.owners.Named.{Named}
 use Rattle.ktm_owners.specs.declared.owners.Owner.{Owner}
 use Rattle.ktm_owners.specs.Owners.{all_given, has_unit, is_same_unit, is_still_on, may_give, owner_at, parts_put, puts_unit}
-use Rattle.ktm_types.specs.declared.change.Change.{Change}
-use Rattle.ktm_types.specs.declared.change.Change.TheVariants.{Make, Put, Cut, Move, Drop}
-use Rattle.ktm_types.specs.declared.recorded.RecordedPart.{RecordedPart}
+use Rattle.ktm_world.specs.declared.change.Change.{Change}
+use Rattle.ktm_world.specs.declared.change.Change.TheVariants.{Make, Put, Cut, Move, Drop}
+use Rattle.ktm_world.specs.declared.recorded.RecordedPart.{RecordedPart}
 use Rattle.ktm_world.specs.Changes.{bytes_in}
 use Rattle.ktm_world.specs.Durable.{Durable, changes_in}
 use Rattle.ktm_world.specs.Tree.{bytes_of}

@@ -10,9 +10,9 @@ use Rattle.ktm_owners.specs.Owners.{AreAllNamedBy, AreNamedBy, has_unit}
 use Rattle.ktm_owners.proofs.Committing.{final-there}
 use Rattle.ktm_owners.proofs.OwningStates.{StartsAtBegin}
 use Rattle.ktm_owners.proofs.Present.{IsPresent, from-units}
-use Rattle.ktm_types.specs.declared.change.Change.{Change}
-use Rattle.ktm_types.specs.declared.change.Change.TheVariants.{Make, Put, Cut, Move, Drop}
-use Rattle.ktm_types.specs.declared.change.Contents.{Contents}
+use Rattle.ktm_world.specs.declared.change.Change.{Change}
+use Rattle.ktm_world.specs.declared.change.Change.TheVariants.{Make, Put, Cut, Move, Drop}
+use Rattle.ktm_world.specs.declared.change.Contents.{Contents}
 use Rattle.ktm_world.specs.Changes.{applies, bytes_in, changed, changed_all, changes_apply}
 use Rattle.ktm_world.specs.Durable.{Durable, are_final_bytes, ends_in_bytes, was_cut}
 use Rattle.ktm_world.specs.Tree.{Tree, bytes_of}

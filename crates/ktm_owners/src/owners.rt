@@ -6,7 +6,7 @@ ghost use Rattle.ktm_owners.specs.Owners.{AreAllNamedBy, AreNamedBy, is_same_uni
 
 use ktm_base::{NoMemory, UNIT_BYTES};
 use ktm_content::PlacedRef;
-use ktm_types::{Change, Contents};
+use ktm_world::{Change, Contents};
 use std::alloc::Global;
 use std::marker::Model;
 

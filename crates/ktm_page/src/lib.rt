@@ -4,5 +4,6 @@
 mod row;
 mod space;
 
+pub use ktm_base::{NoMemory, PageList, UNIT_BYTES};
 pub use row::PageIo;
 pub use space::PageSpace;

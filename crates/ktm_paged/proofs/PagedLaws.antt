@@ -1,11 +1,11 @@
 -- What is recorded with pages comes to.
 use Rattle.std.proofs.Common.{◌≡◌, ℕ, true, List}
-use Rattle.ktm_types.specs.declared.event.Event.{Event}
+use Rattle.ktm_world.specs.declared.event.Event.{Event}
 use Rattle.ktm_content.specs.Places.{byte_at}
 use Rattle.ktm_world.specs.Durable.{Durable}
-use Rattle.ktm_states.specs.GoodState.{IsGoodState}
-use Rattle.ktm_states.specs.GoodStates.{GoodStatesLaw}
-use Rattle.ktm_states.specs.Grammatical.{is_grammatical}
+use Rattle.txf_laws.specs.GoodState.{IsGoodState}
+use Rattle.txf_laws.specs.GoodStates.{GoodStatesLaw}
+use Rattle.txf_laws.specs.Grammatical.{is_grammatical}
 use Rattle.ktm_paged.specs.Laws.{ChangesOfBytes, GroupsInBytes, MeantChanges, MeantLogs, MeantUnits, PagedLaw, RowsSeen, StatesApart, StatesBelow, StatesGood}
 use Rattle.ktm_paged.specs.Meaning.{meant_event}
 use Rattle.ktm_paged.specs.Paged.{PagedApplies, paged_after}

@@ -1,8 +1,8 @@
 -- What is recorded with pages, as it is in bytes.
 use Rattle.std.specs.Prelude.{◌≡◌, ◌⊎◌, ℕ, List, [], ◌∷◌, ⊤}
-use Rattle.ktm_types.specs.declared.change.Change.{Change}
-use Rattle.ktm_types.specs.declared.event.Event.{Event}
-use Rattle.ktm_types.specs.declared.event.Event.TheVariants.{Plain}
+use Rattle.ktm_world.specs.declared.change.Change.{Change}
+use Rattle.ktm_world.specs.declared.event.Event.{Event}
+use Rattle.ktm_world.specs.declared.event.Event.TheVariants.{Plain}
 use Rattle.ktm_content.specs.Places.{byte_at}
 use Rattle.ktm_world.specs.Changes.{node_of}
 use Rattle.ktm_world.specs.Durable.{Durable}

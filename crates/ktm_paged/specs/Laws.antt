@@ -2,17 +2,17 @@
 use Rattle.std.specs.Prelude.{◌≡◌, ◌≢◌, ℕ, ◌+◌, ◌*◌, ◌/◌, ◌^◌, ◌<◌, ◌≤◌, true, List, [], length, map, All}
 use Rattle.std.specs.List.{list_all}
 use Rattle.ktm_base.specs.declared.limits.TheConstants.{UNIT_BYTES}
-use Rattle.ktm_types.specs.declared.change.Change.{Change}
-use Rattle.ktm_types.specs.declared.change.Change.TheVariants.{Put, Cut}
-use Rattle.ktm_types.specs.declared.change.Contents.TheVariants.{Whole, Paged}
-use Rattle.ktm_types.specs.declared.event.Event.{Event}
+use Rattle.ktm_world.specs.declared.change.Change.{Change}
+use Rattle.ktm_world.specs.declared.change.Change.TheVariants.{Put, Cut}
+use Rattle.ktm_world.specs.declared.change.Contents.TheVariants.{Whole, Paged}
+use Rattle.ktm_world.specs.declared.event.Event.{Event}
 use Rattle.ktm_content.specs.Places.{LieOn, byte_at, places_on}
 use Rattle.ktm_world.specs.Changes.{node_of}
 use Rattle.ktm_world.specs.Durable.{Durable, after_event, after_events, ends_in_bytes, event_applies, events_apply, log_applies, stand}
 use Rattle.ktm_world.specs.Logs.{Group}
 use Rattle.ktm_world.specs.Tree.{Tree, cut_to, numbers_rise, put_over}
-use Rattle.ktm_states.specs.GoodState.{IsGoodState}
-use Rattle.ktm_states.specs.Grammatical.{is_grammatical}
+use Rattle.txf_laws.specs.GoodState.{IsGoodState}
+use Rattle.txf_laws.specs.Grammatical.{is_grammatical}
 use Rattle.ktm_mapped.specs.Mapped.{mapped_durable}
 use Rattle.ktm_replaced.specs.Replaced.{AreAlike, takes_no_pages}
 use Rattle.ktm_each.specs.Each.{EachFrom, EachOfDurable, EachOfEvent}

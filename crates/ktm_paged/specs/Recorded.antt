@@ -1,12 +1,12 @@
 -- Groups as they are recorded with pages, and what they mean.
 use Rattle.std.specs.Prelude.{◌≡◌, ℕ, ◌≤◌, true, List, [], ◌∷◌, map, sum_by, All, ⊤}
 use Rattle.std.specs.List.{list_all}
-use Rattle.ktm_types.specs.Sizes.{event_size}
-use Rattle.ktm_types.specs.declared.change.Change.{Change}
-use Rattle.ktm_types.specs.declared.event.Event.TheVariants.{Plain}
-use Rattle.ktm_types.specs.declared.step.Step.{Step}
+use Rattle.ktm_world.specs.Sizes.{event_size}
+use Rattle.ktm_world.specs.declared.change.Change.{Change}
+use Rattle.ktm_world.specs.declared.event.Event.TheVariants.{Plain}
+use Rattle.ktm_world.specs.declared.step.Step.{Step}
 use Rattle.txf_laws.specs.Contents.{puts_some}
-use Rattle.ktm_states.specs.Grammatical.{changes_of_event, is_grammatical}
+use Rattle.txf_laws.specs.Grammatical.{changes_of_event, is_grammatical}
 use Rattle.ktm_world.specs.Durable.{Durable, events_apply}
 use Rattle.ktm_world.specs.Logs.{Group}
 use Rattle.ktm_world.specs.Steps.{Basis, events_ahead}

@@ -2,7 +2,7 @@
 ghost use Rattle.ktm_paged.specs.Laws.{PagedLaw};
 ghost use Rattle.ktm_paged.specs.Recorded.{RecordsLaw};
 
-use ktm_states::law_of_good_states;
+use txf_laws::law_of_good_states;
 
 /// What is recorded with pages comes to what the model's events come to, over the places of bytes and over the bytes there; contents go
 /// on to lie on the pages that there are, apart.

@@ -1,12 +1,12 @@
 // What a change means that is recorded with pages.
 ghost use Rattle.std.specs.Prelude.{◌≡◌, ◌*◌, ◌≤◌, ◌==◌, Some, None, length, if◌then◌else◌};
-ghost use Rattle.ktm_types.specs.declared.change.Change.TheVariants.{Put, Cut};
-ghost use Rattle.ktm_types.specs.declared.change.Contents.TheVariants.{Paged};
+ghost use Rattle.ktm_world.specs.declared.change.Change.TheVariants.{Put, Cut};
+ghost use Rattle.ktm_world.specs.declared.change.Contents.TheVariants.{Paged};
 ghost use Rattle.ktm_paged.specs.Meaning.{meant_if_paged, pages_in, put_on, units_from};
 
 use ktm_base::{PageList, UNIT_BYTES};
 use ktm_content::{Content, Placed};
-use ktm_types::{Change, Contents};
+use ktm_world::{Change, Contents};
 
 // The bytes on pages are put from the begin of a unit up to an end, if there is a page for each unit.
 fn put_on_pages(node: u64, unit: u64, end: u64, pages: PageList) -> Option<Change>

@@ -3,10 +3,10 @@ use Rattle.std.specs.Prelude.{◌≡◌, Bool, List, Option, Some, None, Result,
 use Rattle.ktm_base.specs.declared.id.Label.{Label}
 use Rattle.ktm_base.specs.declared.id.Pid.{Pid}
 use Rattle.ktm_base.specs.declared.refusal.Refusal.{Refusal}
-use Rattle.ktm_types.specs.declared.command.Command.{Command}
-use Rattle.ktm_types.specs.declared.object.Transaction.{Transaction}
-use Rattle.ktm_types.specs.declared.reply.Reply.TheVariants.{Done}
-use Rattle.ktm_types.specs.declared.input.PhaseInput.{PhaseInput}
+use Rattle.ktm_world.specs.declared.command.Command.{Command}
+use Rattle.ktm_world.specs.declared.object.Transaction.{Transaction}
+use Rattle.ktm_world.specs.declared.reply.Reply.TheVariants.{Done}
+use Rattle.ktm_world.specs.declared.input.PhaseInput.{PhaseInput}
 use Rattle.ktm_world.specs.Decide.{call_of}
 use Rattle.ktm_world.specs.Enlistments.{Enlistment}
 use Rattle.ktm_world.specs.Labels.{enlistment_named}

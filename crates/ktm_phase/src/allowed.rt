@@ -3,7 +3,7 @@ ghost use Rattle.std.specs.Prelude.{◌≡◌};
 ghost use Rattle.ktm_world.specs.TransactionCalls.{before_pre_prepare, before_prepare, is_voting, lets_superior_roll_back, waits_for_superior};
 ghost use Rattle.ktm_phase.specs.Replies.{is_in_doubt};
 
-use ktm_types::Phase;
+use ktm_world::Phase;
 
 /// An ordinary enlistment may still vote.
 pub fn is_voting(phase: Phase) -> bool

@@ -8,7 +8,7 @@ ghost use Rattle.ktm_phase.specs.Replies.{allows, input_of, may_set_information,
 use crate::allowed::{is_in_doubt, is_voting, lets_superior_roll_back, waits_for_superior};
 use crate::phase::if_allowed;
 use ktm_base::{Bytes, Id, Refusal};
-use ktm_types::{
+use ktm_world::{
     Answered, EnlistmentKind, Owed, Phase, PhaseInput, Share, Transaction, TransactionOutcome, Who,
 };
 use std::marker::Model;

@@ -6,7 +6,7 @@ ghost use Rattle.ktm_phase.specs.Replies.{if_allowed};
 use crate::rows;
 use arrayvec::ArrayVec;
 use ktm_base::Refusal;
-use ktm_types::{PhaseInput, Seen, Share, Step};
+use ktm_world::{PhaseInput, Seen, Share, Step};
 
 /// The steps of one call, in order.
 pub type Steps = ArrayVec<Step, 12>;

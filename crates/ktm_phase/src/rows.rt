@@ -5,7 +5,7 @@ ghost use Rattle.ktm_world.specs.Rows.{aborts, all_readies, commit_completes, co
 
 use crate::phase::{Steps, is_last, participants, without};
 use ktm_base::Notify;
-use ktm_types::{Answered, Fact, Owed, Phase, Seen, Share, Step, TransactionOutcome, Who};
+use ktm_world::{Answered, Fact, Owed, Phase, Seen, Share, Step, TransactionOutcome, Who};
 
 /// It commits.
 pub fn commit(steps: &mut Steps)

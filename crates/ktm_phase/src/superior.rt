@@ -6,7 +6,7 @@ use crate::allowed::{before_pre_prepare, before_prepare, waits_for_superior};
 use crate::enlistment::Enlistment;
 use crate::phase::if_allowed;
 use ktm_base::Refusal;
-use ktm_types::{Phase, PhaseInput};
+use ktm_world::{Phase, PhaseInput};
 
 /// A call that only a superior may make.
 #[derive(Clone, Copy)]

@@ -5,12 +5,12 @@ use Rattle.std.proofs.lemmas.Bool.{cases_Bool, and_from, and_parts, or_from, or_
 use Rattle.std.specs.List.{list_all, list_any}
 use Rattle.ktm_base.specs.declared.limits.TheConstants.{MOST_INFORMATION_BYTES}
 use Rattle.ktm_base.specs.declared.id.Id.{Id}
-use Rattle.ktm_types.specs.declared.change.Change.{Change}
-use Rattle.ktm_types.specs.declared.event.DonePart.{DonePart}
-use Rattle.ktm_types.specs.declared.event.Event.{Event}
-use Rattle.ktm_types.specs.declared.event.Part.{Part}
-use Rattle.ktm_types.specs.declared.event.Part.TheVariants.{Changes, Settings}
-use Rattle.ktm_types.specs.declared.recorded.RecordedPart.{RecordedPart}
+use Rattle.ktm_world.specs.declared.change.Change.{Change}
+use Rattle.ktm_world.specs.declared.event.DonePart.{DonePart}
+use Rattle.ktm_world.specs.declared.event.Event.{Event}
+use Rattle.ktm_world.specs.declared.event.Part.{Part}
+use Rattle.ktm_world.specs.declared.event.Part.TheVariants.{Changes, Settings}
+use Rattle.ktm_world.specs.declared.recorded.RecordedPart.{RecordedPart}
 use Rattle.ktm_world.specs.Changes.{changes_apply, is_make, node_of, has_made}
 use Rattle.ktm_world.specs.Durable.{Durable, Recorded, acts_of_all, after_event, are_recorded_changes, recorded_changes_apply, changes_of, enlistments_in, enlistments_of, has_changes_part, has_part, has_settings_part, holds_in, is_before, is_decided, is_manager, is_new_enlistment, is_new_in, is_part_of, is_ready, may_get_ready, others_waiting, part_applies, recorded_or_new, settings_apply, settings_of, superior_ids, with_recorded}
 use Rattle.ktm_world.specs.Holds.{meets}
@@ -22,7 +22,7 @@ use Rattle.txf_laws.proofs.offered.Diamonds.{IsIn-right, no_test, none-from}
 use Rattle.txf_laws.proofs.offered.Elements.{list_any-at, list_any-from}
 use Rattle.ktm_records.proofs.Facts.{awaits}
 use Rattle.txf_laws.proofs.offered.Lists.{IsIn-cases, IsIn-left}
-use Rattle.ktm_states.proofs.offered.Parts.{gathered, gathered-push, is_among-push}
+use Rattle.txf_laws.proofs.offered.Parts.{gathered, gathered-push, is_among-push}
 use Rattle.txf_laws.proofs.offered.Tables.{recorded_or_new-cases, same_id-equal, same_id-from}
 use Rattle.ktm_steps.proofs.offered.Ways.{if_cases}
 

@@ -2,13 +2,13 @@
 use Rattle.std.proofs.Common.{◌≡◌, ℕ, ◌&&◌, not, Bool, true, false, List, [], Option, Some, None, is_some, refl, sym, ◌∙◌, ap, subst, inl, inr, ◌||◌}
 use Rattle.std.proofs.lemmas.Bool.{and_left, and_parts, and_right, not-true, true≢false, false_from_ne_true, cases_Bool}
 use Rattle.std.specs.List.{list_any}
-use Rattle.ktm_types.specs.declared.event.Event.{Event}
-use Rattle.ktm_types.specs.declared.input.PhaseInput.{PhaseInput}
-use Rattle.ktm_types.specs.declared.object.Phase.{Phase}
-use Rattle.ktm_types.specs.declared.object.Phase.TheVariants.{Active, Requested, PrePreparing, PrePrepared, Preparing, SinglePhase}
-use Rattle.ktm_types.specs.declared.object.Transaction.{Transaction}
-use Rattle.ktm_types.specs.declared.object.TransactionOutcome.TheVariants.{Committed as CommittedOutcome}
-use Rattle.ktm_types.specs.declared.step.Owed.{Owed}
+use Rattle.ktm_world.specs.declared.event.Event.{Event}
+use Rattle.ktm_world.specs.declared.input.PhaseInput.{PhaseInput}
+use Rattle.ktm_world.specs.declared.object.Phase.{Phase}
+use Rattle.ktm_world.specs.declared.object.Phase.TheVariants.{Active, Requested, PrePreparing, PrePrepared, Preparing, SinglePhase}
+use Rattle.ktm_world.specs.declared.object.Transaction.{Transaction}
+use Rattle.ktm_world.specs.declared.object.TransactionOutcome.TheVariants.{Committed as CommittedOutcome}
+use Rattle.ktm_world.specs.declared.step.Owed.{Owed}
 use Rattle.ktm_world.specs.Durable.{Recorded}
 use Rattle.ktm_world.specs.Enlistments.{Enlistment, allows_one_phase, has_id, is_durable_at, is_open_for_votes, is_superior, owes_commit, owes_pre_prepare, owes_prepare, takes_part}
 use Rattle.ktm_world.specs.Lawful.{stage_in}
@@ -18,7 +18,7 @@ use Rattle.ktm_world.specs.Steps.{led, answered, run, seen, share_of}
 use Rattle.ktm_world.specs.TransactionCalls.{course_of, is_voting}
 use Rattle.ktm_world.specs.Transactions.{same_id}
 use Rattle.txf_laws.specs.Elements.{IsIn}
-use Rattle.ktm_states.specs.GoodState.{IsGoodState}
+use Rattle.txf_laws.specs.GoodState.{IsGoodState}
 use Rattle.ktm_courses.specs.SoundCourse.{IsSoundCourse, has_durable_part, is_part_as, is_unrecovered_well}
 use Rattle.txf_laws.specs.SoundFiles.{IsSoundFiles}
 use Rattle.ktm_records.proofs.offered.Agreement.{Agreed}
@@ -38,7 +38,7 @@ use Rattle.ktm_records.proofs.LoggedTransaction.{with_ready}
 use Rattle.ktm_steps.specs.Laws.{someone_owes, when_none_owes}
 use Rattle.ktm_steps.proofs.offered.Table.{rows_law}
 use Rattle.ktm_world.specs.Rows.{all_readies, proceeds, proceeds_without}
-use Rattle.ktm_types.specs.declared.step.Answered.{Answered}
+use Rattle.ktm_world.specs.declared.step.Answered.{Answered}
 use Rattle.ktm_records.proofs.offered.Stages.{early-unrecorded, early-voting, is_early, voting-stage}
 use Rattle.ktm_steps.proofs.offered.Ways.{if_cases}
 

@@ -4,16 +4,16 @@ use Rattle.std.proofs.Common.{◌≡◌, ℕ, ◌==◌, ◌&&◌, not, Bool, tru
 use Rattle.std.proofs.lemmas.Bool.{cases_Bool, and_from, and_left, and_parts, and_right, or_cases, not-true, not_from_false, true≢false, false_from_ne_true}
 use Rattle.std.specs.List.{flat_map, list_all, list_any}
 use Rattle.ktm_base.specs.declared.id.Id.{Id}
-use Rattle.ktm_types.specs.declared.event.DonePart.{DonePart}
-use Rattle.ktm_types.specs.declared.event.Event.{Event}
-use Rattle.ktm_types.specs.declared.event.Part.{Part}
-use Rattle.ktm_types.specs.declared.event.Part.TheVariants.{Enlistment as EnlistmentPart, Changes, Settings}
-use Rattle.ktm_types.specs.declared.object.Phase.TheVariants.{Committing, SinglePhase}
-use Rattle.ktm_types.specs.declared.object.Transaction.{Transaction}
-use Rattle.ktm_types.specs.declared.object.TransactionOutcome.TheVariants.{Committed as CommittedOutcome}
-use Rattle.ktm_types.specs.declared.recorded.RecordedPart.{RecordedPart}
-use Rattle.ktm_types.specs.declared.recorded.Stage.{Stage}
-use Rattle.ktm_types.specs.declared.step.Owed.{Owed}
+use Rattle.ktm_world.specs.declared.event.DonePart.{DonePart}
+use Rattle.ktm_world.specs.declared.event.Event.{Event}
+use Rattle.ktm_world.specs.declared.event.Part.{Part}
+use Rattle.ktm_world.specs.declared.event.Part.TheVariants.{Enlistment as EnlistmentPart, Changes, Settings}
+use Rattle.ktm_world.specs.declared.object.Phase.TheVariants.{Committing, SinglePhase}
+use Rattle.ktm_world.specs.declared.object.Transaction.{Transaction}
+use Rattle.ktm_world.specs.declared.object.TransactionOutcome.TheVariants.{Committed as CommittedOutcome}
+use Rattle.ktm_world.specs.declared.recorded.RecordedPart.{RecordedPart}
+use Rattle.ktm_world.specs.declared.recorded.Stage.{Stage}
+use Rattle.ktm_world.specs.declared.step.Owed.{Owed}
 use Rattle.ktm_world.specs.Durable.{Recorded, changes_in, changes_of, has_undone, is_decided, is_part_of, is_sole, settings_in, settings_of}
 use Rattle.ktm_world.specs.Enlistments.{Enlistment, has_id, is_durable_at, is_superior, owes_commit, takes_part}
 use Rattle.ktm_world.specs.Lawful.{Summary, brought_back, stage_in, stays, summary_of, superior_now}
@@ -24,7 +24,7 @@ use Rattle.ktm_world.specs.TransactionCalls.{course_of}
 use Rattle.ktm_world.specs.Transactions.{same_id}
 use Rattle.ktm_world.specs.World.{by_rising_id, enlistment_back, is_enlistment_part}
 use Rattle.txf_laws.specs.Elements.{IsIn, each_pair}
-use Rattle.ktm_states.specs.GoodState.{IsGoodState, is_decided_well, is_done_well}
+use Rattle.txf_laws.specs.GoodState.{IsGoodState, is_decided_well, is_done_well}
 use Rattle.ktm_records.specs.Kept.{is_carried_out}
 use Rattle.ktm_courses.specs.SoundCourse.{IsSoundCourse, has_durable_part, is_unrecovered_well}
 use Rattle.txf_laws.specs.SoundFiles.{IsSoundFiles}
@@ -34,8 +34,8 @@ use Rattle.ktm_courses.proofs.offered.Arrivals.{brought-now, stands-now}
 use Rattle.ktm_records.proofs.AgreementOfCommits.{follows-committing}
 use Rattle.txf_laws.proofs.offered.Elements.{IsIn-filter, IsIn-flat_map, IsIn-kept, IsIn-unflat, each_pair-flat_kept, list_all-at, list_any-from}
 use Rattle.ktm_records.proofs.offered.AgreementOfCourses.{Follows, Was, begun, carried-itself, course_enlistments, course_in, course_now, course_summaries, follows-from, none-in, none-unrecorded, placed-at, summary-one, was, was-in}
-use Rattle.ktm_states.proofs.offered.OwnGroups.{is_open}
-use Rattle.ktm_states.proofs.offered.Parts.{gathered-filter_none}
+use Rattle.txf_laws.proofs.offered.OwnGroups.{is_open}
+use Rattle.txf_laws.proofs.offered.Parts.{gathered-filter_none}
 use Rattle.ktm_records.proofs.LoggedOrder.{if_there, in-while, while_open}
 use Rattle.ktm_courses.proofs.offered.Endings.{Stands, none-at}
 use Rattle.ktm_records.proofs.ReadyCourses.{changed-cases, changed-other, differ-kept, differ-parts, drawn-own, enlistments-other, kept-from, kept-into, others-stay, rises-changed}
@@ -47,8 +47,8 @@ use Rattle.txf_laws.proofs.offered.Tables.{same_id-sym}
 use Rattle.ktm_records.proofs.LoggedTransaction.{Tracks, done_by, tracks-done}
 use Rattle.ktm_world.specs.Rows.{commits}
 use Rattle.ktm_world.specs.Steps.{answered, led, run}
-use Rattle.ktm_types.specs.declared.step.Answered.{Answered}
-use Rattle.ktm_types.specs.declared.input.PhaseInput.{PhaseInput}
+use Rattle.ktm_world.specs.declared.step.Answered.{Answered}
+use Rattle.ktm_world.specs.declared.input.PhaseInput.{PhaseInput}
 use Rattle.ktm_steps.proofs.offered.Ways.{if_cases}
 
 -- ---- the parts of a decided transaction

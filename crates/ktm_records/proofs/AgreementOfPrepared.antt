@@ -3,11 +3,11 @@ use Rattle.std.proofs.Common.{◌≡◌, ◌||◌, Bool, true, false, List, [], 
 use Rattle.std.proofs.lemmas.Bool.{or_parts, true≢false, false_from_ne_true}
 use Rattle.std.specs.List.{list_any}
 use Rattle.ktm_base.specs.declared.id.Id.{Id}
-use Rattle.ktm_types.specs.declared.event.Event.{Event}
-use Rattle.ktm_types.specs.declared.event.Part.{Part}
-use Rattle.ktm_types.specs.declared.object.TransactionOutcome.TheVariants.{Committed as CommittedOutcome}
-use Rattle.ktm_types.specs.declared.recorded.Stage.{Stage}
-use Rattle.ktm_types.specs.declared.recorded.Superior.{Superior}
+use Rattle.ktm_world.specs.declared.event.Event.{Event}
+use Rattle.ktm_world.specs.declared.event.Part.{Part}
+use Rattle.ktm_world.specs.declared.object.TransactionOutcome.TheVariants.{Committed as CommittedOutcome}
+use Rattle.ktm_world.specs.declared.recorded.Stage.{Stage}
+use Rattle.ktm_world.specs.declared.recorded.Superior.{Superior}
 use Rattle.ktm_world.specs.Changes.{has_changes}
 use Rattle.ktm_world.specs.Committed.{Committed, committed_with}
 use Rattle.ktm_world.specs.Durable.{Durable, Recorded, after_events}

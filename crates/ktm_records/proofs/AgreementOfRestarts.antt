@@ -5,13 +5,13 @@ use Rattle.std.proofs.lemmas.Bool.{cases_Bool, and_from, and_parts, not-true, no
 use Rattle.std.proofs.lemmas.List.{append-nil}
 use Rattle.std.specs.List.{flat_map, list_all, list_any}
 use Rattle.ktm_base.specs.declared.id.Id.{Id}
-use Rattle.ktm_types.specs.declared.event.DonePart.{DonePart}
-use Rattle.ktm_types.specs.declared.event.Part.{Part}
-use Rattle.ktm_types.specs.declared.event.Part.TheVariants.{Enlistment as EnlistmentPart, Changes, Settings}
-use Rattle.ktm_types.specs.declared.object.Phase.TheVariants.{Committing, InDoubt}
-use Rattle.ktm_types.specs.declared.recorded.RecordedPart.{RecordedPart}
-use Rattle.ktm_types.specs.declared.recorded.Stage.{Stage}
-use Rattle.ktm_types.specs.declared.recorded.Superior.{Superior}
+use Rattle.ktm_world.specs.declared.event.DonePart.{DonePart}
+use Rattle.ktm_world.specs.declared.event.Part.{Part}
+use Rattle.ktm_world.specs.declared.event.Part.TheVariants.{Enlistment as EnlistmentPart, Changes, Settings}
+use Rattle.ktm_world.specs.declared.object.Phase.TheVariants.{Committing, InDoubt}
+use Rattle.ktm_world.specs.declared.recorded.RecordedPart.{RecordedPart}
+use Rattle.ktm_world.specs.declared.recorded.Stage.{Stage}
+use Rattle.ktm_world.specs.declared.recorded.Superior.{Superior}
 use Rattle.ktm_world.specs.Durable.{Durable, Recorded, after_events, changes_in, has_undone, is_decided, is_held, is_ready, settings_in, stand}
 use Rattle.ktm_world.specs.Enlistments.{Enlistment, is_superior, superior_of, takes_part}
 use Rattle.ktm_world.specs.Lawful.{brought_back, stage_in, summary_of, superior_now}
@@ -23,7 +23,7 @@ use Rattle.ktm_world.specs.TransactionCalls.{course_of}
 use Rattle.ktm_world.specs.Transactions.{same_id}
 use Rattle.ktm_world.specs.World.{back, by_rising_id, enlistment_back, is_brought_back, is_enlistment_part, manager_now, opened, own_group, present, reboot, superior_back, transaction_back}
 use Rattle.txf_laws.specs.Elements.{IsIn}
-use Rattle.ktm_states.specs.GoodState.{IsGoodState, are_kept_changes, are_kept_settings, is_done_well}
+use Rattle.txf_laws.specs.GoodState.{IsGoodState, are_kept_changes, are_kept_settings, is_done_well}
 use Rattle.ktm_records.specs.Kept.{is_carried_out}
 use Rattle.ktm_records.proofs.offered.Agreement.{Agreed, flat_map-alike, summaries}
 use Rattle.txf_laws.proofs.offered.Elements.{IsIn-filter, IsIn-unflat, list_all-at, list_all-from, list_any-at, list_any-from}
@@ -31,7 +31,7 @@ use Rattle.ktm_records.proofs.offered.AgreementOfCourses.{begun, course_enlistme
 use Rattle.txf_laws.proofs.offered.Diamonds.{IsIn-right}
 use Rattle.txf_laws.proofs.offered.Lists.{IsIn-cases, IsIn-unmap}
 use Rattle.ktm_courses.proofs.offered.Moves.{find-found}
-use Rattle.ktm_states.proofs.offered.OwnGroups.{is_open}
+use Rattle.txf_laws.proofs.offered.OwnGroups.{is_open}
 use Rattle.ktm_records.proofs.LoggedOrder.{if_there, in-while, while_open}
 use Rattle.ktm_records.proofs.ReadyCourses.{differ-kept, differ-parts, kept-from, kept-into}
 use Rattle.ktm_records.proofs.RestartGroups.{Walks, is_left, left_of, reopened, settled-gathered, settled-undone, settled_of}
@@ -42,7 +42,7 @@ use Rattle.ktm_records.proofs.AgreementOfSilentSteps.{is_kept}
 use Rattle.ktm_courses.proofs.offered.SoundRestarts.{durable-back, in-es, is-back, own-within, sound-opened, superior-there}
 use Rattle.txf_laws.proofs.offered.Tables.{same_id-from}
 use Rattle.ktm_records.proofs.LoggedTransaction.{mark_if}
-use Rattle.ktm_states.proofs.offered.WaitingChanges.{no_changes-left, no_settings-left}
+use Rattle.txf_laws.proofs.offered.WaitingChanges.{no_changes-left, no_settings-left}
 
 -- ---- what is brought back
 

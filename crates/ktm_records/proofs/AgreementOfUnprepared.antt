@@ -3,14 +3,14 @@ use Rattle.std.proofs.Common.{◌≡◌, List, [], ◌∷◌, ◌++◌, None, re
 use Rattle.std.proofs.lemmas.Bool.{true≢false}
 use Rattle.ktm_base.specs.declared.id.Id.{Id}
 use Rattle.ktm_base.specs.declared.notify.Notify.{Notify}
-use Rattle.ktm_types.specs.declared.event.Event.{Event}
-use Rattle.ktm_types.specs.declared.event.Part.{Part}
-use Rattle.ktm_types.specs.declared.input.PhaseInput.{PhaseInput}
-use Rattle.ktm_types.specs.declared.object.Phase.TheVariants.{PrePreparing, PrePrepared, Preparing, Requested, SinglePhase, Ended}
-use Rattle.ktm_types.specs.declared.object.TransactionOutcome.TheVariants.{Committed as CommittedOutcome}
-use Rattle.ktm_types.specs.declared.step.Owed.{Owed}
-use Rattle.ktm_types.specs.declared.step.Step.{Step}
-use Rattle.ktm_types.specs.declared.step.Who.{Who}
+use Rattle.ktm_world.specs.declared.event.Event.{Event}
+use Rattle.ktm_world.specs.declared.event.Part.{Part}
+use Rattle.ktm_world.specs.declared.input.PhaseInput.{PhaseInput}
+use Rattle.ktm_world.specs.declared.object.Phase.TheVariants.{PrePreparing, PrePrepared, Preparing, Requested, SinglePhase, Ended}
+use Rattle.ktm_world.specs.declared.object.TransactionOutcome.TheVariants.{Committed as CommittedOutcome}
+use Rattle.ktm_world.specs.declared.step.Owed.{Owed}
+use Rattle.ktm_world.specs.declared.step.Step.{Step}
+use Rattle.ktm_world.specs.declared.step.Who.{Who}
 use Rattle.ktm_world.specs.Changes.{changed_all}
 use Rattle.ktm_world.specs.Committed.{committed_with}
 use Rattle.ktm_world.specs.Durable.{Recorded, after_events, changes_in, settings_in}

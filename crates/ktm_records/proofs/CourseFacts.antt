@@ -2,13 +2,13 @@
 use Rattle.std.proofs.Common.{◌≡◌, ◌&&◌, not, true, false, nat_lt, Option, Some, None, refl, sym, ◌∙◌, ap, subst, inl, inr, []}
 use Rattle.std.proofs.lemmas.Bool.{and_from, and_parts, not-true, not_from_false, or_cases, true≢false, false_from_ne_true}
 use Rattle.std.proofs.lemmas.Option.{none-some, same_Some}
-use Rattle.ktm_types.specs.declared.input.PhaseInput.{PhaseInput}
-use Rattle.ktm_types.specs.declared.object.Phase.{Phase}
-use Rattle.ktm_types.specs.declared.object.Phase.TheVariants.{Held, InDoubt, Committing, Aborting, Ended}
-use Rattle.ktm_types.specs.declared.object.Transaction.{Transaction}
-use Rattle.ktm_types.specs.declared.recorded.Stage.{Stage}
-use Rattle.ktm_types.specs.declared.reply.Reply.TheVariants.{Done}
-use Rattle.ktm_types.specs.declared.step.Owed.{Owed}
+use Rattle.ktm_world.specs.declared.input.PhaseInput.{PhaseInput}
+use Rattle.ktm_world.specs.declared.object.Phase.{Phase}
+use Rattle.ktm_world.specs.declared.object.Phase.TheVariants.{Held, InDoubt, Committing, Aborting, Ended}
+use Rattle.ktm_world.specs.declared.object.Transaction.{Transaction}
+use Rattle.ktm_world.specs.declared.recorded.Stage.{Stage}
+use Rattle.ktm_world.specs.declared.reply.Reply.TheVariants.{Done}
+use Rattle.ktm_world.specs.declared.step.Owed.{Owed}
 use Rattle.ktm_world.specs.Durable.{is_new_enlistment, is_ready}
 use Rattle.ktm_world.specs.Enlistments.{Enlistment, is_durable_at, is_open_for_votes, is_superior, owes_commit, owes_pre_prepare, owes_prepare, takes_part}
 use Rattle.ktm_world.specs.Labels.{transaction_tests}

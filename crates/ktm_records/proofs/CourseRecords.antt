@@ -3,15 +3,15 @@ use Rattle.std.specs.Prelude.{if◌then◌else◌}
 use Rattle.std.proofs.Common.{◌≡◌, ◌==◌, ◌&&◌, ◌||◌, Bool, true, false, is_none, List, [], ◌∷◌, ◌++◌, Option, Some, None, refl, sym, ◌∙◌, ap, append-nil, inl, inr}
 use Rattle.std.proofs.lemmas.Bool.{and_from, and_parts, cases_Bool, or_cases, or_from, or_parts, or_right, true≢false}
 use Rattle.ktm_base.specs.declared.id.Id.{Id}
-use Rattle.ktm_types.specs.declared.event.DonePart.{DonePart}
-use Rattle.ktm_types.specs.declared.event.Event.{Event}
-use Rattle.ktm_types.specs.declared.event.Part.{Part}
-use Rattle.ktm_types.specs.declared.event.Part.TheVariants.{Changes, Settings}
-use Rattle.ktm_types.specs.declared.input.Seen.{Seen}
-use Rattle.ktm_types.specs.declared.input.Share.{Share}
-use Rattle.ktm_types.specs.declared.object.Phase.{Phase}
-use Rattle.ktm_types.specs.declared.step.Fact.{Fact}
-use Rattle.ktm_types.specs.declared.step.Step.{Step}
+use Rattle.ktm_world.specs.declared.event.DonePart.{DonePart}
+use Rattle.ktm_world.specs.declared.event.Event.{Event}
+use Rattle.ktm_world.specs.declared.event.Part.{Part}
+use Rattle.ktm_world.specs.declared.event.Part.TheVariants.{Changes, Settings}
+use Rattle.ktm_world.specs.declared.input.Seen.{Seen}
+use Rattle.ktm_world.specs.declared.input.Share.{Share}
+use Rattle.ktm_world.specs.declared.object.Phase.{Phase}
+use Rattle.ktm_world.specs.declared.step.Fact.{Fact}
+use Rattle.ktm_world.specs.declared.step.Step.{Step}
 use Rattle.ktm_world.specs.Changes.{has_changes}
 use Rattle.ktm_world.specs.Durable.{Durable, Recorded, after_event, after_events, fact_applies, has_part, is_new_enlistment, is_ready, is_sole, may_get_ready, part_applies, recorded_at, recorded_or_new, enlistments_in}
 use Rattle.ktm_world.specs.Enlistments.{Enlistment, is_durable_at}

@@ -3,20 +3,20 @@ use Rattle.std.proofs.Common.{◌≡◌, ◌&&◌, ◌||◌, not, Bool, true, fa
 use Rattle.std.proofs.lemmas.Bool.{and_from, and_parts, true≢false, cases_Bool}
 use Rattle.std.specs.List.{list_any}
 use Rattle.ktm_base.specs.declared.id.Id.{Id}
-use Rattle.ktm_types.specs.declared.event.DonePart.{DonePart}
-use Rattle.ktm_types.specs.declared.event.Event.{Event}
-use Rattle.ktm_types.specs.declared.event.Part.{Part}
-use Rattle.ktm_types.specs.declared.event.Part.TheVariants.{Enlistment, Changes, Settings}
-use Rattle.ktm_types.specs.declared.recorded.RecordedPart.{RecordedPart}
-use Rattle.ktm_types.specs.declared.recorded.Stage.{Stage}
+use Rattle.ktm_world.specs.declared.event.DonePart.{DonePart}
+use Rattle.ktm_world.specs.declared.event.Event.{Event}
+use Rattle.ktm_world.specs.declared.event.Part.{Part}
+use Rattle.ktm_world.specs.declared.event.Part.TheVariants.{Enlistment, Changes, Settings}
+use Rattle.ktm_world.specs.declared.recorded.RecordedPart.{RecordedPart}
+use Rattle.ktm_world.specs.declared.recorded.Stage.{Stage}
 use Rattle.ktm_world.specs.Durable.{Durable, Recorded, after_event, after_events, decide_recorded, emptied, emptied_part, fact_applies, finish_recorded, has_part, has_undone, is_before, is_held, is_part_of, is_ready, recorded_at, stage_passes, while_not_done, with_recorded}
 use Rattle.ktm_world.specs.Phases.{event_if}
 use Rattle.ktm_world.specs.Transactions.{same_id}
 use Rattle.ktm_records.specs.Kept.{facts_apply}
 use Rattle.txf_laws.proofs.offered.Elements.{list_any-at, list_any-from}
-use Rattle.ktm_states.proofs.offered.DoneEvents.{marked}
+use Rattle.txf_laws.proofs.offered.DoneEvents.{marked}
 use Rattle.ktm_courses.proofs.offered.Moves.{IsIn-map}
-use Rattle.ktm_states.proofs.offered.OwnGroups.{is_open}
+use Rattle.txf_laws.proofs.offered.OwnGroups.{is_open}
 use Rattle.txf_laws.proofs.offered.Tables.{recorded_at-found, same_id-from}
 
 -- ---- events one after another

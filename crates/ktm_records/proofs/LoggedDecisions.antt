@@ -4,13 +4,13 @@ use Rattle.std.proofs.Common.{◌≡◌, ◌==◌, ◌&&◌, ◌||◌, not, Bool
 use Rattle.std.proofs.lemmas.Bool.{and_from, and_parts, and_right, eqb-true, not_from_false, or_right, true≢false, false_from_ne_true}
 use Rattle.std.specs.List.{flat_map, list_any}
 use Rattle.ktm_base.specs.declared.id.Id.{Id}
-use Rattle.ktm_types.specs.declared.event.DonePart.{DonePart}
-use Rattle.ktm_types.specs.declared.event.Part.{Part}
-use Rattle.ktm_types.specs.declared.event.Part.TheVariants.{Enlistment as EnlistmentPart, Changes, Settings}
-use Rattle.ktm_types.specs.declared.object.Phase.TheVariants.{Committing}
-use Rattle.ktm_types.specs.declared.object.TransactionOutcome.TheVariants.{Committed}
-use Rattle.ktm_types.specs.declared.recorded.RecordedPart.{RecordedPart}
-use Rattle.ktm_types.specs.declared.recorded.Stage.{Stage}
+use Rattle.ktm_world.specs.declared.event.DonePart.{DonePart}
+use Rattle.ktm_world.specs.declared.event.Part.{Part}
+use Rattle.ktm_world.specs.declared.event.Part.TheVariants.{Enlistment as EnlistmentPart, Changes, Settings}
+use Rattle.ktm_world.specs.declared.object.Phase.TheVariants.{Committing}
+use Rattle.ktm_world.specs.declared.object.TransactionOutcome.TheVariants.{Committed}
+use Rattle.ktm_world.specs.declared.recorded.RecordedPart.{RecordedPart}
+use Rattle.ktm_world.specs.declared.recorded.Stage.{Stage}
 use Rattle.ktm_world.specs.Durable.{Recorded, changes_of, is_before, is_decided, is_part_of, settings_of}
 use Rattle.ktm_world.specs.Enlistments.{Enlistment, is_unfinished, takes_part}
 use Rattle.ktm_world.specs.Lawful.{Summary, stage_in, summary_of, superior_now}
@@ -21,7 +21,7 @@ use Rattle.ktm_records.specs.Kept.{is_carried_out}
 use Rattle.txf_laws.proofs.offered.Diamonds.{none-from}
 use Rattle.txf_laws.proofs.offered.Elements.{list_any-from}
 use Rattle.ktm_records.proofs.offered.AgreementOfCourses.{course_enlistments, course_in, course_now, course_summaries, none-in}
-use Rattle.ktm_states.proofs.offered.OwnGroups.{is_open}
+use Rattle.txf_laws.proofs.offered.OwnGroups.{is_open}
 use Rattle.ktm_records.proofs.LoggedOrder.{if_there, while_open}
 use Rattle.ktm_records.proofs.AgreementOfSilentSteps.{none-kept}
 use Rattle.ktm_steps.proofs.offered.Ways.{if_cases}

@@ -6,12 +6,12 @@ use Rattle.std.proofs.lemmas.Grind.{flat_map-append}
 use Rattle.std.proofs.lemmas.Option.{none-some, same_Some}
 use Rattle.std.specs.List.{flat_map, list_all}
 use Rattle.ktm_base.specs.declared.id.Id.{Id}
-use Rattle.ktm_types.specs.declared.object.Transaction.{Transaction}
+use Rattle.ktm_world.specs.declared.object.Transaction.{Transaction}
 use Rattle.ktm_world.specs.Durable.{Recorded, is_before, recorded_at, recorded_or_new, while_not_done, with_recorded, without_recorded}
 use Rattle.ktm_world.specs.Transactions.{change_at, same_id}
 use Rattle.txf_laws.specs.Elements.{IsIn, each_pair}
 use Rattle.txf_laws.proofs.offered.Elements.{each_pair-across, each_pair-right, first-same, list_all-at, rest-same, some-not_none}
-use Rattle.ktm_states.proofs.offered.OwnGroups.{is_open}
+use Rattle.txf_laws.proofs.offered.OwnGroups.{is_open}
 use Rattle.txf_laws.proofs.offered.Tables.{before_other, fresh, is_before-then, same_id-equal, same_id-from}
 
 -- ---- one among transactions

@@ -4,13 +4,13 @@ use Rattle.std.proofs.lemmas.Bool.{ne_eqb, cases_Bool, and_from, and_parts, eq-e
 use Rattle.std.proofs.lemmas.Option.{none-some, same_Some}
 use Rattle.std.specs.List.{list_all, list_any}
 use Rattle.ktm_base.specs.declared.id.Id.{Id}
-use Rattle.ktm_types.specs.declared.event.DonePart.{DonePart}
-use Rattle.ktm_types.specs.declared.event.Event.{Event}
-use Rattle.ktm_types.specs.declared.event.Part.{Part}
-use Rattle.ktm_types.specs.declared.event.Part.TheVariants.{Enlistment as EnlistmentPart, Changes, Settings}
-use Rattle.ktm_types.specs.declared.object.Transaction.{Transaction}
-use Rattle.ktm_types.specs.declared.recorded.RecordedPart.{RecordedPart}
-use Rattle.ktm_types.specs.declared.recorded.Stage.{Stage}
+use Rattle.ktm_world.specs.declared.event.DonePart.{DonePart}
+use Rattle.ktm_world.specs.declared.event.Event.{Event}
+use Rattle.ktm_world.specs.declared.event.Part.{Part}
+use Rattle.ktm_world.specs.declared.event.Part.TheVariants.{Enlistment as EnlistmentPart, Changes, Settings}
+use Rattle.ktm_world.specs.declared.object.Transaction.{Transaction}
+use Rattle.ktm_world.specs.declared.recorded.RecordedPart.{RecordedPart}
+use Rattle.ktm_world.specs.declared.recorded.Stage.{Stage}
 use Rattle.ktm_world.specs.Changes.{has_changes}
 use Rattle.ktm_world.specs.Durable.{Durable, Recorded, are_recorded_changes, changes_of, fact_applies, has_changes_part, has_part, has_settings_part, has_undone, is_decided, is_held, is_new_enlistment, is_part_of, is_ready, is_sole, recorded_at, recorded_or_new, settings_of}
 use Rattle.ktm_world.specs.Enlistments.{Enlistment, is_durable_at, is_superior, takes_part}
@@ -22,7 +22,7 @@ use Rattle.ktm_world.specs.TransactionCalls.{course_of}
 use Rattle.ktm_world.specs.Transactions.{is_of, is_undecided, same_id}
 use Rattle.ktm_world.specs.World.{enlistment_back}
 use Rattle.txf_laws.specs.Elements.{IsIn}
-use Rattle.ktm_states.specs.GoodState.{IsGoodState, are_kept_changes, are_kept_settings, is_done_well, is_ready_well}
+use Rattle.txf_laws.specs.GoodState.{IsGoodState, are_kept_changes, are_kept_settings, is_done_well, is_ready_well}
 use Rattle.ktm_records.specs.Kept.{IsKept}
 use Rattle.ktm_courses.specs.SoundCourse.{is_counted, is_made_with_it, is_superior_durable}
 use Rattle.txf_laws.proofs.offered.Elements.{IsIn-kept, IsIn-unflat, list_all-at, list_any-at, list_any-from}
@@ -34,7 +34,7 @@ use Rattle.ktm_records.proofs.RecordedEnlistments.{new-in-record, recalled-as, r
 use Rattle.ktm_records.proofs.Recordings.{recordings_law}
 use Rattle.ktm_courses.proofs.offered.EnlistmentOrder.{IsIn-into_rising, IsIn-rising}
 use Rattle.txf_laws.proofs.offered.Tables.{recorded_at-found, recorded_at-there, recorded_or_new-cases, same_id-equal, same_id-from}
-use Rattle.ktm_states.proofs.offered.WaitingChanges.{no_changes_part, no_settings_part}
+use Rattle.txf_laws.proofs.offered.WaitingChanges.{no_changes_part, no_settings_part}
 use Rattle.ktm_world.specs.Steps.{basis}
 
 -- ---- what is kept of a transaction that waits

@@ -3,13 +3,13 @@ use Rattle.std.proofs.Common.{if◌then◌else◌, ◌≡◌, ℕ, ◌≤◌, �
 use Rattle.std.proofs.lemmas.Bool.{cases_Bool, true≢false}
 use Rattle.std.proofs.lemmas.List.{map-id}
 use Rattle.ktm_base.specs.declared.id.Id.{Id}
-use Rattle.ktm_types.specs.declared.change.Change.{Change}
-use Rattle.ktm_types.specs.declared.event.DonePart.{DonePart}
-use Rattle.ktm_types.specs.declared.event.Event.{Event}
-use Rattle.ktm_types.specs.declared.event.Part.{Part}
-use Rattle.ktm_types.specs.declared.recorded.RecordedPart.{RecordedPart}
-use Rattle.ktm_types.specs.declared.recorded.Stage.{Stage}
-use Rattle.ktm_types.specs.declared.recorded.Superior.{Superior}
+use Rattle.ktm_world.specs.declared.change.Change.{Change}
+use Rattle.ktm_world.specs.declared.event.DonePart.{DonePart}
+use Rattle.ktm_world.specs.declared.event.Event.{Event}
+use Rattle.ktm_world.specs.declared.event.Part.{Part}
+use Rattle.ktm_world.specs.declared.recorded.RecordedPart.{RecordedPart}
+use Rattle.ktm_world.specs.declared.recorded.Stage.{Stage}
+use Rattle.ktm_world.specs.declared.recorded.Superior.{Superior}
 use Rattle.ktm_world.specs.Changes.{changed_all}
 use Rattle.ktm_world.specs.Committed.{Committed}
 use Rattle.ktm_world.specs.Durable.{Durable, Recorded, after_event, after_events, changes_in, changes_of, decide_recorded, emptied_part, finish_recorded, is_of_enlistment, is_part_of, next_after_all, parts_done, recorded_at, settings_in, settings_of, with_recorded}
@@ -21,9 +21,9 @@ use Rattle.txf_laws.specs.SoundFiles.{numbers_made}
 use Rattle.ktm_records.proofs.offered.Agreement.{next_after-both}
 use Rattle.txf_laws.proofs.offered.Diamonds.{none-from}
 use Rattle.txf_laws.proofs.offered.Elements.{IsIn-filter}
-use Rattle.ktm_states.proofs.offered.DoneEvents.{marked}
+use Rattle.txf_laws.proofs.offered.DoneEvents.{marked}
 use Rattle.txf_laws.proofs.offered.Lists.{IsIn-unmap}
-use Rattle.ktm_states.proofs.offered.OwnGroups.{is_open}
+use Rattle.txf_laws.proofs.offered.OwnGroups.{is_open}
 use Rattle.txf_laws.proofs.offered.CommitsOfOthers.{next-enough}
 use Rattle.ktm_records.proofs.LoggedOrder.{Among, among-while, among-with, among-without, or_new, or_new-id, recorded_at-among, recorded_or_new-among, while_open}
 use Rattle.ktm_courses.proofs.offered.Endings.{none-at}

@@ -2,17 +2,17 @@
 use Rattle.std.proofs.Common.{◌≡◌, ◌==◌, ◌||◌, not, Bool, true, false, List, [], ◌∷◌, length, refl, sym, ◌∙◌, inl, inr}
 use Rattle.std.proofs.lemmas.Bool.{and_parts, or_cases, not-true, true≢false, false_from_ne_true}
 use Rattle.std.specs.List.{flat_map, list_all}
-use Rattle.ktm_types.specs.declared.change.Change.{Change}
-use Rattle.ktm_types.specs.declared.event.DonePart.{DonePart}
-use Rattle.ktm_types.specs.declared.event.Part.{Part}
-use Rattle.ktm_types.specs.declared.recorded.RecordedPart.{RecordedPart}
+use Rattle.ktm_world.specs.declared.change.Change.{Change}
+use Rattle.ktm_world.specs.declared.event.DonePart.{DonePart}
+use Rattle.ktm_world.specs.declared.event.Part.{Part}
+use Rattle.ktm_world.specs.declared.recorded.RecordedPart.{RecordedPart}
 use Rattle.ktm_world.specs.Changes.{has_changes}
 use Rattle.ktm_world.specs.Durable.{Durable, Recorded, are_recorded_changes, changes_of, has_changes_part, has_settings_part, is_decided, is_part_of, is_sole, settings_of}
 use Rattle.ktm_world.specs.Keys.{OwnSettings, are_good_settings}
 use Rattle.ktm_world.specs.Phases.{Course, has_settings}
 use Rattle.ktm_world.specs.World.{by_rising_id, enlistment_back}
 use Rattle.txf_laws.specs.Elements.{IsIn}
-use Rattle.ktm_states.specs.GoodState.{IsGoodState, are_kept_changes, are_kept_settings, is_done_well}
+use Rattle.txf_laws.specs.GoodState.{IsGoodState, are_kept_changes, are_kept_settings, is_done_well}
 use Rattle.txf_laws.proofs.offered.Elements.{list_all-at, list_any-from}
 use Rattle.ktm_records.proofs.offered.AgreementOfCourses.{course_enlistments}
 

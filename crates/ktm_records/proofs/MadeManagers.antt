@@ -9,8 +9,8 @@ use Rattle.ktm_base.specs.declared.id.Label.{Label}
 use Rattle.ktm_base.specs.declared.id.Pid.{Pid}
 use Rattle.ktm_base.specs.declared.refusal.Refusal.{Refusal}
 use Rattle.ktm_base.specs.declared.refusal.Refusal.TheVariants.{MachineDown}
-use Rattle.ktm_types.specs.declared.command.Command.TheVariants.{CreateResourceManager}
-use Rattle.ktm_types.specs.declared.options.Durability.{Durability}
+use Rattle.ktm_world.specs.declared.command.Command.TheVariants.{CreateResourceManager}
+use Rattle.ktm_world.specs.declared.options.Durability.{Durability}
 use Rattle.ktm_world.specs.Decide.{command_effect, command_tests}
 use Rattle.ktm_world.specs.Durable.{Durable, events_apply, is_before, is_within_limits, with_manager}
 use Rattle.ktm_world.specs.Enlistments.{Manager}
@@ -19,7 +19,7 @@ use Rattle.ktm_world.specs.Outcome.{first_refusal, refuse_or}
 use Rattle.ktm_world.specs.Present.{Present}
 use Rattle.ktm_world.specs.TransactionCalls.{create_resource_manager, create_resource_manager_tests}
 use Rattle.ktm_world.specs.Transactions.{same_id}
-use Rattle.ktm_states.specs.GoodState.{IsGoodState}
+use Rattle.txf_laws.specs.GoodState.{IsGoodState}
 use Rattle.ktm_records.specs.MadeManagers.{MadeManagersLaw}
 use Rattle.ktm_courses.specs.SoundCourse.{IsSoundCourse, is_counted}
 use Rattle.ktm_records.proofs.offered.Agreement.{durable_ids}

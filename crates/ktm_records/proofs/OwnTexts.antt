@@ -8,15 +8,15 @@ use Rattle.ktm_base.specs.declared.id.Id.{Id}
 use Rattle.ktm_keyed.specs.declared.keyed.Keyed.{Keyed}
 use Rattle.ktm_keyed.specs.Keyed.{put}
 use Rattle.ktm_keyed.proofs.KeyedLemmas.{AllByRecursion-put}
-use Rattle.ktm_types.specs.declared.event.DonePart.{DonePart}
-use Rattle.ktm_types.specs.declared.event.Event.{Event}
-use Rattle.ktm_types.specs.declared.event.Event.TheVariants.{Boot, MadeRm, Plain, Ready, Single, Held, Decide, Undo, Done}
-use Rattle.ktm_types.specs.declared.event.Part.{Part}
-use Rattle.ktm_types.specs.declared.event.Part.TheVariants.{Enlistment, Changes, Settings}
-use Rattle.ktm_types.specs.declared.recorded.RecordedPart.{RecordedPart}
-use Rattle.ktm_types.specs.declared.recorded.Stage.{Stage}
-use Rattle.ktm_types.specs.EventGrammar.{IsEventOf, IsGroupOf, IsPartOf, IsSettingOf}
-use Rattle.ktm_types.specs.Values.{IsText}
+use Rattle.ktm_world.specs.declared.event.DonePart.{DonePart}
+use Rattle.ktm_world.specs.declared.event.Event.{Event}
+use Rattle.ktm_world.specs.declared.event.Event.TheVariants.{Boot, MadeRm, Plain, Ready, Single, Held, Decide, Undo, Done}
+use Rattle.ktm_world.specs.declared.event.Part.{Part}
+use Rattle.ktm_world.specs.declared.event.Part.TheVariants.{Enlistment, Changes, Settings}
+use Rattle.ktm_world.specs.declared.recorded.RecordedPart.{RecordedPart}
+use Rattle.ktm_world.specs.declared.recorded.Stage.{Stage}
+use Rattle.ktm_world.specs.EventGrammar.{IsEventOf, IsGroupOf, IsPartOf, IsSettingOf}
+use Rattle.ktm_world.specs.Values.{IsText}
 use Rattle.ktm_world.specs.Durable.{Durable, Recorded, after_event, after_events, decide_recorded, emptied, emptied_part, finish_recorded, is_before, is_of_enlistment, is_part_of, is_ready, parts_done, recorded_at, recorded_or_new, settings_in, settings_of, stand, while_not_done, with_recorded, without_recorded}
 use Rattle.ktm_world.specs.Keys.{Own, OwnSettings, own_settings, with_own, without_own}
 use Rattle.ktm_world.specs.Logs.{Group}

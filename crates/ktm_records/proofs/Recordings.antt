@@ -4,10 +4,10 @@ use Rattle.std.proofs.Common.{◌≡◌, ◌==◌, ◌&&◌, not, Bool, true, fa
 use Rattle.std.proofs.lemmas.Bool.{cases_Bool, eqb-true, and_parts, and_from, or_left, or_right, not-true, not_from_false, true≢false, false_from_ne_true}
 use Rattle.std.specs.List.{list_all, list_any}
 use Rattle.ktm_base.specs.declared.id.Id.{Id}
-use Rattle.ktm_types.specs.declared.change.Change.{Change}
-use Rattle.ktm_types.specs.declared.change.Change.TheVariants.{Make, Put, Cut, Move, Drop}
-use Rattle.ktm_types.specs.declared.object.Transaction.{Transaction}
-use Rattle.ktm_types.specs.declared.recorded.Stage.{Stage}
+use Rattle.ktm_world.specs.declared.change.Change.{Change}
+use Rattle.ktm_world.specs.declared.change.Change.TheVariants.{Make, Put, Cut, Move, Drop}
+use Rattle.ktm_world.specs.declared.object.Transaction.{Transaction}
+use Rattle.ktm_world.specs.declared.recorded.Stage.{Stage}
 use Rattle.ktm_world.specs.Changes.{applies, changes_apply, is_make, node_of, has_made, has_changes}
 use Rattle.ktm_world.specs.Durable.{Recorded, acts_of_all, are_recorded_changes, recorded_changes_apply, changes_of, is_decided, is_new_in, others_waiting, settings_apply, settings_of}
 use Rattle.ktm_world.specs.Files.{OwnChanges, own_changes, bytes_seen}

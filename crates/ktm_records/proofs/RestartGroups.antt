@@ -5,12 +5,12 @@ use Rattle.std.proofs.lemmas.Bool.{cases_Bool, and_parts, and_from, or_cases, no
 use Rattle.std.proofs.lemmas.List.{append-nil}
 use Rattle.std.specs.List.{flat_map, list_all, list_any}
 use Rattle.ktm_base.specs.declared.id.Id.{Id}
-use Rattle.ktm_types.specs.declared.event.DonePart.{DonePart}
-use Rattle.ktm_types.specs.declared.event.Event.{Event}
-use Rattle.ktm_types.specs.declared.event.Part.{Part}
-use Rattle.ktm_types.specs.declared.event.Part.TheVariants.{Enlistment as EnlistmentPart, Changes, Settings}
-use Rattle.ktm_types.specs.declared.recorded.RecordedPart.{RecordedPart}
-use Rattle.ktm_types.specs.declared.recorded.Stage.{Stage}
+use Rattle.ktm_world.specs.declared.event.DonePart.{DonePart}
+use Rattle.ktm_world.specs.declared.event.Event.{Event}
+use Rattle.ktm_world.specs.declared.event.Part.{Part}
+use Rattle.ktm_world.specs.declared.event.Part.TheVariants.{Enlistment as EnlistmentPart, Changes, Settings}
+use Rattle.ktm_world.specs.declared.recorded.RecordedPart.{RecordedPart}
+use Rattle.ktm_world.specs.declared.recorded.Stage.{Stage}
 use Rattle.ktm_world.specs.Committed.{Committed}
 use Rattle.ktm_world.specs.Durable.{Durable, Recorded, after_event, after_events, has_undone, is_before, is_decided, is_part_of, is_ready, is_sole}
 use Rattle.ktm_world.specs.Outcome.{committed_now}
@@ -19,10 +19,10 @@ use Rattle.ktm_world.specs.Present.{Present}
 use Rattle.ktm_world.specs.World.{done_if, is_enlistment_part, own_events, own_group}
 use Rattle.ktm_world.proofs.offered.Durables.{after_events-append}
 use Rattle.txf_laws.specs.Elements.{IsIn}
-use Rattle.ktm_states.specs.GoodState.{IsGoodState, is_decided_well, is_done_well}
+use Rattle.txf_laws.specs.GoodState.{IsGoodState, is_decided_well, is_done_well}
 use Rattle.txf_laws.proofs.offered.Elements.{IsIn-filter, each_pair-filter, list_all-at}
 use Rattle.txf_laws.proofs.offered.Lists.{IsIn-cases, IsIn-unmap}
-use Rattle.ktm_states.proofs.offered.OwnGroups.{is_open}
+use Rattle.txf_laws.proofs.offered.OwnGroups.{is_open}
 use Rattle.ktm_records.proofs.LoggedOrder.{if_there, while_open}
 use Rattle.ktm_courses.proofs.offered.Endings.{none-at}
 use Rattle.txf_laws.proofs.offered.Tables.{Rises, is_earlier, rises-first, rises-rest}

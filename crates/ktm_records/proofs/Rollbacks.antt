@@ -2,14 +2,14 @@
 use Rattle.std.specs.Prelude.{if◌then◌else◌}
 use Rattle.std.proofs.Common.{◌≡◌, ◌+◌, ◌<◌, ◌^◌, ◌&&◌, ◌||◌, not, Bool, true, false, [], ◌∷◌, Option, Some, refl, sym, ◌∙◌, ap, subst, inl}
 use Rattle.std.proofs.lemmas.Bool.{and_from, lt-ltb, not_from_false, true≢false}
-use Rattle.ktm_types.specs.declared.event.Event.{Event}
-use Rattle.ktm_types.specs.declared.input.PhaseInput.{PhaseInput}
-use Rattle.ktm_types.specs.declared.object.Phase.{Phase}
-use Rattle.ktm_types.specs.declared.object.Transaction.{Transaction}
-use Rattle.ktm_types.specs.declared.object.TransactionOutcome.{TransactionOutcome}
-use Rattle.ktm_types.specs.declared.object.TransactionOutcome.TheVariants.{Undetermined, Committed, Aborted}
-use Rattle.ktm_types.specs.declared.recorded.Stage.{Stage}
-use Rattle.ktm_types.specs.declared.reply.Reply.{Reply}
+use Rattle.ktm_world.specs.declared.event.Event.{Event}
+use Rattle.ktm_world.specs.declared.input.PhaseInput.{PhaseInput}
+use Rattle.ktm_world.specs.declared.object.Phase.{Phase}
+use Rattle.ktm_world.specs.declared.object.Transaction.{Transaction}
+use Rattle.ktm_world.specs.declared.object.TransactionOutcome.{TransactionOutcome}
+use Rattle.ktm_world.specs.declared.object.TransactionOutcome.TheVariants.{Undetermined, Committed, Aborted}
+use Rattle.ktm_world.specs.declared.recorded.Stage.{Stage}
+use Rattle.ktm_world.specs.declared.reply.Reply.{Reply}
 use Rattle.ktm_world.specs.Enlistments.{Enlistment}
 use Rattle.ktm_world.specs.Durable.{Recorded, events_apply, is_decided, without_recorded}
 use Rattle.ktm_world.specs.Lawful.{Agrees, Summary, stage_in, summary_of}
@@ -19,12 +19,12 @@ use Rattle.ktm_world.specs.Steps.{led}
 use Rattle.ktm_world.specs.TransactionCalls.{aborted_by, course_of}
 use Rattle.ktm_world.specs.Transactions.{is_aborted, is_committed, is_undecided, same_id}
 use Rattle.txf_laws.specs.Elements.{IsIn}
-use Rattle.ktm_states.specs.GoodState.{IsGoodState}
+use Rattle.txf_laws.specs.GoodState.{IsGoodState}
 use Rattle.ktm_records.specs.Rollbacks.{RollbacksLaw}
 use Rattle.ktm_courses.specs.SoundCourse.{IsSoundCourse, is_outcome_of}
 use Rattle.txf_laws.proofs.offered.Elements.{list_all-at, list_any-from}
 use Rattle.ktm_records.proofs.offered.AgreementOfCourses.{arrival, course_in, course_now, course_summaries, begun, placed-at, was, was-in}
-use Rattle.ktm_states.proofs.offered.Limits.{Less-filter, limits-less}
+use Rattle.txf_laws.proofs.offered.Limits.{Less-filter, limits-less}
 use Rattle.txf_laws.proofs.offered.Lists.{IsIn-unmap}
 use Rattle.ktm_records.proofs.LoggedOrder.{if_there}
 use Rattle.txf_laws.proofs.offered.Tables.{same_id-from}

@@ -7,13 +7,13 @@ use Rattle.std.specs.List.{AllByRecursion, flat_map, list_all}
 use Rattle.ktm_base.specs.declared.limits.TheConstants.{MOST_NUMBER, MOST_INFORMATION_BYTES}
 use Rattle.ktm_base.specs.declared.id.Id.{Id}
 use Rattle.ktm_event.specs.Spelling.{AreSpellableChanges, AreSpellablePages, AreSpellableSettings, IsSpellableChange, IsSpellableDone, IsSpellableEvent, IsSpellableId, IsSpellablePart, IsSpellableRecord, IsSpellableSole}
-use Rattle.ktm_types.specs.declared.change.Change.{Change}
-use Rattle.ktm_types.specs.declared.change.Change.TheVariants.{Make, Put, Cut, Move, Drop}
-use Rattle.ktm_types.specs.declared.event.DonePart.{DonePart}
-use Rattle.ktm_types.specs.declared.event.Event.{Event}
-use Rattle.ktm_types.specs.declared.event.Event.TheVariants.{Boot, MadeRm, Plain, Ready, Single, Held, Decide, Undo, Done}
-use Rattle.ktm_types.specs.declared.event.Part.{Part}
-use Rattle.ktm_types.specs.declared.event.Part.TheVariants.{Enlistment, Changes, Settings}
+use Rattle.ktm_world.specs.declared.change.Change.{Change}
+use Rattle.ktm_world.specs.declared.change.Change.TheVariants.{Make, Put, Cut, Move, Drop}
+use Rattle.ktm_world.specs.declared.event.DonePart.{DonePart}
+use Rattle.ktm_world.specs.declared.event.Event.{Event}
+use Rattle.ktm_world.specs.declared.event.Event.TheVariants.{Boot, MadeRm, Plain, Ready, Single, Held, Decide, Undo, Done}
+use Rattle.ktm_world.specs.declared.event.Part.{Part}
+use Rattle.ktm_world.specs.declared.event.Part.TheVariants.{Enlistment, Changes, Settings}
 use Rattle.ktm_world.specs.Changes.{applies, changes_apply, is_empty_list}
 use Rattle.ktm_world.specs.Decide.{decide}
 use Rattle.ktm_world.specs.Durable.{Durable, Recorded, after_event, fact_applies, has_undone, is_decided, is_new_enlistment, is_new_in, is_sole, is_within_limits, may_get_ready, part_applies, recorded_at}
@@ -25,8 +25,8 @@ use Rattle.ktm_world.specs.Tree.{Tree, is_file}
 use Rattle.ktm_world.specs.World.{decide_tick, done_if, own_events, own_group}
 use Rattle.ktm_steps.proofs.offered.Recorded.{all-append}
 use Rattle.txf_laws.specs.Elements.{IsIn}
-use Rattle.ktm_states.specs.GoodState.{IsGoodState, is_drawn, is_of_object}
-use Rattle.ktm_states.specs.Grammatical.{ids_done, ids_in, names_objects}
+use Rattle.txf_laws.specs.GoodState.{IsGoodState, is_drawn, is_of_object}
+use Rattle.txf_laws.specs.Grammatical.{ids_done, ids_in, names_objects}
 use Rattle.ktm_records.specs.Kept.{facts_apply}
 use Rattle.ktm_courses.specs.NamedObjects.{NamedLaw}
 use Rattle.ktm_records.specs.RecordedFacts.{RecordedFactsLaw}

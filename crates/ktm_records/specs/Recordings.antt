@@ -1,7 +1,7 @@
 -- What undecided transactions own, and what a plain call changes, applies to what was recorded.
 use Rattle.std.specs.Prelude.{◌≡◌, true, [], ◌∷◌, Some, None}
-use Rattle.ktm_types.specs.declared.change.Change.{Change}
-use Rattle.ktm_types.specs.declared.object.Transaction.{Transaction}
+use Rattle.ktm_world.specs.declared.change.Change.{Change}
+use Rattle.ktm_world.specs.declared.object.Transaction.{Transaction}
 use Rattle.ktm_world.specs.Durable.{are_recorded_changes, recorded_changes_apply, settings_apply}
 use Rattle.ktm_world.specs.Files.{own_changes}
 use Rattle.ktm_world.specs.Keys.{are_good_settings, own_settings}

@@ -1,7 +1,7 @@
 -- What a rollback records applies.
 use Rattle.std.specs.Prelude.{◌≡◌, ◌+◌, ◌<◌, ◌^◌, true, Option}
-use Rattle.ktm_types.specs.declared.object.Transaction.{Transaction}
-use Rattle.ktm_types.specs.declared.reply.Reply.{Reply}
+use Rattle.ktm_world.specs.declared.object.Transaction.{Transaction}
+use Rattle.ktm_world.specs.declared.reply.Reply.{Reply}
 use Rattle.ktm_world.specs.Enlistments.{Enlistment}
 use Rattle.ktm_world.specs.Durable.{events_apply}
 use Rattle.ktm_world.specs.Lawful.{Agrees}
@@ -9,7 +9,7 @@ use Rattle.ktm_world.specs.Present.{Present}
 use Rattle.ktm_world.specs.TransactionCalls.{aborted_by}
 use Rattle.ktm_world.specs.Transactions.{is_undecided}
 use Rattle.txf_laws.specs.Elements.{IsIn}
-use Rattle.ktm_states.specs.GoodState.{IsGoodState}
+use Rattle.txf_laws.specs.GoodState.{IsGoodState}
 use Rattle.ktm_courses.specs.SoundCourse.{IsSoundCourse}
 
 -- where what was recorded is good and agrees with what is so now, and this is sound, what the rollback of an undecided transaction records applies, before the count of events ends

@@ -4,11 +4,11 @@ use Rattle.ktm_base.specs.declared.limits.TheConstants.{MOST_UNITS}
 use Rattle.ktm_base.specs.declared.id.Pid.{Pid}
 use Rattle.ktm_event.specs.Spelling.{IsSpellableEvent}
 use Rattle.ktm_keyed.specs.declared.keyed.Keyed.{Keyed}
-use Rattle.ktm_types.specs.declared.command.Command.{Command}
-use Rattle.ktm_types.specs.declared.event.Event.{Event}
-use Rattle.ktm_types.specs.declared.event.Event.TheVariants.{Ready, Single}
-use Rattle.ktm_types.specs.EventGrammar.{IsEventOf, IsGroupOf}
-use Rattle.ktm_types.specs.Values.{IsGiven, IsText}
+use Rattle.ktm_world.specs.declared.command.Command.{Command}
+use Rattle.ktm_world.specs.declared.event.Event.{Event}
+use Rattle.ktm_world.specs.declared.event.Event.TheVariants.{Ready, Single}
+use Rattle.ktm_world.specs.EventGrammar.{IsEventOf, IsGroupOf}
+use Rattle.ktm_world.specs.Values.{IsGiven, IsText}
 use Rattle.ktm_world.specs.Decide.{decide}
 use Rattle.ktm_world.specs.Durable.{Durable, Recorded, after_event, after_events, settings_in, settings_of, stand}
 use Rattle.ktm_world.specs.Keys.{Own, OwnSettings, Store}
@@ -16,7 +16,7 @@ use Rattle.ktm_world.specs.Logs.{Group}
 use Rattle.ktm_world.specs.Outcome.{apply}
 use Rattle.ktm_world.specs.Present.{Present}
 use Rattle.ktm_world.specs.World.{present, opened, own_group, decide_tick}
-use Rattle.ktm_states.specs.GoodState.{IsGoodState}
+use Rattle.txf_laws.specs.GoodState.{IsGoodState}
 use Rattle.ktm_records.specs.Kept.{IsKept}
 
 -- the keys of settings are texts

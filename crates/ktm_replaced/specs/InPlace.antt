@@ -1,7 +1,7 @@
 -- What a commit or a plain call leaves of what another transaction changed and holds, whatever bytes that one sees.
 use Rattle.std.specs.Prelude.{◌≡◌, true, false, All, List, [], ◌∷◌, ◌++◌}
 use Rattle.ktm_base.specs.declared.id.Id.{Id}
-use Rattle.ktm_types.specs.declared.change.Change.{Change}
+use Rattle.ktm_world.specs.declared.change.Change.{Change}
 use Rattle.ktm_world.specs.Changes.{changes_apply}
 use Rattle.ktm_world.specs.Conflicts.{holds_now}
 use Rattle.ktm_world.specs.Files.{FilesNow, OwnChanges, own_changes}

@@ -1,8 +1,8 @@
 -- What files, and places on a disk in their place, come to alike.
 use Rattle.std.specs.Prelude.{◌≡◌, ℕ, true, None, Some, List, map}
 use Rattle.ktm_base.specs.declared.id.Id.{Id}
-use Rattle.ktm_types.specs.declared.change.Change.{Change}
-use Rattle.ktm_types.specs.declared.event.Event.TheVariants.{Plain}
+use Rattle.ktm_world.specs.declared.change.Change.{Change}
+use Rattle.ktm_world.specs.declared.event.Event.TheVariants.{Plain}
 use Rattle.ktm_world.specs.Changes.{changed, applies, changes_apply, node_of}
 use Rattle.ktm_world.specs.Durable.{Durable, after_event, event_applies}
 use Rattle.ktm_world.specs.FileOutcome.{FileOutcome, files_after}

@@ -1,8 +1,8 @@
 -- Changes of the bytes of a file, one where contents are places on a disk and one where they are the bytes there.
 use Rattle.std.specs.Prelude.{◌≡◌, ◌⊎◌, ℕ, Bool, true, List, map, Option, Some, None, ⊤}
 use Rattle.ktm_base.specs.declared.id.Id.{Id}
-use Rattle.ktm_types.specs.declared.change.Change.{Change}
-use Rattle.ktm_types.specs.declared.change.Change.TheVariants.{Put, Cut}
+use Rattle.ktm_world.specs.declared.change.Change.{Change}
+use Rattle.ktm_world.specs.declared.change.Change.TheVariants.{Put, Cut}
 use Rattle.ktm_world.specs.Changes.{bytes_in, is_whole, is_empty_list, changes_bytes, node_of}
 use Rattle.ktm_world.specs.FileOutcome.{FileOutcome}
 use Rattle.ktm_world.specs.Files.{FilesNow, bytes_seen}

@@ -19,11 +19,11 @@ use Rattle.ktm_codec.proofs.NumberLemmas.{last_number_is, last_number_again}
 use Rattle.ktm_codec.proofs.Steps.{bind_some, at_end_is, on_some_is}
 use Rattle.ktm_codec.proofs.WordLemmas.{after_word_is, after_word_again}
 use Rattle.ktm_codec.proofs.WordSplits.{word_is}
-use Rattle.ktm_types.specs.declared.object.TransactionOutcome.{TransactionOutcome}
-use Rattle.ktm_types.specs.declared.reply.Reply.{Reply}
-use Rattle.ktm_types.specs.declared.reply.Reply.TheVariants.{Guid, Information, Notification, Contents, Size}
-use Rattle.ktm_types.specs.declared.reply.TransactionState.{TransactionState}
-use Rattle.ktm_types.specs.Values.{IsGuid, IsSize}
+use Rattle.ktm_world.specs.declared.object.TransactionOutcome.{TransactionOutcome}
+use Rattle.ktm_world.specs.declared.reply.Reply.{Reply}
+use Rattle.ktm_world.specs.declared.reply.Reply.TheVariants.{Guid, Information, Notification, Contents, Size}
+use Rattle.ktm_world.specs.declared.reply.TransactionState.{TransactionState}
+use Rattle.ktm_world.specs.Values.{IsGuid, IsSize}
 use Rattle.ktm_reply.specs.Kinds.{kind_name}
 use Rattle.ktm_reply.specs.Reading.{behind_guid_at, behind_kind_at, information_at, kind_named, outcome_named, part_at, size_at, state_named}
 use Rattle.ktm_reply.specs.Spelling.{IsReply, reply_spelling}

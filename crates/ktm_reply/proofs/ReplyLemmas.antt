@@ -15,9 +15,9 @@ use Rattle.ktm_codec.proofs.HexLemmas.{option_map_some}
 use Rattle.ktm_codec.proofs.NumberLemmas.{number_is, number_again, last_number_is, last_number_again}
 use Rattle.ktm_codec.proofs.Steps.{bind_some, on_some_is}
 use Rattle.ktm_codec.proofs.WordLemmas.{after_word_is, after_word_again}
-use Rattle.ktm_types.specs.declared.reply.Reply.{Reply}
-use Rattle.ktm_types.specs.declared.reply.Reply.TheVariants.{Refused, Done, Guid, Committed, Pending, Information, Notification, Contents, Size, Names, Keys, Restarted, BadImage}
-use Rattle.ktm_types.specs.Values.{IsText}
+use Rattle.ktm_world.specs.declared.reply.Reply.{Reply}
+use Rattle.ktm_world.specs.declared.reply.Reply.TheVariants.{Refused, Done, Guid, Committed, Pending, Information, Notification, Contents, Size, Names, Keys, Restarted, BadImage}
+use Rattle.ktm_world.specs.Values.{IsText}
 use Rattle.ktm_reply.specs.declared.fault.ReplyFault.{ReplyFault}
 use Rattle.ktm_reply.specs.declared.fault.ReplyFault.TheVariants.{NotAReply, NoMemory}
 use Rattle.ktm_reply.specs.Kinds.{kind_name}

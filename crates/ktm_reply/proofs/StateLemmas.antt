@@ -1,10 +1,10 @@
 -- A state or an outcome is read from its name alone.
 use Rattle.std.proofs.Common.{◌≡◌, ℕ, List, ◌++◌, Some, codes, refl}
 use Rattle.ktm_codec.specs.Word.{word_at, word_from}
-use Rattle.ktm_types.specs.declared.object.TransactionOutcome.{TransactionOutcome}
-use Rattle.ktm_types.specs.declared.object.TransactionOutcome.TheVariants.{Undetermined, Committed, Aborted}
-use Rattle.ktm_types.specs.declared.reply.TransactionState.{TransactionState}
-use Rattle.ktm_types.specs.declared.reply.TransactionState.TheVariants.{Normal, Indoubt, CommittedNotify}
+use Rattle.ktm_world.specs.declared.object.TransactionOutcome.{TransactionOutcome}
+use Rattle.ktm_world.specs.declared.object.TransactionOutcome.TheVariants.{Undetermined, Committed, Aborted}
+use Rattle.ktm_world.specs.declared.reply.TransactionState.{TransactionState}
+use Rattle.ktm_world.specs.declared.reply.TransactionState.TheVariants.{Normal, Indoubt, CommittedNotify}
 use Rattle.ktm_reply.specs.declared.information.TheConstants.{OUTCOMES, STATES}
 use Rattle.ktm_reply.specs.Reading.{outcome_named, state_named}
 use Rattle.ktm_reply.specs.States.{outcome_name, state_name}

@@ -12,7 +12,7 @@ use Rattle.ktm_codec.proofs.HexLemmas.{option_map_some}
 use Rattle.ktm_codec.proofs.QuotedLemmas.{quoted_is, quoted_again}
 use Rattle.ktm_codec.proofs.Steps.{bind_some}
 use Rattle.ktm_codec.proofs.WordLemmas.{after_word_is, after_word_again}
-use Rattle.ktm_types.specs.Values.{IsTextByte, IsText}
+use Rattle.ktm_world.specs.Values.{IsTextByte, IsText}
 use Rattle.ktm_reply.specs.Reading.{spaced_at, texts_at, texts_from}
 use Rattle.ktm_reply.specs.Spelling.{spaced}
 

@@ -18,10 +18,10 @@ use Rattle.ktm_reply.specs.declared.fault.ReplyFault.TheVariants.{NotAReply, NoM
 use Rattle.ktm_reply.specs.Kinds.{kind_name}
 use Rattle.ktm_reply.specs.Refusals.{refusal_name}
 use Rattle.ktm_reply.specs.States.{state_name, outcome_name}
-use Rattle.ktm_types.specs.declared.object.TransactionOutcome.{TransactionOutcome}
-use Rattle.ktm_types.specs.declared.reply.Reply.{Reply}
-use Rattle.ktm_types.specs.declared.reply.Reply.TheVariants.{Refused, Done, Guid, Committed, Pending, Information, Notification, Contents, Size, Names, Restarted, BadImage}
-use Rattle.ktm_types.specs.declared.reply.TransactionState.{TransactionState}
+use Rattle.ktm_world.specs.declared.object.TransactionOutcome.{TransactionOutcome}
+use Rattle.ktm_world.specs.declared.reply.Reply.{Reply}
+use Rattle.ktm_world.specs.declared.reply.Reply.TheVariants.{Refused, Done, Guid, Committed, Pending, Information, Notification, Contents, Size, Names, Restarted, BadImage}
+use Rattle.ktm_world.specs.declared.reply.TransactionState.{TransactionState}
 
 -- what a function returned is what is read, unless memory ran out
 abbrev pub Gives : {Y : Type 0} → Result Y ReplyFault → Option Y → Type 0

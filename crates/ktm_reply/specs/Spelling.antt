@@ -10,9 +10,9 @@ use Rattle.ktm_codec.specs.Quoted.{quoted}
 use Rattle.ktm_reply.specs.Kinds.{kind_name}
 use Rattle.ktm_reply.specs.Refusals.{refusal_name}
 use Rattle.ktm_reply.specs.States.{state_name, outcome_name}
-use Rattle.ktm_types.specs.declared.reply.Reply.{Reply}
-use Rattle.ktm_types.specs.declared.reply.Reply.TheVariants.{Refused, Done, Guid, Committed, Pending, Information, Notification, Contents, Size, Names, Keys, Restarted, BadImage}
-use Rattle.ktm_types.specs.Values.{IsGuid, IsSize, IsText}
+use Rattle.ktm_world.specs.declared.reply.Reply.{Reply}
+use Rattle.ktm_world.specs.declared.reply.Reply.TheVariants.{Refused, Done, Guid, Committed, Pending, Information, Notification, Contents, Size, Names, Keys, Restarted, BadImage}
+use Rattle.ktm_world.specs.Values.{IsGuid, IsSize, IsText}
 
 -- a name or a key between quotation marks, behind a space
 abbrev pub spaced : List ℕ → List ℕ

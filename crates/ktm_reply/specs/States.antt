@@ -1,9 +1,9 @@
 -- The names of the states and outcomes of transactions.
 use Rattle.std.specs.Prelude.{ℕ, List, codes}
-use Rattle.ktm_types.specs.declared.object.TransactionOutcome.{TransactionOutcome}
-use Rattle.ktm_types.specs.declared.object.TransactionOutcome.TheVariants.{Undetermined, Committed, Aborted}
-use Rattle.ktm_types.specs.declared.reply.TransactionState.{TransactionState}
-use Rattle.ktm_types.specs.declared.reply.TransactionState.TheVariants.{Normal, Indoubt, CommittedNotify}
+use Rattle.ktm_world.specs.declared.object.TransactionOutcome.{TransactionOutcome}
+use Rattle.ktm_world.specs.declared.object.TransactionOutcome.TheVariants.{Undetermined, Committed, Aborted}
+use Rattle.ktm_world.specs.declared.reply.TransactionState.{TransactionState}
+use Rattle.ktm_world.specs.declared.reply.TransactionState.TheVariants.{Normal, Indoubt, CommittedNotify}
 
 -- a state's name
 abbrev pub state_name : TransactionState → List ℕ

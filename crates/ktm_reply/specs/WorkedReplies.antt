@@ -3,10 +3,10 @@ use Rattle.std.specs.Prelude.{◌≡◌, ℕ, List, [], ◌∷◌, Some, None, t
 use Rattle.std.specs.List.{list_all}
 use Rattle.ktm_base.specs.declared.notify.Notify.TheVariants as kind
 use Rattle.ktm_base.specs.declared.refusal.Refusal.TheVariants as refusal
-use Rattle.ktm_types.specs.declared.reply.Reply.{Reply}
-use Rattle.ktm_types.specs.declared.reply.Reply.TheVariants.{Refused, Done, Guid, Committed, Pending, Information, Notification, Contents, Size, Names, Keys, Restarted, BadImage}
-use Rattle.ktm_types.specs.declared.reply.TransactionState.TheVariants as state
-use Rattle.ktm_types.specs.declared.object.TransactionOutcome.TheVariants as outcome
+use Rattle.ktm_world.specs.declared.reply.Reply.{Reply}
+use Rattle.ktm_world.specs.declared.reply.Reply.TheVariants.{Refused, Done, Guid, Committed, Pending, Information, Notification, Contents, Size, Names, Keys, Restarted, BadImage}
+use Rattle.ktm_world.specs.declared.reply.TransactionState.TheVariants as state
+use Rattle.ktm_world.specs.declared.object.TransactionOutcome.TheVariants as outcome
 use Rattle.ktm_reply.specs.Spelling.{place, reply_spelling}
 
 -- each reply is spelled by the text beside it

@@ -4,7 +4,7 @@ ghost use Rattle.ktm_reply.specs.Reading.{behind_guid_at, information_at, outcom
 ghost use Rattle.ktm_reply.specs.States.{outcome_name, state_name};
 
 use ktm_codec::{split_word, strip_word};
-use ktm_types::{Reply, TransactionOutcome, TransactionState};
+use ktm_world::{Reply, TransactionOutcome, TransactionState};
 use uuid::Uuid;
 
 const STATES: [TransactionState; 3] = [

@@ -5,7 +5,7 @@ ghost use Rattle.ktm_reply.specs.Reading.{behind_kind_at, kind_named};
 
 use ktm_base::Notify;
 use ktm_codec::{read_guid, strip_word};
-use ktm_types::Reply;
+use ktm_world::Reply;
 
 // The kinds that have an enlistment's GUID behind them.
 const KINDS: [Notify; 13] = [

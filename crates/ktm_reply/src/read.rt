@@ -13,7 +13,7 @@ use ktm_base::Notify;
 use ktm_codec::{
     read_guid, read_hex_or_dash, read_last_number, read_number, split_word, strip_word,
 };
-use ktm_types::Reply;
+use ktm_world::Reply;
 use std::alloc::Global;
 
 // Behind `ok`, where the reply has no values.

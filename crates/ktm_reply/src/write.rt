@@ -4,7 +4,7 @@ ghost use Rattle.ktm_codec.specs.Guid.{guid_spelling};
 ghost use Rattle.ktm_codec.specs.Hex.{hex_or_dash};
 ghost use Rattle.ktm_reply.specs.Spelling.{notification_spelling, reply_spelling, spaced};
 ghost use Rattle.ktm_reply.specs.States.{outcome_name, state_name};
-ghost use Rattle.ktm_types.specs.declared.reply.Reply.TheVariants.{Restarted};
+ghost use Rattle.ktm_world.specs.declared.reply.Reply.TheVariants.{Restarted};
 
 use crate::information::{outcome_name, state_name};
 use crate::notification::kind_name;
@@ -12,7 +12,7 @@ use crate::refusal::refusal_name;
 use crate::texts::put_texts;
 use ktm_base::{Bytes, NoMemory, Notify, TextList};
 use ktm_codec::{put_guid, put_hex_or_dash, put_number};
-use ktm_types::{Reply, TransactionOutcome, TransactionState};
+use ktm_world::{Reply, TransactionOutcome, TransactionState};
 use std::alloc::Global;
 use uuid::Uuid;
 

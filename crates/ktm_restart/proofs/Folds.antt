@@ -6,7 +6,7 @@ use Rattle.ktm_log.proofs.Frames.{end_of-push}
 use Rattle.ktm_log.proofs.Payloads.{payloads_first, payloads_none}
 use Rattle.ktm_world.specs.Logs.{Group}
 use Rattle.ktm_world.specs.Durable.{Durable}
-use Rattle.ktm_types.specs.EventGrammar.{IsGroupOf}
+use Rattle.ktm_world.specs.EventGrammar.{IsGroupOf}
 use Rattle.ktm_paged.specs.Paged.{paged_after_all}
 use Rattle.ktm_restart.specs.Bad.{IsBadPayload}
 use Rattle.ktm_restart.specs.Logs.{AppliesTo}

@@ -11,7 +11,7 @@ use Rattle.ktm_owners.proofs.offered.Events.{given-length}
 use Rattle.ktm_owners.proofs.offered.States.{state-known, state-shared}
 use Rattle.ktm_owners.proofs.offered.Turns.{rest-at, rest-past}
 use Rattle.ktm_paged.specs.Paged.{IsApart, LieBelow}
-use Rattle.ktm_states.specs.GoodState.{IsGoodState}
+use Rattle.txf_laws.specs.GoodState.{IsGoodState}
 use Rattle.ktm_world.specs.Durable.{Durable}
 
 -- so many names were given, and those that are left come to what all come to

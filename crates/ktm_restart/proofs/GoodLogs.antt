@@ -3,8 +3,8 @@ use Rattle.std.proofs.Common.{◌≡◌, ℕ, suc, get_or, ◌<◌, true, List, 
 use Rattle.std.proofs.lemmas.Bool.{and_from}
 use Rattle.std.specs.List.{list_all}
 use Rattle.ktm_base.specs.Bytes.{AreBytes}
-use Rattle.ktm_states.specs.GoodState.{IsGoodState}
-use Rattle.ktm_states.specs.Grammatical.{GrammarLaw, is_grammatical}
+use Rattle.txf_laws.specs.GoodState.{IsGoodState}
+use Rattle.txf_laws.specs.Grammatical.{GrammarLaw, is_grammatical}
 use Rattle.ktm_journal.specs.declared.header.Header.{Header}
 use Rattle.ktm_log.specs.Log.{payloads_in}
 use Rattle.ktm_base.specs.Grammar.{IsRow}
@@ -12,11 +12,11 @@ use Rattle.ktm_paged.specs.Laws.{PagedLaw}
 use Rattle.ktm_paged.specs.Meaning.{meant_event, meant_part}
 use Rattle.ktm_paged.specs.Paged.{paged_after, paged_after_all, paged_stand}
 use Rattle.ktm_records.specs.Spelling.{AreRecordedTexts, HaveTextKeys, SpellingLaw, settings_of_event}
-use Rattle.ktm_types.specs.declared.event.Event.{Event}
-use Rattle.ktm_types.specs.declared.event.Event.TheVariants.{Boot, MadeRm, Plain, Ready, Single, Held, Decide, Undo, Done}
-use Rattle.ktm_types.specs.declared.event.Part.{Part}
-use Rattle.ktm_types.specs.declared.event.Part.TheVariants.{Changes, Enlistment, Settings}
-use Rattle.ktm_types.specs.EventGrammar.{IsEventOf, IsGroupOf}
+use Rattle.ktm_world.specs.declared.event.Event.{Event}
+use Rattle.ktm_world.specs.declared.event.Event.TheVariants.{Boot, MadeRm, Plain, Ready, Single, Held, Decide, Undo, Done}
+use Rattle.ktm_world.specs.declared.event.Part.{Part}
+use Rattle.ktm_world.specs.declared.event.Part.TheVariants.{Changes, Enlistment, Settings}
+use Rattle.ktm_world.specs.EventGrammar.{IsEventOf, IsGroupOf}
 use Rattle.ktm_world.specs.Durable.{Durable, settings_in}
 use Rattle.ktm_world.specs.Tree.{Tree}
 use Rattle.ktm_world.specs.Logs.{Group}

@@ -15,7 +15,7 @@ use Rattle.ktm_journal.proofs.offered.GroupSizes.{groups_size}
 use Rattle.ktm_journal.proofs.offered.Images.{counted_at}
 use Rattle.ktm_journal.proofs.offered.OneImage.{one_header, one_snapshot}
 use Rattle.ktm_snapshot.specs.StateGrammar.{IsStateOf}
-use Rattle.ktm_states.specs.GoodState.{IsGoodState}
+use Rattle.txf_laws.specs.GoodState.{IsGoodState}
 use Rattle.ktm_restart.specs.Logs.{IsOnPages, JournalFor, PagedFor}
 use Rattle.ktm_restart.specs.Bad.{BeginsAs, IsBadAt, IsBadPayload, IsBadSnapshot}
 use Rattle.ktm_restart.specs.Loads.{KnowsState}

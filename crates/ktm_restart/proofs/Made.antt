@@ -4,9 +4,9 @@ use Rattle.std.specs.List.{list_all}
 use Rattle.std.proofs.lemmas.Bool.{cases_Bool, and_parts}
 use Rattle.ktm_base.specs.declared.id.Id.{Id}
 use Rattle.ktm_paged.proofs.offered.Meanings.{ends-can}
-use Rattle.ktm_states.specs.GoodState.{are_kept_changes}
-use Rattle.ktm_states.proofs.offered.WaitingChanges.{no_changes-left, no_changes_part}
-use Rattle.ktm_types.specs.declared.change.Change.{Change}
+use Rattle.txf_laws.specs.GoodState.{are_kept_changes}
+use Rattle.txf_laws.proofs.offered.WaitingChanges.{no_changes-left, no_changes_part}
+use Rattle.ktm_world.specs.declared.change.Change.{Change}
 use Rattle.ktm_waiting.specs.Table.{changes_at}
 use Rattle.ktm_waiting.specs.Waiting.{AreKept, IsWaitingKept}
 use Rattle.ktm_waiting.proofs.offered.Keeping.{found-kept}

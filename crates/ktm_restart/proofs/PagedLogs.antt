@@ -12,13 +12,13 @@ use Rattle.ktm_paged.specs.Laws.{PagedLaw}
 use Rattle.ktm_paged.specs.Meaning.{has_event_its_pages, has_work_pages, meant, meant_event, meant_part, pages_in}
 use Rattle.ktm_paged.specs.Paged.{GroupApplies, IsApart, IsOwned, LieBelow, LogApplies, PagedApplies, meant_log, paged_after, paged_after_all, paged_stand}
 use Rattle.ktm_restart.specs.Logs.{AllApplyTo, AppliesTo, IsOnPages}
-use Rattle.ktm_states.specs.GoodState.{IsGoodState}
-use Rattle.ktm_states.specs.Grammatical.{changes_of_event, is_grammatical}
-use Rattle.ktm_types.specs.declared.change.Change.{Change}
-use Rattle.ktm_types.specs.declared.event.Event.{Event}
-use Rattle.ktm_types.specs.declared.event.Event.TheVariants.{Boot, MadeRm, Plain, Ready, Single, Held, Decide, Undo, Done}
-use Rattle.ktm_types.specs.declared.event.Part.{Part}
-use Rattle.ktm_types.specs.declared.event.Part.TheVariants.{Changes, Enlistment, Settings}
+use Rattle.txf_laws.specs.GoodState.{IsGoodState}
+use Rattle.txf_laws.specs.Grammatical.{changes_of_event, is_grammatical}
+use Rattle.ktm_world.specs.declared.change.Change.{Change}
+use Rattle.ktm_world.specs.declared.event.Event.{Event}
+use Rattle.ktm_world.specs.declared.event.Event.TheVariants.{Boot, MadeRm, Plain, Ready, Single, Held, Decide, Undo, Done}
+use Rattle.ktm_world.specs.declared.event.Part.{Part}
+use Rattle.ktm_world.specs.declared.event.Part.TheVariants.{Changes, Enlistment, Settings}
 use Rattle.ktm_world.specs.Durable.{Durable, after_event, after_events, changes_in, event_applies, events_apply}
 use Rattle.ktm_world.specs.Tree.{Tree}
 use Rattle.ktm_world.specs.Logs.{Group}

@@ -17,10 +17,10 @@ use Rattle.ktm_restart.specs.Logs.{AppliesTo, IsOnPages}
 use Rattle.ktm_restart.proofs.Giving.{given-false, given-true}
 use Rattle.ktm_restart.proofs.Meant.{all-flat}
 use Rattle.ktm_restart.specs.Reading.{IsReadWell, ReadingState, is_event_below, event_if_paged}
-use Rattle.ktm_states.specs.GoodState.{IsGoodState}
-use Rattle.ktm_states.specs.GoodStates.{GoodStatesLaw}
-use Rattle.ktm_states.specs.Grammatical.{changes_of_event, is_grammatical}
-use Rattle.ktm_types.specs.declared.event.Event.{Event}
+use Rattle.txf_laws.specs.GoodState.{IsGoodState}
+use Rattle.txf_laws.specs.GoodStates.{GoodStatesLaw}
+use Rattle.txf_laws.specs.Grammatical.{changes_of_event, is_grammatical}
+use Rattle.ktm_world.specs.declared.event.Event.{Event}
 use Rattle.ktm_world.specs.Durable.{Durable, after_event, event_applies}
 use Rattle.ktm_world.specs.Logs.{Group}
 use Rattle.ktm_world.specs.Tree.{Tree}

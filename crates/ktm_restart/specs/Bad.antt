@@ -3,10 +3,10 @@ use Rattle.std.specs.Prelude.{◌≡◌, ◌⊎◌, ℕ, ◌+◌, List, drop}
 use Rattle.ktm_log.specs.Log.{IsFrame, IsTorn, BeginsWith, area_bytes, end_of}
 use Rattle.ktm_world.specs.Logs.{Group}
 use Rattle.ktm_world.specs.Durable.{Durable}
-use Rattle.ktm_types.specs.EventGrammar.{IsGroupOf}
-use Rattle.ktm_types.specs.Sizes.{log_size}
+use Rattle.ktm_world.specs.EventGrammar.{IsGroupOf}
+use Rattle.ktm_world.specs.Sizes.{log_size}
 use Rattle.ktm_snapshot.specs.StateGrammar.{IsStateOf}
-use Rattle.ktm_states.specs.GoodState.{IsGoodState}
+use Rattle.txf_laws.specs.GoodState.{IsGoodState}
 use Rattle.ktm_journal.specs.Image.{HasSnapshot, HoldGroups, IsFormatted, IsHeaded, half_of, log_area, snapshot_area}
 use Rattle.ktm_journal.specs.Bad.{HasNoHeader}
 use Rattle.ktm_paged.specs.Paged.{paged_stand}

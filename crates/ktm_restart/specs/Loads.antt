@@ -7,7 +7,7 @@ use Rattle.ktm_journal.specs.declared.fault.LoadFault.TheVariants.{Down, Bad, No
 use Rattle.ktm_journal.specs.Image.{IsHeaded, JournalState, half_of, log_area}
 use Rattle.ktm_log.specs.OnDisk.{OnDisk, ReadsInto, WasRead}
 use Rattle.ktm_records.specs.Spelling.{AreRecordedTexts}
-use Rattle.ktm_states.specs.GoodState.{IsGoodState}
+use Rattle.txf_laws.specs.GoodState.{IsGoodState}
 use Rattle.ktm_world.specs.Durable.{Durable}
 use Rattle.ktm_restart.specs.declared.replay.Loaded.{Loaded}
 use Rattle.ktm_restart.specs.Bad.{IsBadAt}

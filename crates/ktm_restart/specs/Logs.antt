@@ -8,8 +8,8 @@ use Rattle.ktm_journal.specs.Image.{IsImage, JournalAt, JournalState, page_count
 use Rattle.ktm_mapped.specs.Mapped.{mapped_durable}
 use Rattle.ktm_paged.specs.Paged.{GroupApplies, IsApart, LieBelow, LogApplies, paged_stand}
 use Rattle.ktm_snapshot.specs.StateGrammar.{IsStateOf}
-use Rattle.ktm_states.specs.GoodState.{IsGoodState}
-use Rattle.ktm_types.specs.EventGrammar.{IsGroupOf}
+use Rattle.txf_laws.specs.GoodState.{IsGoodState}
+use Rattle.ktm_world.specs.EventGrammar.{IsGroupOf}
 use Rattle.ktm_world.specs.Durable.{Durable}
 use Rattle.ktm_world.specs.Logs.{Group}
 

@@ -7,9 +7,9 @@ use Rattle.ktm_owners.specs.Owners.{AreOwnersOf}
 use Rattle.ktm_paged.specs.Meaning.{has_event_its_pages, meant_event, pages_in}
 use Rattle.ktm_paged.specs.Paged.{LieBelow}
 use Rattle.ktm_restart.specs.Logs.{IsOnPages}
-use Rattle.ktm_states.specs.GoodState.{IsGoodState}
-use Rattle.ktm_states.specs.Grammatical.{changes_of_event}
-use Rattle.ktm_types.specs.declared.event.Event.{Event}
+use Rattle.txf_laws.specs.GoodState.{IsGoodState}
+use Rattle.txf_laws.specs.Grammatical.{changes_of_event}
+use Rattle.ktm_world.specs.declared.event.Event.{Event}
 use Rattle.ktm_world.specs.Durable.{Durable}
 use Rattle.ktm_world.specs.Tree.{Tree}
 

@@ -1,9 +1,9 @@
 -- The state of an image while its log is read, and the memory that is there for it. No public clause cites this module.
 use Rattle.std.specs.Prelude.{◌≡◌, ℕ, ◌+◌, ◌*◌, Bool, true, false, length, nat_lt}
 use Rattle.ktm_base.specs.declared.limits.TheConstants.{UNIT_BYTES}
-use Rattle.ktm_types.specs.declared.change.Change.{Change}
-use Rattle.ktm_types.specs.declared.change.Change.TheVariants.{Put, Cut}
-use Rattle.ktm_types.specs.declared.event.Event.{Event}
+use Rattle.ktm_world.specs.declared.change.Change.{Change}
+use Rattle.ktm_world.specs.declared.change.Change.TheVariants.{Put, Cut}
+use Rattle.ktm_world.specs.declared.event.Event.{Event}
 use Rattle.ktm_world.specs.Changes.{bytes_in}
 use Rattle.ktm_world.specs.Durable.{Durable, event_applies, fact_applies, fact_of}
 use Rattle.txf_durable.specs.Numbers.{FileNumbersState}

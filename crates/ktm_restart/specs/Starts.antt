@@ -6,7 +6,7 @@ use Rattle.ktm_journal.specs.Image.{JournalState}
 use Rattle.ktm_journal.specs.Open.{IsOfImage, log_reads}
 use Rattle.ktm_log.specs.OnDisk.{OnDisk, WasRead}
 use Rattle.ktm_records.specs.Spelling.{AreRecordedTexts}
-use Rattle.ktm_states.specs.GoodState.{IsGoodState}
+use Rattle.txf_laws.specs.GoodState.{IsGoodState}
 use Rattle.ktm_world.specs.Durable.{Durable}
 use Rattle.ktm_restart.specs.Bad.{BeginsAs, IsBadSnapshot}
 use Rattle.ktm_restart.specs.Loads.{FaultLeaves, KnowsState}

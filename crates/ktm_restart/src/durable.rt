@@ -2,8 +2,8 @@
 ghost use Rattle.std.specs.Prelude.{◌≡◌, ℕ, ◌+◌, ◌-◌, ◌^◌, ◌<◌, ◌≤◌, List, [], ◌∷◌, ◌++◌, All, length, sum_by};
 ghost use Rattle.ktm_event.specs.Kept.{Holds};
 ghost use Rattle.ktm_event.specs.Spelling.{IsSpellableEvent};
-ghost use Rattle.ktm_types.specs.declared.event.Event.{Event as Recording};
-ghost use Rattle.ktm_types.specs.Sizes.{event_size};
+ghost use Rattle.ktm_world.specs.declared.event.Event.{Event as Recording};
+ghost use Rattle.ktm_world.specs.Sizes.{event_size};
 ghost use Rattle.ktm_world.specs.Durable.{after_events};
 ghost use Rattle.ktm_world.specs.Tree.{bytes_or_none, units_of};
 ghost use Rattle.ktm_world.specs.World.{own_group};

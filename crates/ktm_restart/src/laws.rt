@@ -4,16 +4,16 @@ ghost use Rattle.ktm_base.specs.declared.limits.TheConstants.{LEAST_UNITS, MOST_
 ghost use Rattle.ktm_base.specs.Disk.{DiskState, MayLeave};
 ghost use Rattle.ktm_journal.specs.Image.{IsImage, JournalState, empty_snapshot};
 ghost use Rattle.ktm_snapshot.specs.StateGrammar.{IsStateOf};
-ghost use Rattle.ktm_states.specs.GoodState.{IsGoodState};
+ghost use Rattle.txf_laws.specs.GoodState.{IsGoodState};
 ghost use Rattle.ktm_world.specs.Logs.{Group};
 ghost use Rattle.ktm_paged.specs.Paged.{paged_after_all};
-ghost use Rattle.ktm_states.specs.Grammatical.{changes_of_event};
+ghost use Rattle.txf_laws.specs.Grammatical.{changes_of_event};
 ghost use Rattle.ktm_world.specs.Durable.{Durable, after_events, empty_state, events_apply};
 ghost use Rattle.ktm_restart.specs.Logs.{AppliesTo, ComeTo, IsOnPages, JournalFor, PagedFor, StandsFor, bytes_seen};
 ghost use Rattle.ktm_restart.specs.Bad.{IsBadAt};
 
 use ktm_snapshot::law_of_examples;
-use ktm_states::law_of_good_states;
+use txf_laws::law_of_good_states;
 
 /// Bytes are an image of one state over the places of bytes at most, and stand for one state of bytes at most.
 pub fn law_of_states()

@@ -8,9 +8,8 @@ ghost use Rattle.txf_tree.specs.TreeState.{tree_of};
 
 use crate::replayed::Replayed;
 use ktm_owners::lies_below;
-use ktm_types::{Change, RecordedPart};
 use ktm_waiting::changes_in;
-use ktm_world::Recorded;
+use ktm_world::{Change, Recorded, RecordedPart};
 use txf_tree::{NodeRef, Tree, bytes_in};
 
 // Does a file lie on some of the first so many pages; a directory does.

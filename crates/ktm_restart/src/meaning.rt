@@ -9,8 +9,8 @@ ghost use Rattle.txf_tree.specs.TreeState.{tree_of};
 use ktm_base::Items;
 use ktm_owners::are_below;
 use ktm_paged::{meant, pages_of};
-use ktm_types::{Change, Event, Part};
 use ktm_waiting::changes_in;
+use ktm_world::{Change, Event, Part};
 use std::mem::replace;
 use txf_tree::{Tree, node_of};
 

@@ -2,16 +2,15 @@
 ghost use Rattle.std.specs.Prelude.{◌≡◌, ◌++◌, List, OnOk};
 ghost use Rattle.ktm_owners.specs.declared.owners.Named.{Named as Name};
 ghost use Rattle.ktm_owners.specs.Owners.{AreAllNamedBy, AreNamedByFile, AreNamedByPart, AreNamedByParts, AreNamedByState, AreNamedInTurn};
-ghost use Rattle.ktm_states.specs.Grammatical.{changes_of_event};
+ghost use Rattle.txf_laws.specs.Grammatical.{changes_of_event};
 ghost use Rattle.txf_tree.specs.Children.{node_seen};
 ghost use Rattle.txf_tree.specs.TreeState.{tree_of};
 
 use crate::replayed::Replayed;
 use ktm_base::NoMemory;
 use ktm_owners::{Owner, Owners};
-use ktm_types::{Event, RecordedPart};
 use ktm_waiting::changes_in;
-use ktm_world::Recorded;
+use ktm_world::{Event, Recorded, RecordedPart};
 use txf_tree::{NodeRef, Tree};
 
 // Names the pages of a file; a directory has none.

@@ -4,16 +4,15 @@ ghost use Rattle.std.specs.Prelude.{◌≡◌, ◌+◌, ◌≤◌, ◌∷◌, �
 ghost use Rattle.std.specs.List.{flat_map};
 ghost use Rattle.ktm_event.specs.Kept.{Holds};
 ghost use Rattle.ktm_event.specs.Spelling.{IsSpellableEvent};
-ghost use Rattle.ktm_types.specs.Sizes.{event_size};
-ghost use Rattle.ktm_types.specs.declared.event.Event.{Event as Recording};
+ghost use Rattle.ktm_world.specs.Sizes.{event_size};
+ghost use Rattle.ktm_world.specs.declared.event.Event.{Event as Recording};
 ghost use Rattle.ktm_world.specs.Durable.{has_undone};
 ghost use Rattle.ktm_world.specs.World.{done_if, own_events};
 
 use ktm_base::Id;
 use ktm_event::Events;
-use ktm_types::{DonePart, Event};
 use ktm_waiting::has_undone;
-use ktm_world::Recorded;
+use ktm_world::{DonePart, Event, Recorded};
 
 /// Puts the event of a boot into the list.
 pub(crate) fn push_boot(boot: u32, events: &mut Events)

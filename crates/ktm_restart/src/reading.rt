@@ -8,8 +8,8 @@ ghost use Rattle.ktm_paged.specs.Paged.{IsApart, IsPlainlyMade, LieBelow, PagedA
 ghost use Rattle.ktm_restart.specs.Logs.{AppliesTo, IsOnPages};
 ghost use Rattle.ktm_restart.specs.Reading.{IsReadWell, ReadsOn};
 ghost use Rattle.ktm_saved.specs.Saved.{state_of};
-ghost use Rattle.ktm_states.specs.GoodState.{IsGoodState};
-ghost use Rattle.ktm_states.specs.Grammatical.{changes_of_event, is_grammatical};
+ghost use Rattle.txf_laws.specs.GoodState.{IsGoodState};
+ghost use Rattle.txf_laws.specs.Grammatical.{changes_of_event, is_grammatical};
 ghost use Rattle.ktm_waiting.specs.Waiting.{AreHeld};
 ghost use Rattle.ktm_world.specs.Durable.{after_event, event_applies};
 ghost use Rattle.txf_tree.specs.TreeState.{tree_of};
@@ -24,10 +24,10 @@ use ktm_journal::page_count;
 use ktm_owners::{Named, Owners, is_same_unit};
 use ktm_paged::law_of_paged_records;
 use ktm_saved::Saved;
-use ktm_states::law_of_good_states;
-use ktm_types::Event;
+use ktm_world::Event;
 use std::alloc::Global;
 use std::marker::Model;
+use txf_laws::law_of_good_states;
 
 /// What a snapshot and the events that were read so far come to, over the places of bytes, and the owner of each page.
 #[derive(Drop)]

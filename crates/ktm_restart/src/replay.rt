@@ -5,7 +5,7 @@ ghost use Rattle.ktm_log.specs.Log.{payloads_in};
 ghost use Rattle.ktm_log.specs.OnDisk.{on};
 ghost use Rattle.ktm_paged.specs.Paged.{paged_after_all};
 ghost use Rattle.ktm_world.specs.Logs.{Group};
-ghost use Rattle.ktm_types.specs.EventGrammar.{IsGroupOf};
+ghost use Rattle.ktm_world.specs.EventGrammar.{IsGroupOf};
 ghost use Rattle.ktm_journal.specs.Image.{IsHeaded, half_of, log_area};
 ghost use Rattle.ktm_journal.specs.Bad.{load_went_down};
 ghost use Rattle.ktm_journal.specs.Open.{log_reads};
@@ -26,8 +26,8 @@ use ktm_paged::law_of_paged_records;
 use ktm_records::law_of_spelling;
 use ktm_saved::read_state;
 use ktm_snapshot::law_of_states;
-use ktm_states::law_of_grammar;
 use std::alloc::Global;
+use txf_laws::law_of_grammar;
 
 /// A journal that was loaded, and the durable state to which its image comes, over the places of bytes.
 #[derive(Drop)]

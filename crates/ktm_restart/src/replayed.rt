@@ -1,7 +1,7 @@
 // The durable state in memory while an image is read, and what each event makes of it.
 ghost use Rattle.std.specs.Prelude.{◌≡◌, ◌&&◌, ◌+◌, ◌^◌, ◌<◌, ◌≤◌, [], ◌∷◌, Ok, None, Some, not, false, true, IfOk, IsOk, OnOk, is_none, length, nat_eq, nat_le, nat_lt, sum_by};
 ghost use Rattle.std.specs.List.{flat_map, list_all, list_any};
-ghost use Rattle.ktm_types.specs.declared.event.Event.TheVariants.{Boot, MadeRm, Plain, Ready, Single, Held, Decide, Undo, Done};
+ghost use Rattle.ktm_world.specs.declared.event.Event.TheVariants.{Boot, MadeRm, Plain, Ready, Single, Held, Decide, Undo, Done};
 ghost use Rattle.ktm_base.specs.declared.id.Id.{Id as Number};
 ghost use Rattle.ktm_base.specs.declared.limits.TheConstants.{MOST_LIVE};
 ghost use Rattle.ktm_world.specs.Changes.{changes_apply};
@@ -25,12 +25,14 @@ use ktm_base::{Bytes, Id, MOST_INFORMATION_BYTES, MOST_LIVE, NoMemory, UNIT_BYTE
 use ktm_keyed::KeyedList;
 use ktm_owners::{Owner, has_unit};
 use ktm_saved::Saved;
-use ktm_types::{Change, DonePart, Event, Part, RecordedPart, Setting, Superior};
 use ktm_waiting::{
     Amounts, Managers, Transactions, changes_in, fits_in, hold_changes, limits, others_change,
     others_set, release_changes, release_ready, without,
 };
-use ktm_world::{Recorded, are_good_settings, make_all};
+use ktm_world::{
+    Change, DonePart, Event, Part, Recorded, RecordedPart, Setting, Superior, are_good_settings,
+    make_all,
+};
 use std::alloc::Global;
 use std::marker::Model;
 use std::mem::replace;

@@ -4,10 +4,10 @@ use Rattle.std.proofs.lemmas.Bool.{and_parts, ne_eqb, true≢false}
 use Rattle.std.proofs.lemmas.List.Sums.{sum_by-append, sum_by-cons, sum_by-le}
 use Rattle.std.specs.List.{list_all}
 use Rattle.ktm_event.specs.Spelling.{IsSpellableChange}
-use Rattle.ktm_types.specs.declared.change.Change.{Change}
-use Rattle.ktm_types.specs.declared.change.Change.TheVariants.{Make, Put, Cut, Move, Drop}
-use Rattle.ktm_types.specs.declared.change.Contents.TheVariants.{Whole}
-use Rattle.ktm_types.specs.Sizes.{change_size}
+use Rattle.ktm_world.specs.declared.change.Change.{Change}
+use Rattle.ktm_world.specs.declared.change.Change.TheVariants.{Make, Put, Cut, Move, Drop}
+use Rattle.ktm_world.specs.declared.change.Contents.TheVariants.{Whole}
+use Rattle.ktm_world.specs.Sizes.{change_size}
 use Rattle.ktm_world.specs.Changes.{applies, changed, changed_all, changes_apply, changes_bytes, nodes_made}
 use Rattle.ktm_world.specs.Committed.{changes_to_commit, final_bytes, written_files}
 use Rattle.ktm_world.specs.Tree.{Tree, is_file, node_at, units_of, without_node}

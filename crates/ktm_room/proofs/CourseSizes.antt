@@ -5,13 +5,13 @@ use Rattle.std.proofs.lemmas.List.Sums.{sum_by-append, sum_by-cons}
 use Rattle.std.proofs.Math.Nat.{mul-le-mul_left}
 use Rattle.ktm_base.specs.declared.id.Id.{Id}
 use Rattle.ktm_base.specs.declared.limits.TheConstants.{MOST_INFORMATION_BYTES}
-use Rattle.ktm_types.specs.declared.event.DonePart.{DonePart}
-use Rattle.ktm_types.specs.declared.event.Event.{Event}
-use Rattle.ktm_types.specs.declared.event.Part.{Part}
-use Rattle.ktm_types.specs.declared.input.PhaseInput.{PhaseInput}
-use Rattle.ktm_types.specs.declared.step.Fact.{Fact}
-use Rattle.ktm_types.specs.declared.step.Step.{Step}
-use Rattle.ktm_types.specs.Sizes.{change_size, event_size, setting_size}
+use Rattle.ktm_world.specs.declared.event.DonePart.{DonePart}
+use Rattle.ktm_world.specs.declared.event.Event.{Event}
+use Rattle.ktm_world.specs.declared.event.Part.{Part}
+use Rattle.ktm_world.specs.declared.input.PhaseInput.{PhaseInput}
+use Rattle.ktm_world.specs.declared.step.Fact.{Fact}
+use Rattle.ktm_world.specs.declared.step.Step.{Step}
+use Rattle.ktm_world.specs.Sizes.{change_size, event_size, setting_size}
 use Rattle.ktm_world.specs.Changes.{has_changes}
 use Rattle.ktm_world.specs.Enlistments.{Enlistment, Manager, is_durable_at}
 use Rattle.ktm_world.specs.Phases.{Course, enlistment_part, event_if, has_settings}

@@ -3,15 +3,15 @@ use Rattle.std.specs.Prelude.{⊤}
 use Rattle.std.proofs.Common.{◌≡◌, ℕ, ◌≤◌, true, false, List, [], ◌∷◌, ◌++◌, length, Option, Some, None, refl, arith, ◌*◌, ◌+◌, nat_lt, drop, ◌∙◌, ap, length-append}
 use Rattle.std.proofs.lemmas.Bool.{ltb-false, or_parts}
 use Rattle.ktm_base.specs.declared.id.Id.{Id}
-use Rattle.ktm_types.specs.declared.change.Change.{Change}
-use Rattle.ktm_types.specs.declared.change.Change.TheVariants.{Make, Put, Cut, Move, Drop}
-use Rattle.ktm_types.specs.declared.event.Event.TheVariants.{Plain}
-use Rattle.ktm_types.specs.declared.options.Access.{Access}
-use Rattle.ktm_types.specs.declared.options.Disposition.{Disposition}
-use Rattle.ktm_types.specs.declared.options.ShareMode.{ShareMode}
-use Rattle.ktm_types.specs.Sizes.{change_size}
-use Rattle.ktm_types.specs.declared.change.Contents.TheVariants.{Whole}
-use Rattle.ktm_types.specs.declared.recorded.Node.{Node}
+use Rattle.ktm_world.specs.declared.change.Change.{Change}
+use Rattle.ktm_world.specs.declared.change.Change.TheVariants.{Make, Put, Cut, Move, Drop}
+use Rattle.ktm_world.specs.declared.event.Event.TheVariants.{Plain}
+use Rattle.ktm_world.specs.declared.options.Access.{Access}
+use Rattle.ktm_world.specs.declared.options.Disposition.{Disposition}
+use Rattle.ktm_world.specs.declared.options.ShareMode.{ShareMode}
+use Rattle.ktm_world.specs.Sizes.{change_size}
+use Rattle.ktm_world.specs.declared.change.Contents.TheVariants.{Whole}
+use Rattle.ktm_world.specs.declared.recorded.Node.{Node}
 use Rattle.ktm_world.specs.Changes.{applies, changed}
 use Rattle.ktm_world.specs.Decide.{events_of}
 use Rattle.ktm_world.specs.FileCalls.{Whereabouts, no_path, no_way, free, at_root, at_node, create_at, create_directory, create_file, delete_file, drop_at, empties, find_files, find_path, get_size, make_at, move_at, move_file, read_file, remove_directory, set_end, write_file}

@@ -2,10 +2,10 @@
 use Rattle.std.proofs.Common.{◌≡◌, ℕ, true, is_some, List, [], ◌∷◌, ◌++◌, map, sum_by, Option, Some, None, refl, sym, ◌∙◌, ap, subst, arith, inl, inr}
 use Rattle.std.proofs.lemmas.Bool.{and_parts, true≢false}
 use Rattle.std.specs.List.{list_all}
-use Rattle.ktm_types.specs.declared.change.Change.{Change}
-use Rattle.ktm_types.specs.declared.change.Change.TheVariants.{Put, Cut}
-use Rattle.ktm_types.specs.declared.change.Contents.TheVariants.{Whole}
-use Rattle.ktm_types.specs.declared.recorded.Node.{Node}
+use Rattle.ktm_world.specs.declared.change.Change.{Change}
+use Rattle.ktm_world.specs.declared.change.Change.TheVariants.{Put, Cut}
+use Rattle.ktm_world.specs.declared.change.Contents.TheVariants.{Whole}
+use Rattle.ktm_world.specs.declared.recorded.Node.{Node}
 use Rattle.ktm_world.specs.Changes.{applies, changed, changed_all, changes_apply, node_of}
 use Rattle.ktm_world.specs.Committed.{changes_to_commit, final_bytes, written_files}
 use Rattle.ktm_world.specs.Durable.{are_recorded_changes}

@@ -3,7 +3,7 @@ use Rattle.std.proofs.Common.{◌≡◌, ◌*◌, ◌≤◌, not, true, is_some,
 use Rattle.std.proofs.lemmas.List.Sums.{length-filter}
 use Rattle.std.specs.List.{list_all}
 use Rattle.ktm_base.specs.declared.id.Id.{Id}
-use Rattle.ktm_types.specs.Sizes.{change_size, setting_size}
+use Rattle.ktm_world.specs.Sizes.{change_size, setting_size}
 use Rattle.ktm_world.specs.Changes.{changes_apply, changes_bytes, nodes_made}
 use Rattle.ktm_world.specs.Committed.{changes_to_commit}
 use Rattle.ktm_world.specs.Files.{OwnChanges, bytes_seen, own_changes}

@@ -3,12 +3,12 @@ use Rattle.std.proofs.Common.{◌+◌, ◌*◌, ◌≤◌, Bool, true, false, Li
 use Rattle.std.specs.List.{flat_map}
 use Rattle.std.proofs.lemmas.List.Sums.{sum_by-append, sum_by-cons}
 use Rattle.ktm_base.specs.declared.id.Id.{Id}
-use Rattle.ktm_types.specs.declared.event.DonePart.{DonePart}
-use Rattle.ktm_types.specs.declared.event.Event.TheVariants.{Boot, Done}
-use Rattle.ktm_types.specs.Sizes.{done_size, event_size}
+use Rattle.ktm_world.specs.declared.event.DonePart.{DonePart}
+use Rattle.ktm_world.specs.declared.event.Event.TheVariants.{Boot, Done}
+use Rattle.ktm_world.specs.Sizes.{done_size, event_size}
 use Rattle.ktm_world.specs.Durable.{Durable, Recorded, has_undone}
 use Rattle.ktm_world.specs.World.{done_if, own_events, own_group}
-use Rattle.ktm_states.specs.GoodState.{IsGoodState}
+use Rattle.txf_laws.specs.GoodState.{IsGoodState}
 use Rattle.ktm_records.proofs.offered.DurableLimits.{limits-kept}
 use Rattle.ktm_room.specs.Frames.{FitsEmptyLog}
 use Rattle.ktm_room.proofs.CourseSizes.{one-sized, sizes}

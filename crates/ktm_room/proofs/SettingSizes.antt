@@ -4,7 +4,7 @@ use Rattle.std.proofs.lemmas.Bool.{and_parts, ltb-false, not-true, or_parts}
 use Rattle.std.proofs.lemmas.List.Sums.{sum_by-cons}
 use Rattle.std.specs.List.{list_all}
 use Rattle.ktm_keyed.specs.declared.keyed.Keyed.{Keyed}
-use Rattle.ktm_types.specs.Sizes.{set_to_size, setting_size}
+use Rattle.ktm_world.specs.Sizes.{set_to_size, setting_size}
 use Rattle.ktm_world.specs.Keys.{OwnSettings, is_bad_key, is_bad_set_to, is_good_setting}
 use Rattle.txf_laws.proofs.offered.Sums.{count-cons, one_where}
 

@@ -6,14 +6,14 @@ use Rattle.std.proofs.Math.Nat.{mul-le-mul_left}
 use Rattle.std.specs.List.{list_all}
 use Rattle.ktm_base.specs.Names.{IsName}
 use Rattle.ktm_keyed.specs.declared.keyed.Keyed.{Keyed}
-use Rattle.ktm_types.specs.declared.recorded.Node.{Node}
+use Rattle.ktm_world.specs.declared.recorded.Node.{Node}
 use Rattle.ktm_world.specs.Keys.{Store, is_bad_key, is_bad_value}
 use Rattle.ktm_world.specs.Tree.{Tree, bytes_or_none, units_of}
 use Rattle.txf_laws.specs.Contents.{is_good_entry}
 use Rattle.txf_laws.specs.Elements.{IsIn}
 use Rattle.txf_laws.proofs.offered.CommitsOfOthers.{All-by, All-in}
 use Rattle.txf_laws.proofs.offered.Elements.{list_all-at}
-use Rattle.ktm_states.proofs.offered.GoodTransactions.{table-of}
+use Rattle.txf_laws.proofs.offered.GoodTransactions.{table-of}
 use Rattle.ktm_records.proofs.offered.DurableLimits.{limits-kept}
 use Rattle.ktm_snapshot.specs.Sizes.{contents_size, entry_size, node_size}
 use Rattle.ktm_room.specs.Snapshots.{SnapshotsLaw}

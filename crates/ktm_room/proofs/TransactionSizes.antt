@@ -4,12 +4,12 @@ use Rattle.std.proofs.lemmas.Bool.{and_parts, cases_Bool, leb-true, not-true, or
 use Rattle.std.proofs.lemmas.List.Sums.{length-filter, sum_by-append, sum_by-cons}
 use Rattle.std.specs.List.{flat_map}
 use Rattle.ktm_base.specs.declared.limits.TheConstants.{MOST_INFORMATION_BYTES}
-use Rattle.ktm_types.specs.declared.event.DonePart.{DonePart}
-use Rattle.ktm_types.specs.declared.event.Part.{Part}
-use Rattle.ktm_types.specs.declared.event.Part.TheVariants.{Enlistment, Changes, Settings}
-use Rattle.ktm_types.specs.declared.recorded.RecordedPart.{RecordedPart}
-use Rattle.ktm_types.specs.declared.recorded.Superior.{Superior}
-use Rattle.ktm_types.specs.Sizes.{change_size, part_size, setting_size}
+use Rattle.ktm_world.specs.declared.event.DonePart.{DonePart}
+use Rattle.ktm_world.specs.declared.event.Part.{Part}
+use Rattle.ktm_world.specs.declared.event.Part.TheVariants.{Enlistment, Changes, Settings}
+use Rattle.ktm_world.specs.declared.recorded.RecordedPart.{RecordedPart}
+use Rattle.ktm_world.specs.declared.recorded.Superior.{Superior}
+use Rattle.ktm_world.specs.Sizes.{change_size, part_size, setting_size}
 use Rattle.ktm_world.specs.Changes.{changes_bytes, nodes_made}
 use Rattle.ktm_world.specs.Durable.{Durable, Recorded, are_recorded_changes, changes_in, changes_of, enlistments_in, enlistments_of, has_changes_part, is_decided, is_part_of, settings_in, settings_of, superior_ids, units_waiting}
 use Rattle.txf_laws.specs.Elements.{IsIn}
@@ -17,9 +17,9 @@ use Rattle.txf_laws.specs.FinalChanges.{names_of}
 use Rattle.txf_laws.proofs.offered.Diamonds.{IsIn-right}
 use Rattle.txf_laws.proofs.offered.Lists.{IsIn-left}
 use Rattle.txf_laws.proofs.offered.Sums.{count-cons, one_where}
-use Rattle.ktm_states.specs.GoodState.{enlisted, enlisted_in, superiors_in}
-use Rattle.ktm_states.proofs.offered.GoodTransactions.{Core, waits}
-use Rattle.ktm_states.proofs.offered.WaitingChanges.{no_changes-left, no_changes_part, no_settings-left, settings-of-good}
+use Rattle.txf_laws.specs.GoodState.{enlisted, enlisted_in, superiors_in}
+use Rattle.txf_laws.proofs.offered.GoodTransactions.{Core, waits}
+use Rattle.txf_laws.proofs.offered.WaitingChanges.{no_changes-left, no_changes_part, no_settings-left, settings-of-good}
 use Rattle.ktm_snapshot.specs.Sizes.{marked_size, superior_size, transaction_size}
 use Rattle.ktm_room.proofs.ChangeSizes.{changes-size}
 use Rattle.ktm_room.proofs.GivenBytes.{given-units}

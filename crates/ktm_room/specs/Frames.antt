@@ -1,14 +1,14 @@
 -- What one command records fits an empty log.
 use Rattle.std.specs.Prelude.{ℕ, ◌+◌, ◌≤◌, List}
 use Rattle.ktm_base.specs.declared.id.Pid.{Pid}
-use Rattle.ktm_types.specs.declared.command.Command.{Command}
-use Rattle.ktm_types.specs.declared.event.Event.{Event}
-use Rattle.ktm_types.specs.Sizes.{area_len, frame_size}
+use Rattle.ktm_world.specs.declared.command.Command.{Command}
+use Rattle.ktm_world.specs.declared.event.Event.{Event}
+use Rattle.ktm_world.specs.Sizes.{area_len, frame_size}
 use Rattle.ktm_world.specs.Decide.{decide}
 use Rattle.ktm_world.specs.Durable.{Durable}
 use Rattle.ktm_world.specs.Present.{Present}
 use Rattle.ktm_world.specs.World.{decide_tick, own_group}
-use Rattle.ktm_states.specs.GoodState.{IsGoodState}
+use Rattle.txf_laws.specs.GoodState.{IsGoodState}
 use Rattle.ktm_records.specs.Kept.{IsKept}
 
 -- an empty log of an image of so many units has room for a frame of the events, and for a gate behind it

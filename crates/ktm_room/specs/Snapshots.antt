@@ -1,8 +1,8 @@
 -- A durable state fits the area of a snapshot.
 use Rattle.std.specs.Prelude.{◌+◌, ◌≤◌}
-use Rattle.ktm_types.specs.Sizes.{area_len}
+use Rattle.ktm_world.specs.Sizes.{area_len}
 use Rattle.ktm_world.specs.Durable.{Durable}
-use Rattle.ktm_states.specs.GoodState.{IsGoodState}
+use Rattle.txf_laws.specs.GoodState.{IsGoodState}
 use Rattle.ktm_snapshot.specs.Sizes.{state_size}
 
 -- a good state, behind its length in eight bytes, fits the area of a snapshot

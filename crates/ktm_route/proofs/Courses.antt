@@ -17,11 +17,11 @@ use Rattle.ktm_memory.specs.declared.routed.Routed.TheVariants.{Course}
 use Rattle.ktm_owned.proofs.offered.KeysKept.{not_refused}
 use Rattle.ktm_owned.proofs.offered.Undecided.{undecided-from}
 use Rattle.ktm_records.proofs.offered.AgreementOfCourses.{arrival}
-use Rattle.ktm_types.specs.Values.{IsGiven}
-use Rattle.ktm_types.specs.declared.command.Command.{Command}
-use Rattle.ktm_types.specs.declared.command.Command.TheVariants.{CommitTransaction, RollbackTransaction}
-use Rattle.ktm_types.specs.declared.input.PhaseInput.{PhaseInput}
-use Rattle.ktm_types.specs.declared.object.Transaction.{Transaction}
+use Rattle.ktm_world.specs.Values.{IsGiven}
+use Rattle.ktm_world.specs.declared.command.Command.{Command}
+use Rattle.ktm_world.specs.declared.command.Command.TheVariants.{CommitTransaction, RollbackTransaction}
+use Rattle.ktm_world.specs.declared.input.PhaseInput.{PhaseInput}
+use Rattle.ktm_world.specs.declared.object.Transaction.{Transaction}
 use Rattle.ktm_world.specs.Decide.{decide}
 use Rattle.ktm_world.specs.Enlistments.{Enlistment, enlistment_at}
 use Rattle.ktm_world.specs.Labels.{transaction_named, transaction_tests}

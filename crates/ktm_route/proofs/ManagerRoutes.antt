@@ -6,11 +6,11 @@ use Rattle.ktm_base.specs.declared.id.Label.{Label}
 use Rattle.ktm_base.specs.declared.id.Pid.{Pid}
 use Rattle.ktm_base.specs.declared.refusal.Refusal.{Refusal}
 use Rattle.ktm_base.specs.declared.refusal.Refusal.TheVariants.{InvalidHandle, InvalidParameter, ResourceManagerNotFound, WaitTimeout}
-use Rattle.ktm_types.specs.declared.command.Command.{Command}
-use Rattle.ktm_types.specs.declared.command.Command.TheVariants.{CreateResourceManager, GetNotificationResourceManager, OpenResourceManager, RecoverResourceManager}
-use Rattle.ktm_types.specs.declared.object.Object.TheVariants.{Manager as ManagerObject}
-use Rattle.ktm_types.specs.declared.options.Durability.{Durability}
-use Rattle.ktm_types.specs.declared.reply.Reply.TheVariants.{Refused}
+use Rattle.ktm_world.specs.declared.command.Command.{Command}
+use Rattle.ktm_world.specs.declared.command.Command.TheVariants.{CreateResourceManager, GetNotificationResourceManager, OpenResourceManager, RecoverResourceManager}
+use Rattle.ktm_world.specs.declared.object.Object.TheVariants.{Manager as ManagerObject}
+use Rattle.ktm_world.specs.declared.options.Durability.{Durability}
+use Rattle.ktm_world.specs.declared.reply.Reply.TheVariants.{Refused}
 use Rattle.ktm_world.specs.Decide.{command_effect, command_tests, decide}
 use Rattle.ktm_world.specs.Enlistments.{Manager, manager_at}
 use Rattle.ktm_world.specs.Labels.{holds_of, is_bound, manager_named}

@@ -1,6 +1,6 @@
 -- Calls on the way to the end of a transaction.
 use Rattle.std.proofs.Common.{refl}
-use Rattle.ktm_types.specs.declared.completion.Completion.TheVariants.{CommitTransaction, RollbackTransaction, GetTransactionInformation, GetNotificationResourceManager, PrePrepareComplete, PrepareComplete, ReadOnlyEnlistment, CommitComplete, RollbackComplete, SinglePhaseReject, RollbackEnlistment, PrePrepareEnlistment, PrepareEnlistment, CommitEnlistment, CloseHandle, Exit}
+use Rattle.ktm_world.specs.declared.completion.Completion.TheVariants.{CommitTransaction, RollbackTransaction, GetTransactionInformation, GetNotificationResourceManager, PrePrepareComplete, PrepareComplete, ReadOnlyEnlistment, CommitComplete, RollbackComplete, SinglePhaseReject, RollbackEnlistment, PrePrepareEnlistment, PrepareEnlistment, CommitEnlistment, CloseHandle, Exit}
 use Rattle.ktm_route.specs.Takes.{CompletionsLaw}
 
 -- none takes memory for what it does

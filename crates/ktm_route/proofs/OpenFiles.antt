@@ -6,10 +6,10 @@ use Rattle.ktm_base.specs.declared.id.Pid.{Pid}
 use Rattle.ktm_base.specs.declared.limits.TheConstants.{UNIT_BYTES}
 use Rattle.ktm_base.specs.declared.refusal.Refusal.{Refusal}
 use Rattle.ktm_base.specs.declared.refusal.Refusal.TheVariants.{MachineDown}
-use Rattle.ktm_types.specs.declared.command.Command.{Command}
-use Rattle.ktm_types.specs.declared.command.Command.TheVariants.{ReadFile, SetEndOfFile, WriteFile, WriteUnits}
-use Rattle.ktm_types.specs.declared.reply.Reply.{Reply}
-use Rattle.ktm_types.specs.declared.reply.Reply.TheVariants.{Contents, Refused}
+use Rattle.ktm_world.specs.declared.command.Command.{Command}
+use Rattle.ktm_world.specs.declared.command.Command.TheVariants.{ReadFile, SetEndOfFile, WriteFile, WriteUnits}
+use Rattle.ktm_world.specs.declared.reply.Reply.{Reply}
+use Rattle.ktm_world.specs.declared.reply.Reply.TheVariants.{Contents, Refused}
 use Rattle.ktm_world.specs.Decide.{command_effect, command_tests, decide, of_files, on_file, own_tests, refusal_of}
 use Rattle.ktm_world.specs.FileCalls.{read_file, read_file_tests, set_end_tests, write_file_tests, write_units_tests}
 use Rattle.ktm_world.specs.FileOutcome.{answering}

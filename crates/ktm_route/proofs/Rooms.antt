@@ -2,8 +2,8 @@
 use Rattle.std.proofs.Common.{◌≤◌, List, [], sum_by, arith}
 use Rattle.ktm_event.specs.Kept.{EventsState, Holds}
 use Rattle.ktm_journal.specs.Image.{JournalState}
-use Rattle.ktm_types.specs.Sizes.{event_size}
-use Rattle.ktm_types.specs.declared.event.Event.{Event}
+use Rattle.ktm_world.specs.Sizes.{event_size}
+use Rattle.ktm_world.specs.declared.event.Event.{Event}
 use Rattle.ktm_room.specs.Frames.{FitsEmptyLog}
 use Rattle.ktm_memory.specs.Memory.{IsRoomy}
 

@@ -6,14 +6,14 @@ use Rattle.ktm_base.specs.declared.id.Label.{Label}
 use Rattle.ktm_base.specs.declared.id.Pid.{Pid}
 use Rattle.ktm_base.specs.declared.refusal.Refusal.{Refusal}
 use Rattle.ktm_base.specs.declared.refusal.Refusal.TheVariants.{MachineDown, InvalidHandle, InvalidParameter, TransactionNotActive, TransactionNotFound}
-use Rattle.ktm_types.specs.declared.command.Command.{Command}
-use Rattle.ktm_types.specs.declared.command.Command.TheVariants.{CommitTransaction, CreateTransaction, DuplicateHandle, GetTransactionInformation, OpenTransaction, RollbackTransaction, KvSet, KvUnset, KvGet, KvList}
-use Rattle.ktm_types.specs.declared.command.View.{View}
-use Rattle.ktm_types.specs.declared.command.View.TheVariants.{Plain, Transaction as Through}
-use Rattle.ktm_types.specs.declared.object.Object.{Object}
-use Rattle.ktm_types.specs.declared.object.Object.TheVariants.{Transaction as TransactionObject}
-use Rattle.ktm_types.specs.declared.object.Transaction.{Transaction}
-use Rattle.ktm_types.specs.declared.reply.Reply.TheVariants.{Refused}
+use Rattle.ktm_world.specs.declared.command.Command.{Command}
+use Rattle.ktm_world.specs.declared.command.Command.TheVariants.{CommitTransaction, CreateTransaction, DuplicateHandle, GetTransactionInformation, OpenTransaction, RollbackTransaction, KvSet, KvUnset, KvGet, KvList}
+use Rattle.ktm_world.specs.declared.command.View.{View}
+use Rattle.ktm_world.specs.declared.command.View.TheVariants.{Plain, Transaction as Through}
+use Rattle.ktm_world.specs.declared.object.Object.{Object}
+use Rattle.ktm_world.specs.declared.object.Object.TheVariants.{Transaction as TransactionObject}
+use Rattle.ktm_world.specs.declared.object.Transaction.{Transaction}
+use Rattle.ktm_world.specs.declared.reply.Reply.TheVariants.{Refused}
 use Rattle.ktm_world.specs.Decide.{caller, command_effect, command_tests, of_keys, refusal_of, transacted, decide}
 use Rattle.ktm_world.specs.Files.{FilesNow}
 use Rattle.ktm_world.specs.KeyCalls.{KeyOutcome, kv_set_tests, kv_set, kv_unset_tests, kv_unset, kv_get_tests, kv_get, kv_list}

@@ -1,7 +1,7 @@
 -- The commands that completions are.
-use Rattle.ktm_types.specs.declared.command.Command.{Command}
-use Rattle.ktm_types.specs.declared.command.Command.TheVariants.{CommitTransaction, RollbackTransaction, GetTransactionInformation, GetNotificationResourceManager, PrePrepareComplete, PrepareComplete, ReadOnlyEnlistment, CommitComplete, RollbackComplete, SinglePhaseReject, RollbackEnlistment, PrePrepareEnlistment, PrepareEnlistment, CommitEnlistment, CloseHandle, Exit}
-use Rattle.ktm_types.specs.declared.completion.Completion.{Completion}
+use Rattle.ktm_world.specs.declared.command.Command.{Command}
+use Rattle.ktm_world.specs.declared.command.Command.TheVariants.{CommitTransaction, RollbackTransaction, GetTransactionInformation, GetNotificationResourceManager, PrePrepareComplete, PrepareComplete, ReadOnlyEnlistment, CommitComplete, RollbackComplete, SinglePhaseReject, RollbackEnlistment, PrePrepareEnlistment, PrepareEnlistment, CommitEnlistment, CloseHandle, Exit}
+use Rattle.ktm_world.specs.declared.completion.Completion.{Completion}
 
 -- the command that a completion is
 abbrev pub command_of : Completion → Command

@@ -3,7 +3,7 @@ use Rattle.std.specs.Prelude.{◌≡◌, ℕ, ◌+◌, ◌*◌, ◌≤◌, max, 
 use Rattle.ktm_base.specs.declared.id.Label.{Label}
 use Rattle.ktm_base.specs.declared.id.Pid.{Pid}
 use Rattle.ktm_base.specs.declared.limits.TheConstants.{UNIT_BYTES}
-use Rattle.ktm_types.specs.declared.command.Command.TheVariants.{WriteUnits}
+use Rattle.ktm_world.specs.declared.command.Command.TheVariants.{WriteUnits}
 use Rattle.ktm_world.specs.Decide.{refusal_of}
 use Rattle.ktm_world.specs.Files.{OpenFile, bytes_seen}
 use Rattle.ktm_world.specs.Labels.{file_named}

@@ -11,8 +11,8 @@ ghost use Rattle.ktm_memory.specs.Takes.{routed_takes_memory};
 ghost use Rattle.ktm_route.specs.Route.{AskedPutsBy, CanBeAsked, decided, routed_outcome};
 ghost use Rattle.ktm_route.specs.Takes.{asked_takes_memory};
 ghost use Rattle.ktm_slots.specs.Slots.{granted_in};
-ghost use Rattle.ktm_types.specs.Sizes.{event_size};
-ghost use Rattle.txf_volume.specs.Held.{files_of};
+ghost use Rattle.ktm_world.specs.Sizes.{event_size};
+ghost use Rattle.ktm_memory.specs.Held.{files_of};
 
 use crate::file_routes::to_units;
 use crate::route::route;
@@ -22,7 +22,7 @@ use ktm_event::Events;
 use ktm_memory::{Decision, Extent, Memory, Routed};
 use ktm_room::law_of_frames;
 use ktm_standing::law_of_kept;
-use ktm_types::{Command, Reply};
+use ktm_world::{Command, Reply};
 use std::alloc::Global;
 
 /// What the machine is to decide.

@@ -2,7 +2,7 @@
 ghost use Rattle.std.specs.Prelude.{◌≡◌};
 ghost use Rattle.ktm_route.specs.Completions.{command_of};
 
-use ktm_types::{Command, Completion};
+use ktm_world::{Command, Completion};
 
 /// The command that a completion is.
 pub fn command_of(completion: Completion) -> Command

@@ -5,8 +5,8 @@ ghost use Rattle.ktm_laws.specs.Running.{HasEventsLeft};
 ghost use Rattle.ktm_memory.specs.Memory.{present_of};
 ghost use Rattle.ktm_phase.specs.Calls.{Names, reply_call, superior_call};
 ghost use Rattle.ktm_route.specs.Route.{Routes, is_reply, kind_tests};
-ghost use Rattle.ktm_types.specs.Values.{IsGiven};
-ghost use Rattle.ktm_types.specs.declared.command.Command.TheVariants.{CreateEnlistment, GetEnlistmentRecoveryInformation, OpenEnlistment, RecoverEnlistment, SetEnlistmentRecoveryInformation};
+ghost use Rattle.ktm_world.specs.Values.{IsGiven};
+ghost use Rattle.ktm_world.specs.declared.command.Command.TheVariants.{CreateEnlistment, GetEnlistmentRecoveryInformation, OpenEnlistment, RecoverEnlistment, SetEnlistmentRecoveryInformation};
 ghost use Rattle.ktm_world.specs.Labels.{enlistment_named};
 ghost use Rattle.ktm_world.specs.Outcome.{first_refusal};
 
@@ -15,7 +15,7 @@ use ktm_base::{Bytes, Id, Label, MOST_INFORMATION_BYTES, Pid, Refusal};
 use ktm_memory::{Labels, Memory, Routed};
 use ktm_phase::{Enlistment, SuperiorCall, Vote, law_of_calls, law_of_coming};
 use ktm_standing::{law_of_files, law_of_spelled};
-use ktm_types::{Command, EnlistmentKind, Object, Transaction};
+use ktm_world::{Command, EnlistmentKind, Object, Transaction};
 use uuid::Uuid;
 
 // May an enlistment of this kind not be made of this resource manager, in this transaction: a superior wants one that is

@@ -12,13 +12,13 @@ ghost use Rattle.ktm_world.specs.Outcome.{first_refusal};
 ghost use Rattle.ktm_world.specs.TransactionCalls.{enlistment_with, manager_with, transaction_with};
 ghost use Rattle.ktm_world.specs.Transactions.{same_id};
 ghost use Rattle.txf_opens.specs.Acts.{open_of};
-ghost use Rattle.txf_volume.specs.Held.{files_of};
+ghost use Rattle.ktm_memory.specs.Held.{files_of};
 
 use ktm_base::{Id, Label, ObjectKind, Pid, Refusal, id_of};
 use ktm_memory::Memory;
 use ktm_phase::Enlistment;
 use ktm_tm::{active_refusal, is_active};
-use ktm_types::{Object, Transaction, View};
+use ktm_world::{Object, Transaction, View};
 use txf_calls::OpenFile;
 use uuid::Uuid;
 

@@ -16,5 +16,6 @@ mod transaction_routes;
 
 pub use asked::{Asked, decide};
 pub use completions::command_of;
+pub use ktm_room::law_of_frames;
 pub use laws::law_of_completions;
 pub use targets::{Target, end_target, read_target, write_target};

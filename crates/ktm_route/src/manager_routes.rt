@@ -3,12 +3,12 @@ ghost use Rattle.std.specs.Prelude.{◌≡◌, true};
 ghost use Rattle.ktm_standing.specs.Standing.{IsStandingNow};
 ghost use Rattle.ktm_memory.specs.Memory.{present_of};
 ghost use Rattle.ktm_route.specs.Route.{Routes};
-ghost use Rattle.ktm_types.specs.declared.command.Command.TheVariants.{CreateResourceManager, GetNotificationResourceManager, OpenResourceManager, RecoverResourceManager};
+ghost use Rattle.ktm_world.specs.declared.command.Command.TheVariants.{CreateResourceManager, GetNotificationResourceManager, OpenResourceManager, RecoverResourceManager};
 
 use crate::labels::{manager_named, manager_with_guid, object_at};
 use ktm_base::{Label, Pid, Refusal};
 use ktm_memory::{Labels, Memory, Routed};
-use ktm_types::{Durability, Object};
+use ktm_world::{Durability, Object};
 use uuid::Uuid;
 
 // CreateResourceManager, whose label is not bound.

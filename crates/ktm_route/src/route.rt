@@ -4,8 +4,8 @@ ghost use Rattle.ktm_standing.specs.Standing.{IsStandingNow};
 ghost use Rattle.ktm_laws.specs.Running.{HasEventsLeft};
 ghost use Rattle.ktm_memory.specs.Memory.{present_of};
 ghost use Rattle.ktm_route.specs.Route.{NeedsNoBytes, Routes};
-ghost use Rattle.ktm_types.specs.Values.{IsGiven};
-ghost use Rattle.ktm_types.specs.declared.command.Command.TheVariants.{CloseHandle, CommitTransaction, CreateTransaction, DuplicateHandle, GetTransactionInformation, OpenTransaction, RollbackTransaction};
+ghost use Rattle.ktm_world.specs.Values.{IsGiven};
+ghost use Rattle.ktm_world.specs.declared.command.Command.TheVariants.{CloseHandle, CommitTransaction, CreateTransaction, DuplicateHandle, GetTransactionInformation, OpenTransaction, RollbackTransaction};
 
 use crate::enlistment_routes::{
     route_reply, to_be_told, to_enlist, to_inform, to_lead, to_open_enlistment, to_recover,
@@ -19,7 +19,7 @@ use crate::transaction_routes::{
 use ktm_base::{Pid, Refusal};
 use ktm_memory::{Labels, Memory, Routed};
 use ktm_phase::SuperiorCall;
-use ktm_types::Command;
+use ktm_world::Command;
 use kv_rm::KvCall;
 use std::alloc::Global;
 

@@ -3,13 +3,13 @@ ghost use Rattle.std.specs.Prelude.{◌≡◌, ◌+◌, ◌≤◌, true, ℕ, Li
 ghost use Rattle.ktm_standing.specs.Standing.{IsStandingNow};
 ghost use Rattle.ktm_memory.specs.Memory.{present_of};
 ghost use Rattle.ktm_route.specs.Targets.{MayBeSoLong};
-ghost use Rattle.ktm_types.specs.declared.command.Command.TheVariants.{ReadFile, SetEndOfFile, WriteFile};
-ghost use Rattle.ktm_types.specs.declared.reply.Reply.TheVariants.{Contents, Refused};
+ghost use Rattle.ktm_world.specs.declared.command.Command.TheVariants.{ReadFile, SetEndOfFile, WriteFile};
+ghost use Rattle.ktm_world.specs.declared.reply.Reply.TheVariants.{Contents, Refused};
 ghost use Rattle.ktm_world.specs.Decide.{decide, refusal_of};
 ghost use Rattle.ktm_world.specs.Files.{OpenFile as FileNow, bytes_seen};
 ghost use Rattle.ktm_world.specs.Labels.{file_named};
 ghost use Rattle.ktm_world.specs.Outcome.{only_reply};
-ghost use Rattle.txf_volume.specs.Held.{files_of};
+ghost use Rattle.ktm_memory.specs.Held.{files_of};
 
 use crate::labels::open_file;
 use ktm_base::{Id, Label, Pid, Refusal};

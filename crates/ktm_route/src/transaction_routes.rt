@@ -5,15 +5,15 @@ ghost use Rattle.ktm_standing.specs.Standing.{IsStandingNow};
 ghost use Rattle.ktm_laws.specs.Running.{HasEventsLeft};
 ghost use Rattle.ktm_memory.specs.Memory.{present_of};
 ghost use Rattle.ktm_route.specs.Route.{Routes};
-ghost use Rattle.ktm_types.specs.Values.{IsGiven};
-ghost use Rattle.ktm_types.specs.declared.command.Command.TheVariants.{CloseHandle, CommitTransaction, CreateTransaction, DuplicateHandle, GetTransactionInformation, OpenTransaction, RollbackTransaction};
+ghost use Rattle.ktm_world.specs.Values.{IsGiven};
+ghost use Rattle.ktm_world.specs.declared.command.Command.TheVariants.{CloseHandle, CommitTransaction, CreateTransaction, DuplicateHandle, GetTransactionInformation, OpenTransaction, RollbackTransaction};
 
 use crate::labels::{active, named, object_at, source_refusal, with_guid};
 use ktm_base::{Label, Pid, Refusal};
 use ktm_memory::{Labels, Memory, Routed};
 use ktm_standing::{law_of_files, law_of_spelled};
 use ktm_tm::rollback_refusal;
-use ktm_types::{Object, PhaseInput};
+use ktm_world::{Object, PhaseInput};
 use uuid::Uuid;
 
 // CreateTransaction, whose label is not bound.

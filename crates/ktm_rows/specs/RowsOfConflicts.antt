@@ -1,11 +1,11 @@
 -- Worked rows of calls that meet on a file, a name or a directory, in two transactions, in one, or in none.
 use Rattle.std.specs.Prelude.{[], ◌∷◌, codes}
 use Rattle.ktm_base.specs.declared.refusal.Refusal.TheVariants.{TransactionalConflict, SharingViolation}
-use Rattle.ktm_types.specs.declared.command.Command.TheVariants.{CreateFile, CloseHandle, WriteFile, ReadFile, DeleteFile, MoveFile, CreateTransaction, CreateFileTransacted, DeleteFileTransacted, RollbackTransaction, CreateDirectory, RemoveDirectoryTransacted, MoveFileTransacted}
-use Rattle.ktm_types.specs.declared.options.Access.{Access}
-use Rattle.ktm_types.specs.declared.options.Disposition.{Disposition}
-use Rattle.ktm_types.specs.declared.options.ShareMode.{ShareMode}
-use Rattle.ktm_types.specs.declared.reply.Reply.TheVariants.{Refused, Done, Guid, Contents}
+use Rattle.ktm_world.specs.declared.command.Command.TheVariants.{CreateFile, CloseHandle, WriteFile, ReadFile, DeleteFile, MoveFile, CreateTransaction, CreateFileTransacted, DeleteFileTransacted, RollbackTransaction, CreateDirectory, RemoveDirectoryTransacted, MoveFileTransacted}
+use Rattle.ktm_world.specs.declared.options.Access.{Access}
+use Rattle.ktm_world.specs.declared.options.Disposition.{Disposition}
+use Rattle.ktm_world.specs.declared.options.ShareMode.{ShareMode}
+use Rattle.ktm_world.specs.declared.reply.Reply.TheVariants.{Refused, Done, Guid, Contents}
 use Rattle.ktm_world.specs.Scripts.{Answered, blank, p1, p2, h1, h2, h3, h9, transaction_guid}
 
 -- a second transaction can open a file for writing once the first one has rolled back

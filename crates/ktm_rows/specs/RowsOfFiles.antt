@@ -2,11 +2,11 @@
 use Rattle.std.specs.Prelude.{replicate, [], ◌∷◌, codes}
 use Rattle.ktm_base.specs.declared.refusal.Refusal.{Refusal}
 use Rattle.ktm_base.specs.declared.refusal.Refusal.TheVariants.{InvalidName, PathNotFound, AlreadyExists, AccessDenied, DirNotEmpty, SharingViolation, DiskFull}
-use Rattle.ktm_types.specs.declared.command.Command.TheVariants.{CreateDirectory, CreateFile, SetEndOfFile, ReadFile, FlushFileBuffers, DeleteFile, RemoveDirectory, CloseHandle, MoveFile, FindFiles, WriteFile, GetFileSizeEx}
-use Rattle.ktm_types.specs.declared.options.Access.{Access}
-use Rattle.ktm_types.specs.declared.options.Disposition.{Disposition}
-use Rattle.ktm_types.specs.declared.options.ShareMode.{ShareMode}
-use Rattle.ktm_types.specs.declared.reply.Reply.TheVariants.{Refused, Done, Contents, Size, Names}
+use Rattle.ktm_world.specs.declared.command.Command.TheVariants.{CreateDirectory, CreateFile, SetEndOfFile, ReadFile, FlushFileBuffers, DeleteFile, RemoveDirectory, CloseHandle, MoveFile, FindFiles, WriteFile, GetFileSizeEx}
+use Rattle.ktm_world.specs.declared.options.Access.{Access}
+use Rattle.ktm_world.specs.declared.options.Disposition.{Disposition}
+use Rattle.ktm_world.specs.declared.options.ShareMode.{ShareMode}
+use Rattle.ktm_world.specs.declared.reply.Reply.TheVariants.{Refused, Done, Contents, Size, Names}
 use Rattle.ktm_world.specs.Scripts.{Answered, new_image, blank, p1, h1, h2}
 
 -- names are kept as created and compared without case, each call has its refusals, and a file that is open is not deleted

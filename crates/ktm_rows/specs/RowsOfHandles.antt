@@ -1,13 +1,13 @@
 -- Worked rows of handles, of the end of a process, and of a machine that is down.
 use Rattle.std.specs.Prelude.{[], ◌∷◌, codes}
 use Rattle.ktm_base.specs.declared.refusal.Refusal.TheVariants.{InvalidHandle, TransactionNotFound, FileNotFound, MachineDown, MachineUp, BadLine}
-use Rattle.ktm_types.specs.declared.command.Command.TheVariants.{CreateTransaction, CreateFileTransacted, DuplicateHandle, Exit, GetTransactionInformation, OpenTransaction, CloseHandle, CreateFile}
-use Rattle.ktm_types.specs.declared.object.TransactionOutcome.{TransactionOutcome}
-use Rattle.ktm_types.specs.declared.options.Access.{Access}
-use Rattle.ktm_types.specs.declared.options.Disposition.{Disposition}
-use Rattle.ktm_types.specs.declared.options.ShareMode.{ShareMode}
-use Rattle.ktm_types.specs.declared.reply.Reply.TheVariants.{Refused, Done, Guid, Information, Restarted}
-use Rattle.ktm_types.specs.declared.reply.TransactionState.{TransactionState}
+use Rattle.ktm_world.specs.declared.command.Command.TheVariants.{CreateTransaction, CreateFileTransacted, DuplicateHandle, Exit, GetTransactionInformation, OpenTransaction, CloseHandle, CreateFile}
+use Rattle.ktm_world.specs.declared.object.TransactionOutcome.{TransactionOutcome}
+use Rattle.ktm_world.specs.declared.options.Access.{Access}
+use Rattle.ktm_world.specs.declared.options.Disposition.{Disposition}
+use Rattle.ktm_world.specs.declared.options.ShareMode.{ShareMode}
+use Rattle.ktm_world.specs.declared.reply.Reply.TheVariants.{Refused, Done, Guid, Information, Restarted}
+use Rattle.ktm_world.specs.declared.reply.TransactionState.{TransactionState}
 use Rattle.ktm_world.specs.Scripts.{Answered, blank, p, p1, p2, time_passes, crash, restart, bad_line, h1, h2, h5, h6, transaction_guid}
 
 -- a transaction rolls back with its last handle, also where its first process has ended

@@ -1,9 +1,9 @@
 -- Worked rows of transactions on keys.
 use Rattle.std.specs.Prelude.{[], ◌∷◌, codes}
 use Rattle.ktm_base.specs.declared.refusal.Refusal.TheVariants.{TransactionAlreadyCommitted, InvalidParameter, NotFound, TransactionalConflict, BadLine}
-use Rattle.ktm_types.specs.declared.command.Command.TheVariants.{CreateTransaction, KvSet, KvGet, CommitTransaction, KvList, KvUnset}
-use Rattle.ktm_types.specs.declared.command.View.{View}
-use Rattle.ktm_types.specs.declared.reply.Reply.TheVariants.{Refused, Done, Guid, Committed, Contents, Keys, Restarted}
+use Rattle.ktm_world.specs.declared.command.Command.TheVariants.{CreateTransaction, KvSet, KvGet, CommitTransaction, KvList, KvUnset}
+use Rattle.ktm_world.specs.declared.command.View.{View}
+use Rattle.ktm_world.specs.declared.reply.Reply.TheVariants.{Refused, Done, Guid, Committed, Contents, Keys, Restarted}
 use Rattle.ktm_world.specs.Scripts.{Answered, blank, p1, p2, crash, restart, bad_line, h1, transaction_guid}
 
 -- one transaction sets a key and commits; its handle goes on being bound

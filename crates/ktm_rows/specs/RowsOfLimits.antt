@@ -3,11 +3,11 @@ use Rattle.std.specs.Prelude.{[], ◌∷◌, ◌++◌, map, replicate, codes}
 use Rattle.std.specs.List.{flat_map}
 use Rattle.ktm_base.specs.Names.{backslash}
 use Rattle.ktm_base.specs.declared.refusal.Refusal.TheVariants.{DiskFull, NotEnoughQuota}
-use Rattle.ktm_types.specs.declared.command.Command.TheVariants.{CreateFile, WriteFile, CloseHandle, CreateDirectory, CreateTransaction, CommitTransaction, RollbackTransaction, CreateFileTransacted, CreateDirectoryTransacted, RemoveDirectoryTransacted, MoveFileTransacted, KvSet, KvUnset}
-use Rattle.ktm_types.specs.declared.options.Access.{Access}
-use Rattle.ktm_types.specs.declared.options.Disposition.{Disposition}
-use Rattle.ktm_types.specs.declared.options.ShareMode.{ShareMode}
-use Rattle.ktm_types.specs.declared.reply.Reply.TheVariants.{Refused, Done, Guid, Committed}
+use Rattle.ktm_world.specs.declared.command.Command.TheVariants.{CreateFile, WriteFile, CloseHandle, CreateDirectory, CreateTransaction, CommitTransaction, RollbackTransaction, CreateFileTransacted, CreateDirectoryTransacted, RemoveDirectoryTransacted, MoveFileTransacted, KvSet, KvUnset}
+use Rattle.ktm_world.specs.declared.options.Access.{Access}
+use Rattle.ktm_world.specs.declared.options.Disposition.{Disposition}
+use Rattle.ktm_world.specs.declared.options.ShareMode.{ShareMode}
+use Rattle.ktm_world.specs.declared.reply.Reply.TheVariants.{Refused, Done, Guid, Committed}
 use Rattle.ktm_world.specs.Scripts.{Row, Answered, new_image, p1, p2, h1, h2, h9, transaction_guid}
 
 -- an older version takes its units, once for all who opened it, until the last of them is over

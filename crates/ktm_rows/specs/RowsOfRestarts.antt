@@ -2,14 +2,14 @@
 use Rattle.std.specs.Prelude.{[], ◌∷◌, ◌++◌, codes, None}
 use Rattle.ktm_base.specs.declared.notify.Notify.{Notify}
 use Rattle.ktm_base.specs.declared.refusal.Refusal.TheVariants.{EnlistmentNotFound, FileNotFound, TransactionalConflict, WaitTimeout}
-use Rattle.ktm_types.specs.declared.command.Command.TheVariants.{CreateTransaction, CreateFileTransacted, WriteFile, CreateResourceManager, FindFiles, CreateFile, CloseHandle, CreateEnlistment, PrepareEnlistment, GetNotificationResourceManager, ReadFile, OpenResourceManager, RecoverResourceManager, OpenEnlistment, RecoverEnlistment, CommitEnlistment, RollbackEnlistment, CommitTransaction, PrepareComplete, CommitComplete, KvSet, KvGet}
-use Rattle.ktm_types.specs.declared.command.View.{View}
-use Rattle.ktm_types.specs.declared.options.Access.{Access}
-use Rattle.ktm_types.specs.declared.options.Disposition.{Disposition}
-use Rattle.ktm_types.specs.declared.options.Durability.{Durability}
-use Rattle.ktm_types.specs.declared.options.EnlistmentKind.{EnlistmentKind}
-use Rattle.ktm_types.specs.declared.options.ShareMode.{ShareMode}
-use Rattle.ktm_types.specs.declared.reply.Reply.TheVariants.{Refused, Done, Guid, Pending, Notification, Contents, Restarted}
+use Rattle.ktm_world.specs.declared.command.Command.TheVariants.{CreateTransaction, CreateFileTransacted, WriteFile, CreateResourceManager, FindFiles, CreateFile, CloseHandle, CreateEnlistment, PrepareEnlistment, GetNotificationResourceManager, ReadFile, OpenResourceManager, RecoverResourceManager, OpenEnlistment, RecoverEnlistment, CommitEnlistment, RollbackEnlistment, CommitTransaction, PrepareComplete, CommitComplete, KvSet, KvGet}
+use Rattle.ktm_world.specs.declared.command.View.{View}
+use Rattle.ktm_world.specs.declared.options.Access.{Access}
+use Rattle.ktm_world.specs.declared.options.Disposition.{Disposition}
+use Rattle.ktm_world.specs.declared.options.Durability.{Durability}
+use Rattle.ktm_world.specs.declared.options.EnlistmentKind.{EnlistmentKind}
+use Rattle.ktm_world.specs.declared.options.ShareMode.{ShareMode}
+use Rattle.ktm_world.specs.declared.reply.Reply.TheVariants.{Refused, Done, Guid, Pending, Notification, Contents, Restarted}
 use Rattle.ktm_world.specs.Scripts.{Row, Answered, blank, p1, p2, crash, restart, h1, h2, h3, h4, h5, h6, transaction_guid, manager_guid, enlistment_guid, told}
 
 -- a transaction that is not decided at a restart is rolled back, and objects are numbered anew in the next boot

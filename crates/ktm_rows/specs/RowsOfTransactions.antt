@@ -2,15 +2,15 @@
 use Rattle.std.specs.Prelude.{[], ◌∷◌, codes}
 use Rattle.ktm_base.specs.declared.notify.Notify.{Notify}
 use Rattle.ktm_base.specs.declared.refusal.Refusal.TheVariants.{TransactionAlreadyCommitted, TransactionAlreadyAborted, TransactionRequestNotValid, WaitTimeout}
-use Rattle.ktm_types.specs.declared.command.Command.TheVariants.{CreateResourceManager, CreateTransaction, CreateEnlistment, CommitTransaction, GetNotificationResourceManager, PrepareComplete, RollbackEnlistment, GetTransactionInformation, RollbackComplete, ReadOnlyEnlistment, SinglePhaseReject, CommitComplete, CreateFileTransacted, SetEnlistmentRecoveryInformation, GetEnlistmentRecoveryInformation, PrePrepareComplete, RollbackTransaction}
-use Rattle.ktm_types.specs.declared.object.TransactionOutcome.{TransactionOutcome}
-use Rattle.ktm_types.specs.declared.options.Access.{Access}
-use Rattle.ktm_types.specs.declared.options.Disposition.{Disposition}
-use Rattle.ktm_types.specs.declared.options.Durability.{Durability}
-use Rattle.ktm_types.specs.declared.options.EnlistmentKind.{EnlistmentKind}
-use Rattle.ktm_types.specs.declared.options.ShareMode.{ShareMode}
-use Rattle.ktm_types.specs.declared.reply.Reply.TheVariants.{Refused, Done, Guid, Committed, Pending, Information, Contents, Restarted}
-use Rattle.ktm_types.specs.declared.reply.TransactionState.{TransactionState}
+use Rattle.ktm_world.specs.declared.command.Command.TheVariants.{CreateResourceManager, CreateTransaction, CreateEnlistment, CommitTransaction, GetNotificationResourceManager, PrepareComplete, RollbackEnlistment, GetTransactionInformation, RollbackComplete, ReadOnlyEnlistment, SinglePhaseReject, CommitComplete, CreateFileTransacted, SetEnlistmentRecoveryInformation, GetEnlistmentRecoveryInformation, PrePrepareComplete, RollbackTransaction}
+use Rattle.ktm_world.specs.declared.object.TransactionOutcome.{TransactionOutcome}
+use Rattle.ktm_world.specs.declared.options.Access.{Access}
+use Rattle.ktm_world.specs.declared.options.Disposition.{Disposition}
+use Rattle.ktm_world.specs.declared.options.Durability.{Durability}
+use Rattle.ktm_world.specs.declared.options.EnlistmentKind.{EnlistmentKind}
+use Rattle.ktm_world.specs.declared.options.ShareMode.{ShareMode}
+use Rattle.ktm_world.specs.declared.reply.Reply.TheVariants.{Refused, Done, Guid, Committed, Pending, Information, Contents, Restarted}
+use Rattle.ktm_world.specs.declared.reply.TransactionState.{TransactionState}
 use Rattle.ktm_world.specs.Scripts.{Answered, blank, p1, time_passes, crash, restart, h1, h2, h3, h4, h9, transaction_guid, manager_guid, enlistment_guid, told}
 
 -- an enlistment that rolls back before it has prepared aborts the transaction, also for one that has prepared

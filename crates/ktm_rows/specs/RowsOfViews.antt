@@ -1,11 +1,11 @@
 -- Worked rows of what a transaction sees of files, and what others do.
 use Rattle.std.specs.Prelude.{[], ◌∷◌, codes}
 use Rattle.ktm_base.specs.declared.refusal.Refusal.TheVariants.{InvalidHandle, HandleNoLongerValid, FileNotFound, TransactionalConflict}
-use Rattle.ktm_types.specs.declared.command.Command.TheVariants.{CreateFile, CreateTransaction, CreateFileTransacted, WriteFile, ReadFile, CommitTransaction, CloseHandle, DeleteFileTransacted}
-use Rattle.ktm_types.specs.declared.options.Access.{Access}
-use Rattle.ktm_types.specs.declared.options.Disposition.{Disposition}
-use Rattle.ktm_types.specs.declared.options.ShareMode.{ShareMode}
-use Rattle.ktm_types.specs.declared.reply.Reply.TheVariants.{Refused, Done, Guid, Committed, Contents}
+use Rattle.ktm_world.specs.declared.command.Command.TheVariants.{CreateFile, CreateTransaction, CreateFileTransacted, WriteFile, ReadFile, CommitTransaction, CloseHandle, DeleteFileTransacted}
+use Rattle.ktm_world.specs.declared.options.Access.{Access}
+use Rattle.ktm_world.specs.declared.options.Disposition.{Disposition}
+use Rattle.ktm_world.specs.declared.options.ShareMode.{ShareMode}
+use Rattle.ktm_world.specs.declared.reply.Reply.TheVariants.{Refused, Done, Guid, Committed, Contents}
 use Rattle.ktm_world.specs.Scripts.{Answered, blank, p1, p2, h1, h2, h3, h4, h9, transaction_guid}
 
 -- a writer sees what it writes, and a plain reader sees it once it is committed

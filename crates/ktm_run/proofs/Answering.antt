@@ -1,6 +1,6 @@
 -- What the answers to lines come to, of the machine and of the counts.
 use Rattle.std.specs.List.{flat_map}
-use Rattle.std.specs.Prelude.{◌&&◌, IsSomeAnd, min}
+use Rattle.std.specs.Prelude.{◌&&◌, ◌||◌, IsSomeAnd, min}
 use Rattle.std.proofs.Common.{◌≡◌, ◌⊎◌, inl, inr, ℕ, ◌+◌, ◌*◌, ◌≤◌, not, Bool, true, false, cond, List, [], ◌∷◌, ◌++◌, Option, Some, None, Result, Ok, Err, IfOk, OnErr, refl, sym, ◌∙◌, ap, subst, arith}
 use Rattle.std.proofs.lemmas.List.{append-nil}
 use Rattle.ktm_base.specs.declared.limits.TheConstants.{MOST_UNITS}
@@ -14,12 +14,12 @@ use Rattle.ktm_base.specs.Count.{Rose}
 use Rattle.ktm_base.specs.Disk.{DiskState, DiskStatus, DeviceCalls}
 use Rattle.ktm_base.specs.Power.{after_off, planned, Restored, NotRestored}
 use Rattle.ktm_base.specs.Told.{Goes}
-use Rattle.ktm_core.specs.Done.{most_calls as most_core_calls, page_calls}
+use Rattle.ktm_kernel.specs.CoreDone.{page_calls}
 use Rattle.ktm_journal.specs.Append.{has_no_room}
-use Rattle.ktm_journal.specs.Image.{JournalState, page_count}
-use Rattle.ktm_kernel.specs.Done.{is_write, most_calls}
+use Rattle.ktm_journal.specs.Image.{page_count}
+use Rattle.ktm_kernel.specs.Done.{is_write, most_calls, units_written}
 use Rattle.ktm_kernel.specs.Stands.{KernelState, Stands, StandsBy, KernelAt, FoundAt, FoundLaw, DoesLine, LeavesStates, LeftLaw, PowerLaw}
-use Rattle.ktm_memory.specs.Stored.{units_put}
+use Rattle.ktm_kernel.specs.Stored.{units_put}
 use Rattle.ktm_courses.specs.SoundCourse.{IsSoundCourse}
 use Rattle.ktm_standing.specs.Effects.{undo_of}
 use Rattle.ktm_standing.specs.Standing.{IsStanding}
@@ -29,14 +29,15 @@ use Rattle.ktm_run.specs.Plan.{calls_of, plan_of, falls_of, RoseBy}
 use Rattle.ktm_log.specs.OnDisk.{OnDisk, on}
 use Rattle.ktm_run.specs.Progress.{Counts, Answers, Unanswered}
 use Rattle.ktm_run.specs.Script.{Means}
-use Rattle.ktm_types.specs.declared.command.Command.{Command}
-use Rattle.ktm_types.specs.declared.command.Line.{Line}
-use Rattle.ktm_types.specs.declared.command.Line.TheVariants.{Crash, Restart, Process, Tick}
-use Rattle.ktm_types.specs.declared.event.Event.{Event}
-use Rattle.ktm_types.specs.declared.event.Event.TheVariants.{Undo}
-use Rattle.ktm_types.specs.declared.object.Transaction.{Transaction}
-use Rattle.ktm_types.specs.declared.reply.Reply.{Reply}
-use Rattle.ktm_types.specs.declared.reply.Reply.TheVariants.{Refused, Done}
+use Rattle.ktm_world.specs.declared.change.Change.TheVariants.{Cut, Put}
+use Rattle.ktm_world.specs.declared.command.Command.{Command}
+use Rattle.ktm_world.specs.declared.command.Line.{Line}
+use Rattle.ktm_world.specs.declared.command.Line.TheVariants.{Crash, Restart, Process, Tick}
+use Rattle.ktm_world.specs.declared.event.Event.{Event}
+use Rattle.ktm_world.specs.declared.event.Event.TheVariants.{Plain, Undo}
+use Rattle.ktm_world.specs.declared.object.Transaction.{Transaction}
+use Rattle.ktm_world.specs.declared.reply.Reply.{Reply}
+use Rattle.ktm_world.specs.declared.reply.Reply.TheVariants.{Refused, Done}
 use Rattle.ktm_world.specs.Present.{Present}
 use Rattle.ktm_world.specs.Transcript.{Step, answered, interrupted, found, worn, CallDoes, CrashDoes, StartDoes, RestartDoes, Does}
 use Rattle.ktm_world.specs.Decide.{command_effect, command_tests, decide}
@@ -153,34 +154,37 @@ units_of k (Some s) w stands =
     ∙ ap (λ (x : Present). x.recorded.units) stands.now ∙ ap (λ (d : Durable). d.units) (sym stands.standing.running.comes_to) ∙ stand-units w.base w.log
 
 -- an outcome is recorded with few device calls
-few_core_calls : (j : JournalState) (events : List Event) → most_core_calls j events ≤ 3 * j.units + 76
-few_core_calls j events = elim (has_no_room j events) as (λ t. page_calls (min (units_put events) (page_count j.units)) + cond t 10 4 ≤ 3 * j.units + 76) [ true ↦ omega arith | false ↦ omega arith ]
+few_of_units : (k : KernelState) (events : List Event) → most_calls k events ≤ 3 * k.journal.units + 76
+few_of_units k events = elim (is_write events || has_no_room k.journal events) as (λ t. page_calls (min (units_written k.now events) (page_count k.journal.units)) + cond t 10 4 ≤ 3 * k.journal.units + 76)
+    [ true ↦ omega arith | false ↦ omega arith ]
 
-few_of_units : (j : JournalState) (events : List Event) → most_calls j events ≤ 3 * j.units + 76
-few_of_units j events =
-    let few = few_core_calls j events in
-    elim (is_write events) as (λ t. cond t (10 + page_calls (page_count j.units)) (most_core_calls j events) ≤ 3 * j.units + 76) [ true ↦ omega arith | false ↦ few ]
+-- what changes no bytes writes as many units as it puts
+written_of_none : (x : Present) (events : List Event) → PutNone events → units_written x events ≡ 0
+written_of_none x [] none = refl
+written_of_none x (Plain (Put node offset contents) ∷ []) (none, other) = absurd (cc)
+written_of_none x (Plain (Cut node size pages) ∷ []) (none, other) = absurd (cc)
+written_of_none x (Plain change ∷ []) none = refl
+written_of_none x (event ∷ events) none = none.0
 
 -- ten, where it puts no bytes
-few_of_none : (j : JournalState) (events : List Event) → PutNone events → most_calls j events ≤ 10
-few_of_none j events (none, other) =
-    subst (λ b. cond b (10 + page_calls (page_count j.units)) (most_core_calls j events) ≤ 10) (sym other)
-    (subst (λ n. page_calls (min n (page_count j.units)) + cond (has_no_room j events) 10 4 ≤ 10) (sym none)
-    (elim (has_no_room j events) as (λ t. page_calls (min 0 (page_count j.units)) + cond t 10 4 ≤ 10) [ true ↦ omega arith | false ↦ omega arith ]))
+few_of_none : (k : KernelState) (events : List Event) → PutNone events → most_calls k events ≤ 10
+few_of_none k events none =
+    subst (λ n. page_calls (min n (page_count k.journal.units)) + cond (is_write events || has_no_room k.journal events) 10 4 ≤ 10) (sym (written_of_none k.now events none))
+    (elim (is_write events || has_no_room k.journal events) as (λ t. page_calls (min 0 (page_count k.journal.units)) + cond t 10 4 ≤ 10) [ true ↦ omega arith | false ↦ omega arith ])
 
-pub few_calls : (k : KernelState) (told : Option DiskState) (events : List Event) → (k.now.machine.is_up ≡ false → events ≡ []) → (w : World) → KernelAt k told w → most_calls k.journal events ≤ 3 * w.base.units + 76
+pub few_calls : (k : KernelState) (told : Option DiskState) (events : List Event) → (k.now.machine.is_up ≡ false → events ≡ []) → (w : World) → KernelAt k told w → most_calls k events ≤ 3 * w.base.units + 76
 few_calls k told events quiet w at = go (is_up w.power) refl at
   where
-    go : (b : Bool) → is_up w.power ≡ b → StandsBy b k told w → most_calls k.journal events ≤ 3 * w.base.units + 76
-    go true on stands = subst (λ n. most_calls k.journal events ≤ 3 * n + 76) (units_of k told w stands) (few_of_units k.journal events)
+    go : (b : Bool) → is_up w.power ≡ b → StandsBy b k told w → most_calls k events ≤ 3 * w.base.units + 76
+    go true on stands = subst (λ n. most_calls k events ≤ 3 * n + 76) (units_of k told w stands) (few_of_units k events)
     go false off fallen =
-        let few = few_of_none k.journal [] (refl, refl) in
-        subst (λ (es : List Event). most_calls k.journal es ≤ 3 * w.base.units + 76) (sym (quiet (up_of k told w at ∙ off))) (omega (arith, few))
+        let few = few_of_none k [] (refl, refl) in
+        subst (λ (es : List Event). most_calls k es ≤ 3 * w.base.units + 76) (sym (quiet (up_of k told w at ∙ off))) (omega (arith, few))
 
-pub few_later_calls : (k : KernelState) (told : Option DiskState) (ms : ℕ) (w : World) → KernelAt k told w → most_calls k.journal (decide_tick k.now ms).events ≤ 10
+pub few_later_calls : (k : KernelState) (told : Option DiskState) (ms : ℕ) (w : World) → KernelAt k told w → most_calls k (decide_tick k.now ms).events ≤ 10
 few_later_calls k told ms w at =
     let (is, standing) = stands_of (is_up w.power) k told w at in
-    few_of_none k.journal (decide_tick k.now ms).events (tick_puts_none k.now ms (subst IsSoundCourse (sym is) standing.running.now.sound.course))
+    few_of_none k (decide_tick k.now ms).events (tick_puts_none k.now ms (subst IsSoundCourse (sym is) standing.running.now.sound.course))
 
 -- a line that changed nothing
 pub not_executed : LeftLaw → (k n : KernelState) (before now : Option DiskState) (a b : DiskStatus) (line : List ℕ) → now ≡ before → b ≡ a → (w : World) → KernelAt k before w
@@ -236,7 +240,7 @@ failed_again law k before now a b pick off is rose goes = λ w at.
       world = interrupted_restart w;
       does = subst (λ b. RestartDoes b w interrupted (Refused MachineDown) (interrupted_restart w)) (sym down) (refl, refl);
       stands = (law k before now w down at).1 goes;
-      counts = counted k k before now a b (8 * w.base.units + 70) (Power pick ∷ []) 1 rose (ap (λ s. s.plan) is) (let few = ap (λ s. s.calls) is in omega arith);
+      counts = counted k k before now a b (4 * w.base.units + 91) (Power pick ∷ []) 1 rose (ap (λ s. s.plan) is) (let few = ap (λ s. s.calls) is in omega arith);
     }
 
 -- the power is back
@@ -269,13 +273,13 @@ started_rose w new pick (worn log) reply a b does cause later = RoseBy-none a.do
 -- a machine that starts again, on a disk whose power came back
 module _ (law : PowerLaw) (k n : KernelState) (before mid now : Option DiskState) (a m b : DiskStatus) (pick : ℕ)
     (off : k.now.machine.is_up ≡ false) (power : m ≡ powered a pick) (goes : Goes Restored before mid)
-    (calls : DeviceCalls (8 * MOST_UNITS + 70) m b b.is_down) (few : (w : World) → FoundAt k mid w → b.calls ≤ m.calls + (8 * w.base.units + 70)) where
+    (calls : DeviceCalls (4 * MOST_UNITS + 91) m b b.is_down) (few : (w : World) → FoundAt k mid w → b.calls ≤ m.calls + (4 * w.base.units + 91)) where
   starts_counted : (w : World) (fell : ℕ) → KernelAt k before w → RoseBy fell m.downs b.downs
-      → Counts (on k before a) (on n now b) (8 * w.base.units + 70) (Power pick ∷ []) fell
-  starts_counted w fell at rose = counted k n before now a b (8 * w.base.units + 70) (Power pick ∷ []) fell
+      → Counts (on k before a) (on n now b) (4 * w.base.units + 91) (Power pick ∷ []) fell
+  starts_counted w fell at rose = counted k n before now a b (4 * w.base.units + 91) (Power pick ∷ []) fell
       (subst (λ d. RoseBy fell d b.downs) (ap (λ s. s.downs) power) rose)
       (calls.plan ∙ ap (λ s. s.plan) power)
-      (subst (λ d. b.calls ≤ d + (8 * w.base.units + 70)) (ap (λ s. s.calls) power) (few w (found_at law k before mid off goes w at)))
+      (subst (λ d. b.calls ≤ d + (4 * w.base.units + 91)) (ap (λ s. s.calls) power) (few w (found_at law k before mid off goes w at)))
 
   pub started : (reply : Reply) → ((pick : ℕ) (w : World) → FoundAt k mid w → DoesLine w (Some (Restart pick)) reply n now) → (reply ≡ Refused MachineDown → Rose m.downs b.downs)
       → Answers (on k before a) (on n now b) (Some (Restart pick)) reply
@@ -286,7 +290,7 @@ module _ (law : PowerLaw) (k n : KernelState) (before mid now : Option DiskState
         world = new;
         does = done;
         stands = stands;
-        counts = subst (λ (p : List PowerCall). Counts (on k before a) (on n now b) (8 * w.base.units + 70) p (falls_of (Some (Restart pick)) step reply))
+        counts = subst (λ (p : List PowerCall). Counts (on k before a) (on n now b) (4 * w.base.units + 91) p (falls_of (Some (Restart pick)) step reply))
             (sym (started_plan w new pick step reply starts))
             (starts_counted w (falls_of (Some (Restart pick)) step reply) at (started_rose w new pick step reply m b starts cause calls.later));
       }

@@ -10,9 +10,9 @@ use Rattle.ktm_log.specs.OnDisk.{OnDisk, on}
 use Rattle.ktm_run.specs.Progress.{Counts, Did, Answers, Unanswered, HalfWritten}
 use Rattle.ktm_dump.specs.Written.{AppendsPart}
 use Rattle.ktm_run.specs.Script.{Means, kept_of, reply_line}
-use Rattle.ktm_types.specs.declared.command.Line.{Line}
-use Rattle.ktm_types.specs.declared.command.Line.TheVariants.{Restart}
-use Rattle.ktm_types.specs.declared.reply.Reply.{Reply}
+use Rattle.ktm_world.specs.declared.command.Line.{Line}
+use Rattle.ktm_world.specs.declared.command.Line.TheVariants.{Restart}
+use Rattle.ktm_world.specs.declared.reply.Reply.{Reply}
 use Rattle.ktm_world.specs.World.{World}
 
 -- a line that was not executed at all

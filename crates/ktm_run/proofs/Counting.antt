@@ -7,10 +7,10 @@ use Rattle.ktm_run.specs.Plan.{plan_of, plans, falls, RoseBy, calls}
 use Rattle.ktm_kernel.specs.Stands.{KernelState}
 use Rattle.ktm_log.specs.OnDisk.{OnDisk, on}
 use Rattle.ktm_run.specs.Progress.{Counts}
-use Rattle.ktm_types.specs.declared.command.Line.{Line}
-use Rattle.ktm_types.specs.declared.command.Line.TheVariants.{Tick, Cut, Crash, Restart, Process}
-use Rattle.ktm_types.specs.declared.reply.Reply.{Reply}
-use Rattle.ktm_types.specs.declared.reply.Reply.TheVariants.{Refused, Done}
+use Rattle.ktm_world.specs.declared.command.Line.{Line}
+use Rattle.ktm_world.specs.declared.command.Line.TheVariants.{Tick, Cut, Crash, Restart, Process}
+use Rattle.ktm_world.specs.declared.reply.Reply.{Reply}
+use Rattle.ktm_world.specs.declared.reply.Reply.TheVariants.{Refused, Done}
 use Rattle.ktm_world.specs.Transcript.{Step, answered, interrupted, found, worn, IsAnswered, CallDoes, CrashDoes, StartDoes, RestartDoes, Does, Transcript}
 use Rattle.ktm_world.specs.Outcome.{Outcome}
 use Rattle.ktm_world.specs.World.{World}

@@ -14,11 +14,11 @@ use Rattle.ktm_journal.specs.Image.{row_of}
 use Rattle.ktm_journal.specs.declared.fault.LoadFault.{LoadFault}
 use Rattle.ktm_journal.specs.declared.fault.LoadFault.TheVariants as load
 use Rattle.ktm_log.specs.OnDisk.{OnDisk}
-use Rattle.ktm_open.specs.Opening.{WentDown}
-use Rattle.ktm_open.proofs.Openings.{BadImagesLaw}
-use Rattle.ktm_restart.specs.Bad.{IsBadAt}
-use Rattle.ktm_restart.specs.Loads.{FaultLeaves}
-use Rattle.ktm_restart.specs.Logs.{PagedFor, StandsFor, bytes_seen}
+use Rattle.ktm_kernel.specs.Opening.{WentDown}
+use Rattle.ktm_kernel.proofs.Openings.{BadImagesLaw}
+use Rattle.ktm_kernel.specs.Bad.{IsBadAt}
+use Rattle.ktm_kernel.specs.Loads.{FaultLeaves}
+use Rattle.ktm_kernel.specs.Logs.{PagedFor, StandsFor, bytes_seen}
 use Rattle.ktm_run.proofs.Probed.{Appends-after, AppendsPart-after}
 use Rattle.ktm_run.specs.Dumped.{DumpLeaves, IsNotDumped, IsReadable, OnlyRead, SaysBlank, SaysFault, Tells}
 use Rattle.ktm_run.specs.Early.{FoundBad, FoundDown, NotRun, Outside, outside}

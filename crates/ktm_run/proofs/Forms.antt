@@ -5,8 +5,8 @@ use Rattle.std.proofs.KnownBytes.{Keeps-trans}
 use Rattle.std.specs.Io.KnownBytes.{Keeps}
 use Rattle.ktm_base.specs.declared.limits.TheConstants.{MOST_SCRIPT_BYTES}
 use Rattle.ktm_base.specs.Disk.{DiskState, DiskStatus}
-use Rattle.ktm_open.specs.Begins.{Begins}
-use Rattle.ktm_open.specs.Opened.{MayBegin}
+use Rattle.ktm_kernel.specs.Begins.{Begins}
+use Rattle.ktm_kernel.specs.Opened.{MayBegin}
 use Rattle.ktm_run.proofs.Probed.{Appends-after, AppendsPart-after, probed_ends}
 use Rattle.ktm_run.specs.Dumped.{DumpLeaves}
 use Rattle.ktm_run.specs.Early.{FoundDown, LeftAlone, NoForm, Outside, SaysUsage}

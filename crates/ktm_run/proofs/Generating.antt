@@ -13,8 +13,8 @@ use Rattle.ktm_run.specs.Progress.{Answers, Unanswered}
 use Rattle.ktm_run.specs.Script.{Means, has_reply}
 use Rattle.ktm_run.specs.Summary.{is_ok, is_refused, is_start, summary, summary_line}
 use Rattle.ktm_run.specs.Tallied.{Counted, Tallied, Halted}
-use Rattle.ktm_types.specs.declared.command.Line.{Line}
-use Rattle.ktm_types.specs.declared.reply.Reply.{Reply}
+use Rattle.ktm_world.specs.declared.command.Line.{Line}
+use Rattle.ktm_world.specs.declared.reply.Reply.{Reply}
 use Rattle.ktm_world.specs.Durable.{stand}
 use Rattle.ktm_world.specs.World.{World}
 

@@ -12,7 +12,7 @@ use Rattle.ktm_records.specs.Spelling.{most_at_once}
 use Rattle.ktm_run.specs.Lasting.{LastsAfter, LastsForLines}
 use Rattle.ktm_run.specs.Lawful.{most_lines}
 use Rattle.ktm_run.specs.Script.{MayExecute, MeanAll, cut_lines, has_reply, last_line, lines_from, part_from}
-use Rattle.ktm_types.specs.declared.command.Line.{Line}
+use Rattle.ktm_world.specs.declared.command.Line.{Line}
 
 -- ---- the count of events
 

@@ -8,7 +8,7 @@ use Rattle.std.proofs.Math.Dec.{eqb-suc-zero}
 use Rattle.std.proofs.lemmas.Grind.{common_steps}
 use Rattle.ktm_run.specs.Script.{lines_from, part_from, last_line, has_reply, Means, kept_of}
 use Rattle.ktm_script.specs.Spelling.{spelling, IsLine}
-use Rattle.ktm_types.specs.declared.command.Line.{Line}
+use Rattle.ktm_world.specs.declared.command.Line.{Line}
 
 -- a part that is short is kept whole
 pub kept_whole : (n : ℕ) (part : List ℕ) → length (take n part) < n → take n part ≡ part

@@ -15,9 +15,9 @@ use Rattle.ktm_run.specs.Plan.{plan_of, plans, falls_of, falls, calls_of, calls}
 use Rattle.ktm_log.specs.OnDisk.{OnDisk}
 use Rattle.ktm_run.specs.Progress.{Now, Counts, Did, Answers, Went, Ran, Progress, Broke, Stops}
 use Rattle.ktm_run.specs.Script.{has_reply, Means, MeanAll, reply_line}
-use Rattle.ktm_types.specs.declared.command.Line.{Line}
+use Rattle.ktm_world.specs.declared.command.Line.{Line}
 use Rattle.ktm_world.specs.Durable.{Durable}
-use Rattle.ktm_types.specs.declared.reply.Reply.{Reply}
+use Rattle.ktm_world.specs.declared.reply.Reply.{Reply}
 use Rattle.ktm_world.specs.World.{World}
 
 pub MeanAll-append : (xs : List (List ℕ)) (ys : List (List ℕ)) (ms ns : List (Option Line)) → MeanAll xs ms → MeanAll ys ns → MeanAll (xs ++ ys) (ms ++ ns)

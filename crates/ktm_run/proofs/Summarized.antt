@@ -8,8 +8,8 @@ use Rattle.ktm_gen.specs.declared.generator.TheConstants.{MOST_LINES}
 use Rattle.ktm_gen.specs.Script.{generated_lines, line_at}
 use Rattle.ktm_kernel.specs.Stands.{KernelState, KernelAt, LeftLaw}
 use Rattle.ktm_log.specs.OnDisk.{OnDisk}
-use Rattle.ktm_open.specs.declared.fault.OpenFault.{OpenFault}
-use Rattle.ktm_open.specs.declared.fault.OpenFault.TheVariants as opening
+use Rattle.ktm_kernel.specs.declared.fault.OpenFault.{OpenFault}
+use Rattle.ktm_kernel.specs.declared.fault.OpenFault.TheVariants as opening
 use Rattle.ktm_run.proofs.Known.{Appends-none}
 use Rattle.ktm_run.proofs.Lasting.{generated_few}
 use Rattle.ktm_run.proofs.Theorems.{executed, said_nothing, unanswered_of}

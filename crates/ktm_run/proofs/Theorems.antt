@@ -13,18 +13,18 @@ use Rattle.ktm_base.proofs.offered.Images.{seen_law}
 use Rattle.ktm_kernel.specs.Stands.{KernelState, KernelAt, LeavesStates, LeftLaw}
 use Rattle.ktm_run.specs.declared.status.Status.{Status}
 use Rattle.ktm_run.specs.declared.status.Status.TheVariants.{Done, Usage, SourceFault, SinkFault, NoMemory, BadImage, DiskFault, ScriptTooLong, Worn}
-use Rattle.ktm_open.specs.Opening.{OpeningCounts}
+use Rattle.ktm_kernel.specs.Opening.{OpeningCounts}
 use Rattle.ktm_run.proofs.Lasting.{before_few, between_few, cut_few, front_few, meant_few}
 use Rattle.ktm_run.specs.Lawful.{RunIsLawful, most_lines}
 use Rattle.ktm_run.specs.Executed.{IsStopped, Position, ScriptLeaves, position}
 use Rattle.ktm_log.specs.OnDisk.{OnDisk, on}
 use Rattle.ktm_run.specs.Progress.{Now, Counts, Went, Ran, Progress, Broke, Unanswered as Undone}
 use Rattle.ktm_run.specs.Script.{Means, cut_lines, lines_from}
-use Rattle.ktm_open.specs.declared.fault.OpenFault.{OpenFault}
-use Rattle.ktm_open.specs.declared.fault.OpenFault.TheVariants as opening
+use Rattle.ktm_kernel.specs.declared.fault.OpenFault.{OpenFault}
+use Rattle.ktm_kernel.specs.declared.fault.OpenFault.TheVariants as opening
 use Rattle.ktm_run.specs.Early.{Outside, SaysWhy, EndsAs, FoundBad, FoundDown, FoundNoMemory, FoundWorn}
 use Rattle.ktm_run.specs.Theorem.{HoldsStates, Moment, moment_of, RunCounts, LineCounts, Executed, Replied, EndedBetween, Unanswered, HalfWritten, EndedWithin, NotOpened, CutOpening, EndedEarly}
-use Rattle.ktm_types.specs.declared.command.Line.TheVariants.{Restart}
+use Rattle.ktm_world.specs.declared.command.Line.TheVariants.{Restart}
 use Rattle.ktm_world.specs.Durable.{Durable, is_worn}
 use Rattle.ktm_world.specs.Logs.{is_up}
 use Rattle.ktm_world.specs.World.{World, opened}
@@ -55,11 +55,11 @@ module _ (w : World) (at new : Now) (line : List ℕ) (lengths : IfSome new.scen
   line_counts : (n : ℕ) (plan : List PowerCall) (fell : ℕ) → Counts at.scene new.scene n plan fell → LineCounts at.scene.status new.scene.status n plan fell
   line_counts n plan fell counts = record { rose = counts.rose; plan_is = counts.plan_is; few = counts.few }
 
-  unanswered_counts : Counts at.scene new.scene 0 [] 0 ⊎ ((pick : ℕ) × Means line (Some (Restart pick)) × (is_up w.power ≡ false) × Counts at.scene new.scene (8 * w.base.units + 70) (Power pick ∷ []) 0)
+  unanswered_counts : Counts at.scene new.scene 0 [] 0 ⊎ ((pick : ℕ) × Means line (Some (Restart pick)) × (is_up w.power ≡ false) × Counts at.scene new.scene (4 * w.base.units + 91) (Power pick ∷ []) 0)
       → LineCounts at.scene.status new.scene.status 0 [] 0
-      ⊎ ((pick : ℕ) × Means line (Some (Restart pick)) × (is_up w.power ≡ false) × LineCounts at.scene.status new.scene.status (8 * w.base.units + 70) (Power pick ∷ []) 0)
+      ⊎ ((pick : ℕ) × Means line (Some (Restart pick)) × (is_up w.power ≡ false) × LineCounts at.scene.status new.scene.status (4 * w.base.units + 91) (Power pick ∷ []) 0)
   unanswered_counts (inl none) = inl (line_counts 0 [] 0 none)
-  unanswered_counts (inr (pick, mean, off, some)) = inr (pick, mean, off, line_counts (8 * w.base.units + 70) (Power pick ∷ []) 0 some)
+  unanswered_counts (inr (pick, mean, off, some)) = inr (pick, mean, off, line_counts (4 * w.base.units + 91) (Power pick ∷ []) 0 some)
 
   pub unanswered_of : Appends at.taken new.taken [] → Undone w at.scene new.scene line → Unanswered w (moment_at at) (moment_at new) line
   unanswered_of wrote undone = record { wrote = wrote; holds = holds_of new.scene.told w lengths undone.leaves; counts = unanswered_counts undone.counts }

@@ -6,7 +6,7 @@ use Rattle.ktm_dump.specs.Text.{state_text}
 use Rattle.ktm_dump.specs.Written.{AppendsPart}
 use Rattle.ktm_journal.specs.declared.fault.LoadFault.{LoadFault}
 use Rattle.ktm_journal.specs.declared.fault.LoadFault.TheVariants as load
-use Rattle.ktm_restart.specs.Logs.{StandsFor}
+use Rattle.ktm_kernel.specs.Logs.{StandsFor}
 use Rattle.ktm_run.specs.Early.{FoundBad, FoundDown, NotRun, Outside}
 use Rattle.ktm_run.specs.Form.{bad_image_line, blank_line}
 use Rattle.ktm_run.specs.declared.status.Status.{Status}

@@ -4,12 +4,12 @@ use Rattle.std.specs.Io.KnownBytes.{Appends, Keeps}
 use Rattle.ktm_base.specs.Disk.{DiskState, DiskStatus}
 use Rattle.ktm_base.specs.Told.{Goes}
 use Rattle.ktm_kernel.specs.Restarts.{IsWorn}
-use Rattle.ktm_restart.specs.Bad.{IsBadAt}
+use Rattle.ktm_kernel.specs.Bad.{IsBadAt}
 use Rattle.ktm_run.specs.Form.{usage_line, bad_image_line, worn_line}
-use Rattle.ktm_open.specs.Opening.{Prepared, WentDown}
+use Rattle.ktm_kernel.specs.Opening.{Prepared, WentDown}
 use Rattle.ktm_dump.specs.Written.{AppendsPart}
-use Rattle.ktm_open.specs.declared.fault.OpenFault.{OpenFault}
-use Rattle.ktm_open.specs.declared.fault.OpenFault.TheVariants as opening
+use Rattle.ktm_kernel.specs.declared.fault.OpenFault.{OpenFault}
+use Rattle.ktm_kernel.specs.declared.fault.OpenFault.TheVariants as opening
 use Rattle.ktm_run.specs.declared.status.Status.{Status}
 use Rattle.ktm_run.specs.declared.status.Status.TheVariants.{Done, Usage, SourceFault, SinkFault, NoMemory, BadImage, DiskFault, ScriptTooLong, Worn}
 

@@ -4,8 +4,8 @@ use Rattle.ktm_base.specs.declared.limits.TheConstants.{MOST_SCRIPT_BYTES}
 use Rattle.ktm_run.specs.declared.status.Status.{Status}
 use Rattle.ktm_run.specs.declared.status.Status.TheVariants.{ScriptTooLong, Usage}
 use Rattle.ktm_run.specs.Early.{EndsAs, Outside}
-use Rattle.ktm_open.specs.Opened.{MayBegin}
-use Rattle.ktm_open.specs.Begins.{Begins}
+use Rattle.ktm_kernel.specs.Opened.{MayBegin}
+use Rattle.ktm_kernel.specs.Begins.{Begins}
 use Rattle.ktm_run.specs.Theorem.{EndedEarly}
 use Rattle.ktm_world.specs.Durable.{Durable}
 

@@ -3,7 +3,7 @@ use Rattle.std.specs.Prelude.{ℕ}
 use Rattle.std.specs.Io.KnownBytes.{Keeps}
 use Rattle.ktm_base.specs.Disk.{DiskState, IsSafe}
 use Rattle.ktm_base.specs.Told.{Goes}
-use Rattle.ktm_restart.specs.Logs.{StandsFor}
+use Rattle.ktm_kernel.specs.Logs.{StandsFor}
 use Rattle.ktm_run.specs.Early.{FoundDown, NotRun, Outside}
 use Rattle.ktm_run.specs.declared.status.Status.{Status}
 use Rattle.ktm_run.specs.declared.status.Status.TheVariants.{Done, Usage, SourceFault, SinkFault, NoMemory, BadImage, DiskFault, ScriptTooLong, Worn}

@@ -2,8 +2,8 @@
 use Rattle.std.specs.Prelude.{◌≡◌, ◌⊎◌, ℕ, ◌<◌, true, false, List, IsSomeAnd}
 use Rattle.std.specs.Io.KnownBytes.{Appends, Keeps}
 use Rattle.ktm_gen.specs.Script.{generated_lines, line_at}
-use Rattle.ktm_open.specs.Begins.{Begins}
-use Rattle.ktm_open.specs.Opened.{MayBegin}
+use Rattle.ktm_kernel.specs.Begins.{Begins}
+use Rattle.ktm_kernel.specs.Opened.{MayBegin}
 use Rattle.ktm_run.specs.declared.status.Status.{Status}
 use Rattle.ktm_run.specs.declared.status.Status.TheVariants.{Done, Usage, SourceFault, SinkFault, NoMemory, BadImage, DiskFault, ScriptTooLong, Worn}
 use Rattle.ktm_run.specs.Early.{EndsAs, Outside}

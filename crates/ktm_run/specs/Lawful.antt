@@ -4,8 +4,8 @@ use Rattle.ktm_base.specs.declared.limits.TheConstants.{MOST_SCRIPT_BYTES}
 use Rattle.ktm_base.specs.Disk.{DiskState}
 use Rattle.ktm_kernel.specs.Restarts.{IsFreshlyCounted}
 use Rattle.ktm_kernel.specs.Stands.{KernelState, KernelAt}
-use Rattle.ktm_types.specs.declared.command.Line.{Line}
-use Rattle.ktm_types.specs.declared.reply.Reply.{Reply}
+use Rattle.ktm_world.specs.declared.command.Line.{Line}
+use Rattle.ktm_world.specs.declared.reply.Reply.{Reply}
 use Rattle.ktm_world.specs.Durable.{Durable}
 use Rattle.ktm_world.specs.Lawful.{IsLawful}
 use Rattle.ktm_world.specs.OneOutcome.{HasOneOutcome, tellings}

@@ -3,10 +3,10 @@ use Rattle.std.specs.Prelude.{ℕ, ◌+◌, ◌-◌, ◌*◌, ◌^◌, ◌≤◌
 use Rattle.ktm_base.specs.declared.power.PowerCall.{PowerCall}
 use Rattle.ktm_base.specs.declared.power.PowerCall.TheVariants.{Arm, Off, Power}
 use Rattle.ktm_base.specs.declared.refusal.Refusal.TheVariants.{MachineUp}
-use Rattle.ktm_types.specs.declared.command.Line.{Line}
-use Rattle.ktm_types.specs.declared.command.Line.TheVariants.{Tick, Cut, Crash, Restart, Process}
-use Rattle.ktm_types.specs.declared.reply.Reply.{Reply}
-use Rattle.ktm_types.specs.declared.reply.Reply.TheVariants.{Refused, Done}
+use Rattle.ktm_world.specs.declared.command.Line.{Line}
+use Rattle.ktm_world.specs.declared.command.Line.TheVariants.{Tick, Cut, Crash, Restart, Process}
+use Rattle.ktm_world.specs.declared.reply.Reply.{Reply}
+use Rattle.ktm_world.specs.declared.reply.Reply.TheVariants.{Refused, Done}
 use Rattle.ktm_world.specs.Transcript.{Step, answered, interrupted, found, worn}
 
 -- is the reply ok alone
@@ -66,7 +66,7 @@ calls_of units (Some (Process process command)) = 3 * units + 76
 calls_of units (Some (Tick ms)) = 10
 calls_of units (Some (Cut calls)) = 0
 calls_of units (Some Crash) = 0
-calls_of units (Some (Restart pick)) = 8 * units + 70
+calls_of units (Some (Restart pick)) = 4 * units + 91
 
 -- the most device calls of lines
 abbrev pub calls : ℕ → List (Option Line) → ℕ

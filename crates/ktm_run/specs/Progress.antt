@@ -10,9 +10,9 @@ use Rattle.ktm_log.specs.OnDisk.{OnDisk, on}
 use Rattle.ktm_run.specs.Plan.{plan_of, plans, falls_of, falls, RoseBy, calls_of, calls}
 use Rattle.ktm_dump.specs.Written.{AppendsPart}
 use Rattle.ktm_run.specs.Script.{has_reply, Means, MeanAll, reply_line, written_replies}
-use Rattle.ktm_types.specs.declared.command.Line.{Line}
-use Rattle.ktm_types.specs.declared.command.Line.TheVariants.{Restart}
-use Rattle.ktm_types.specs.declared.reply.Reply.{Reply}
+use Rattle.ktm_world.specs.declared.command.Line.{Line}
+use Rattle.ktm_world.specs.declared.command.Line.TheVariants.{Restart}
+use Rattle.ktm_world.specs.declared.reply.Reply.{Reply}
 use Rattle.ktm_world.specs.Transcript.{Step, Does, Transcript}
 use Rattle.ktm_world.specs.World.{World}
 use Rattle.ktm_world.specs.Logs.{is_up}

@@ -6,8 +6,8 @@ use Rattle.ktm_base.specs.declared.limits.TheConstants.{MOST_LINE_BYTES}
 use Rattle.ktm_dump.specs.Written.{newline}
 use Rattle.ktm_reply.specs.Spelling.{reply_spelling}
 use Rattle.ktm_script.specs.Spelling.{IsLine, spelling}
-use Rattle.ktm_types.specs.declared.command.Line.{Line}
-use Rattle.ktm_types.specs.declared.reply.Reply.{Reply}
+use Rattle.ktm_world.specs.declared.command.Line.{Line}
+use Rattle.ktm_world.specs.declared.reply.Reply.{Reply}
 
 -- the lines that end in a newline, of these bytes behind a part of a line
 abbrev pub lines_from : List ℕ → List ℕ → List (List ℕ)

@@ -2,8 +2,8 @@
 use Rattle.std.specs.Prelude.{ℕ, Bool, true, false, List, [], ◌∷◌, ◌++◌, length, take, codes, decimal, bytes_eq, count_by}
 use Rattle.ktm_reply.specs.Spelling.{reply_spelling}
 use Rattle.ktm_dump.specs.Written.{newline}
-use Rattle.ktm_types.specs.declared.reply.Reply.{Reply}
-use Rattle.ktm_types.specs.declared.reply.Reply.TheVariants.{Refused}
+use Rattle.ktm_world.specs.declared.reply.Reply.{Reply}
+use Rattle.ktm_world.specs.declared.reply.Reply.TheVariants.{Refused}
 use Rattle.ktm_world.specs.Durable.{stand}
 use Rattle.ktm_world.specs.World.{World}
 

@@ -12,7 +12,7 @@ use Rattle.ktm_run.specs.declared.tally.Tally.{Tally}
 use Rattle.ktm_run.specs.Progress.{Now, Unanswered, Went}
 use Rattle.ktm_dump.specs.Written.{AppendsPart}
 use Rattle.ktm_run.specs.Summary.{is_ok, is_refused, is_start, summary_line}
-use Rattle.ktm_types.specs.declared.reply.Reply.{Reply}
+use Rattle.ktm_world.specs.declared.reply.Reply.{Reply}
 use Rattle.ktm_world.specs.World.{World}
 
 -- the replies of each kind were counted

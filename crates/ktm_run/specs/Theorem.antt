@@ -6,7 +6,7 @@ use Rattle.ktm_base.specs.declared.limits.TheConstants.{MOST_SCRIPT_BYTES}
 use Rattle.ktm_base.specs.declared.power.PowerCall.{PowerCall}
 use Rattle.ktm_base.specs.declared.power.PowerCall.TheVariants.{Power}
 use Rattle.ktm_base.specs.Disk.{DiskState, DiskStatus, MayLeave}
-use Rattle.ktm_restart.specs.Logs.{StandsFor}
+use Rattle.ktm_kernel.specs.Logs.{StandsFor}
 use Rattle.ktm_kernel.specs.Restarts.{LeavesOwnOrNot}
 use Rattle.ktm_kernel.specs.Stands.{LeavesStates}
 use Rattle.ktm_world.specs.Durable.{Durable, is_worn, stand}
@@ -14,8 +14,8 @@ use Rattle.ktm_world.specs.Lawful.{IsLawful}
 use Rattle.ktm_world.specs.OneOutcome.{HasOneOutcome, tellings}
 use Rattle.ktm_world.specs.Transcript.{Does, Transcript, Step}
 use Rattle.ktm_world.specs.World.{World, opened, possible_logs}
-use Rattle.ktm_open.specs.Begins.{BeginsAs}
-use Rattle.ktm_open.specs.Opening.{opening_calls}
+use Rattle.ktm_kernel.specs.Begins.{BeginsAs}
+use Rattle.ktm_kernel.specs.Opening.{opening_calls}
 use Rattle.ktm_run.specs.Early.{Outside, Untouched}
 use Rattle.ktm_run.specs.Plan.{plan_of, plans, falls_of, falls, RoseBy, calls_of, calls}
 use Rattle.ktm_dump.specs.Written.{AppendsPart}
@@ -23,9 +23,9 @@ use Rattle.ktm_run.specs.Form.{worn_line}
 use Rattle.ktm_run.specs.Script.{has_reply, cut_lines, lines_from, MayExecute, Means, MeanAll, reply_line, written_replies}
 use Rattle.ktm_run.specs.declared.status.Status.{Status}
 use Rattle.ktm_run.specs.declared.status.Status.TheVariants.{Done, Usage, SourceFault, SinkFault, NoMemory, BadImage, DiskFault, ScriptTooLong, Worn}
-use Rattle.ktm_types.specs.declared.command.Line.{Line}
-use Rattle.ktm_types.specs.declared.command.Line.TheVariants.{Restart}
-use Rattle.ktm_types.specs.declared.reply.Reply.{Reply}
+use Rattle.ktm_world.specs.declared.command.Line.{Line}
+use Rattle.ktm_world.specs.declared.command.Line.TheVariants.{Restart}
+use Rattle.ktm_world.specs.declared.reply.Reply.{Reply}
 use Rattle.ktm_world.specs.Logs.{Group, is_up}
 
 -- ---- what a disk may leave

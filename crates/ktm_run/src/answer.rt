@@ -6,15 +6,15 @@ ghost use Rattle.ktm_log.specs.OnDisk.{on};
 ghost use Rattle.ktm_run.specs.Lasting.{LastsAfter};
 ghost use Rattle.ktm_run.specs.Progress.{Answers, Unanswered};
 ghost use Rattle.ktm_run.specs.Script.{Means};
-ghost use Rattle.ktm_types.specs.Values.{IsCommand};
+ghost use Rattle.ktm_world.specs.Values.{IsCommand};
 ghost use Rattle.ktm_world.specs.World.{World};
-ghost use Rattle.ktm_types.specs.declared.command.Line.{Line};
-ghost use Rattle.ktm_types.specs.declared.command.Line.TheVariants.{Cut, Crash, Restart, Process, Tick};
+ghost use Rattle.ktm_world.specs.declared.command.Line.{Line};
+ghost use Rattle.ktm_world.specs.declared.command.Line.TheVariants.{Cut, Crash, Restart, Process, Tick};
 
 use ktm_base::{Down, NoMemory, Pid, PowerDisk, Refusal};
 use ktm_kernel::{Kernel, law_of_power, law_of_what_is_found, law_of_what_is_left};
 use ktm_script::{LineFault, read_line};
-use ktm_types::{Command, Line, Reply};
+use ktm_world::{Command, Line, Reply};
 use std::alloc::Global;
 
 // A process calls the system. A call on the way to the end of a transaction is answered also where there is no memory.

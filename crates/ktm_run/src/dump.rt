@@ -9,7 +9,7 @@ use crate::status::Status;
 use ktm_base::{Down, Failed, PowerDisk, Sink};
 use ktm_dump::{law_of_texts, write_line, write_state};
 use ktm_journal::LoadFault;
-use ktm_restart::{law_of_journals, load};
+use ktm_kernel::{law_of_journals, load};
 use std::alloc::Global;
 
 // How the dump of an image ends that was not loaded. Of a bad one it says so.

@@ -7,7 +7,7 @@ ghost use Rattle.ktm_run.specs.Formatted.{FormatLeaves};
 use crate::status::Status;
 use ktm_base::{Down, PowerDisk};
 use ktm_journal::Journal;
-use ktm_restart::law_of_new_images;
+use ktm_kernel::law_of_new_images;
 
 /// The number of an image that is made new.
 const IMAGE: u16 = 1;

@@ -21,9 +21,7 @@ use crate::tally::Tally;
 use ktm_base::{Failed, NoMemory, PowerDisk, Sink};
 use ktm_dump::write_all;
 use ktm_gen::{Generator, LONGEST_LINE, MOST_LINES};
-use ktm_kernel::{Kernel, law_of_what_is_left};
-use ktm_open::open_kernel;
-use ktm_restart::law_of_bad_images;
+use ktm_kernel::{Kernel, law_of_bad_images, law_of_what_is_left, open_kernel};
 use std::alloc::Global;
 
 // Executes the first lines of the script of a number, each of which is made in the room for it, and counts their replies.

@@ -14,9 +14,7 @@ use crate::script::{PIECE, run_script};
 use crate::status::Status;
 use ktm_base::{Failed, PowerDisk, Sink, Source};
 use ktm_dump::{write_all, write_line};
-use ktm_kernel::law_of_what_is_left;
-use ktm_open::{OpenFault, open_kernel};
-use ktm_restart::law_of_bad_images;
+use ktm_kernel::{OpenFault, law_of_bad_images, law_of_what_is_left, open_kernel};
 use std::alloc::Global;
 
 /// Says at which offset the image is bad.

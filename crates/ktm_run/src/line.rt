@@ -14,7 +14,7 @@ use ktm_base::{Failed, MOST_LINE_BYTES, NoMemory, PowerDisk, Sink};
 use ktm_dump::write_all;
 use ktm_kernel::{Kernel, law_of_what_is_left};
 use ktm_reply::put_reply;
-use ktm_types::Reply;
+use ktm_world::Reply;
 use memchr::memchr;
 use std::alloc::Global;
 

@@ -9,7 +9,7 @@ ghost use Rattle.ktm_run.specs.Form.{form_of};
 ghost use Rattle.ktm_run.specs.Formatted.{FormatLeaves};
 ghost use Rattle.ktm_run.specs.Forms.{FormLeaves, IsWithin, UntouchedOr};
 ghost use Rattle.ktm_run.specs.Generated.{GeneratedLeaves};
-ghost use Rattle.ktm_open.specs.Begins.{Begins, BeginsAs};
+ghost use Rattle.ktm_kernel.specs.Begins.{Begins, BeginsAs};
 ghost use Rattle.ktm_run.specs.Theorem.{EndedEarly};
 ghost use Rattle.ktm_world.specs.Durable.{Durable, is_worn};
 
@@ -21,7 +21,7 @@ use crate::image::run_image;
 use crate::status::Status;
 use ktm_base::{Failed, PowerDisk, Sink, Source};
 use ktm_dump::write_line;
-use ktm_restart::law_of_bad_images;
+use ktm_kernel::law_of_bad_images;
 use std::alloc::Global;
 
 // Says which forms there are.

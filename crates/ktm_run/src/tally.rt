@@ -3,7 +3,7 @@ ghost use Rattle.std.specs.Prelude.{◌≡◌, ◌+◌, ◌≤◌, ◌<◌, [], 
 ghost use Rattle.ktm_run.specs.Summary.{is_ok, is_refused, is_start};
 
 use ktm_gen::MOST_LINES;
-use ktm_types::Reply;
+use ktm_world::Reply;
 
 /// How many replies there were, and how many of each kind.
 #[derive(Drop)]

@@ -4,7 +4,7 @@ use Rattle.std.proofs.lemmas.Bool.{and_from, and_parts, cases_Bool, lt-ltb, true
 use Rattle.ktm_base.specs.declared.limits.TheConstants.{MOST_LIVE}
 use Rattle.ktm_snapshot.specs.declared.head.StateHead.{StateHead}
 use Rattle.ktm_snapshot.specs.StateGrammar.{head_of}
-use Rattle.ktm_states.specs.GoodState.{IsGoodState}
+use Rattle.txf_laws.specs.GoodState.{IsGoodState}
 use Rattle.ktm_waiting.proofs.offered.Limits.{too-many}
 use Rattle.ktm_world.specs.Durable.{Durable, is_within_limits}
 use Rattle.ktm_world.specs.Tree.{Tree}

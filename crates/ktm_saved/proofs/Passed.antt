@@ -3,13 +3,13 @@ use Rattle.std.proofs.Common.{◌≡◌, ◌&&◌, not, Bool, true, false, List,
 use Rattle.std.specs.Prelude.{Result, Ok, Err, IfOk}
 use Rattle.std.specs.List.{list_all, list_any}
 use Rattle.std.proofs.lemmas.Bool.{and_from, cases_Bool, not_from_false, true≢false}
-use Rattle.ktm_types.specs.declared.change.Change.{Change}
+use Rattle.ktm_world.specs.declared.change.Change.{Change}
 use Rattle.ktm_saved.specs.Tests.{Against, AreGoodBesideAll, AreGoodSoFar, has_good_changes, is_good_alone, is_known}
 use Rattle.ktm_saved.proofs.Refused.{with_these}
 use Rattle.ktm_saved.proofs.SoFar.{alone-from}
-use Rattle.ktm_states.specs.GoodState.{are_kept_changes}
-use Rattle.ktm_states.proofs.offered.Settings.{set_both-sym}
-use Rattle.ktm_states.proofs.offered.WaitingChanges.{no_settings-left}
+use Rattle.txf_laws.specs.GoodState.{are_kept_changes}
+use Rattle.txf_laws.proofs.offered.Settings.{set_both-sym}
+use Rattle.txf_laws.proofs.offered.WaitingChanges.{no_settings-left}
 use Rattle.ktm_waiting.specs.Waiting.{AreHeld, AreSpared, others_set, waits_beside}
 use Rattle.ktm_waiting.proofs.offered.Beside.{changes-met}
 use Rattle.ktm_waiting.proofs.offered.Keeping.{spared-plain}

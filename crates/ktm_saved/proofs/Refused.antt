@@ -4,13 +4,13 @@ use Rattle.std.specs.List.{list_all, list_any}
 use Rattle.std.proofs.lemmas.Bool.{and_from, and_parts, cases_Bool, eqb-true, false_from_ne_true, le-leb, leb-true, not_from_false, true≢false}
 use Rattle.std.proofs.lemmas.List.Sums.{sum_by-append}
 use Rattle.ktm_base.specs.declared.limits.TheConstants.{MOST_LIVE}
-use Rattle.ktm_types.specs.declared.change.Change.{Change}
+use Rattle.ktm_world.specs.declared.change.Change.{Change}
 use Rattle.ktm_saved.specs.Tests.{Against, AreBefore, AreGoodBeside, BeginNone, IsGoodBehind, against, is_good_alone, is_known, state_with}
 use Rattle.ktm_saved.proofs.SoFar.{IsAlone, alone-fits, alone-from, alone-to, with-last}
-use Rattle.ktm_states.specs.GoodState.{IsGoodState}
-use Rattle.ktm_states.proofs.offered.GoodTransactions.{Beside, TableOf, table-of}
-use Rattle.ktm_states.proofs.offered.Settings.{set_both-sym}
-use Rattle.ktm_states.proofs.offered.WaitingChanges.{no_changes-left, no_settings-left}
+use Rattle.txf_laws.specs.GoodState.{IsGoodState}
+use Rattle.txf_laws.proofs.offered.GoodTransactions.{Beside, TableOf, table-of}
+use Rattle.txf_laws.proofs.offered.Settings.{set_both-sym}
+use Rattle.txf_laws.proofs.offered.WaitingChanges.{no_changes-left, no_settings-left}
 use Rattle.ktm_waiting.specs.declared.amounts.Amounts.{Amounts}
 use Rattle.ktm_waiting.specs.Totals.{PassImages}
 use Rattle.ktm_waiting.specs.Waiting.{AreHeld, AreSpared, amounts_of, fits_in, limits, others_set, total, waits_beside}

@@ -8,7 +8,7 @@ use Rattle.ktm_event.proofs.Parts.{unambiguous_id}
 use Rattle.ktm_snapshot.proofs.Reading.{reads_list}
 use Rattle.ktm_snapshot.proofs.Rising.{managers_front}
 use Rattle.ktm_snapshot.specs.Pieces.{ReadsList}
-use Rattle.ktm_types.specs.EventGrammar.{IsIdOf}
+use Rattle.ktm_world.specs.EventGrammar.{IsIdOf}
 use Rattle.ktm_world.specs.Durable.{is_before, with_manager}
 use Rattle.ktm_saved.proofs.Ends.{all_front}
 use Rattle.ktm_saved.specs.Reading.{are_good_managers, is_drawn_by}

@@ -4,10 +4,10 @@ use Rattle.std.specs.List.{list_all}
 use Rattle.std.proofs.lemmas.Bool.{and_from, and_parts, cases_Bool, false_from_ne_true, true≢false}
 use Rattle.ktm_base.specs.declared.id.Id.{Id}
 use Rattle.ktm_base.specs.declared.limits.TheConstants.{MOST_INFORMATION_BYTES}
-use Rattle.ktm_types.specs.declared.change.Change.{Change}
+use Rattle.ktm_world.specs.declared.change.Change.{Change}
 use Rattle.ktm_saved.specs.Tests.{Against, AreBefore, AreGoodBeside, AreGoodSoFar, IsGoodBehind, against, has_good_changes, has_good_parts, is_enlisted_well, is_good_alone, is_staged_well, state_with}
-use Rattle.ktm_states.specs.GoodState.{IsGoodState, are_kept_changes, are_kept_settings, enlisted, has_one_part_each, is_decided_well, is_done_well, is_drawn, is_held_well, is_ready_well}
-use Rattle.ktm_states.proofs.offered.GoodTransactions.{Fitting, Rest, differ, good-from}
+use Rattle.txf_laws.specs.GoodState.{IsGoodState, are_kept_changes, are_kept_settings, enlisted, has_one_part_each, is_decided_well, is_done_well, is_drawn, is_held_well, is_ready_well}
+use Rattle.txf_laws.proofs.offered.GoodTransactions.{Fitting, Rest, differ, good-from}
 use Rattle.ktm_waiting.specs.Table.{changes_at}
 use Rattle.ktm_waiting.specs.Waiting.{AreHeld, AreKept, IsWaitingKept, Reserves}
 use Rattle.ktm_waiting.proofs.offered.Reserving.{HoldsPart, changes-with, changes-with-itself, reserves-changed, reserves-with, same-hold}
@@ -24,7 +24,7 @@ use Rattle.txf_laws.proofs.offered.Lists.{AreFootprintsApart-sym}
 use Rattle.txf_laws.specs.Footprint.{footprint}
 use Rattle.txf_laws.proofs.offered.Tables.{Table, Table-with, before_other, is_before-then, same_id-equal, same_id-sym}
 use Rattle.txf_reserve.specs.ReserveState.{ReserveState, holds_in}
-use Rattle.ktm_states.proofs.offered.Settings.{set_both-sym}
+use Rattle.txf_laws.proofs.offered.Settings.{set_both-sym}
 
 -- ---- one by itself
 

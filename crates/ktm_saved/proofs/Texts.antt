@@ -8,12 +8,12 @@ use Rattle.ktm_keyed.specs.declared.keyed.Keyed.{Keyed}
 use Rattle.ktm_records.specs.Spelling.{AreTextKeys, HaveTextKeys, SpellingLaw}
 use Rattle.ktm_snapshot.specs.Works.{placed_part}
 use Rattle.ktm_snapshot.specs.StateGrammar.{IsEntryOf, IsPlacedPartOf, IsMarkedOf, IsTransactionOf}
-use Rattle.ktm_types.specs.declared.event.Event.TheVariants.{Ready}
-use Rattle.ktm_types.specs.declared.event.Part.{Part}
-use Rattle.ktm_types.specs.declared.event.Part.TheVariants.{Enlistment, Changes, Settings}
-use Rattle.ktm_types.specs.declared.recorded.RecordedPart.{RecordedPart}
-use Rattle.ktm_types.specs.EventGrammar.{IsIdOf, IsPartOf}
-use Rattle.ktm_types.specs.Values.{IsText}
+use Rattle.ktm_world.specs.declared.event.Event.TheVariants.{Ready}
+use Rattle.ktm_world.specs.declared.event.Part.{Part}
+use Rattle.ktm_world.specs.declared.event.Part.TheVariants.{Enlistment, Changes, Settings}
+use Rattle.ktm_world.specs.declared.recorded.RecordedPart.{RecordedPart}
+use Rattle.ktm_world.specs.EventGrammar.{IsIdOf, IsPartOf}
+use Rattle.ktm_world.specs.Values.{IsText}
 use Rattle.ktm_world.specs.Durable.{Recorded, settings_in, settings_of}
 use Rattle.ktm_world.specs.Keys.{Store}
 

@@ -15,7 +15,7 @@ use Rattle.ktm_saved.specs.Tests.{Against, AreGoodSoFar, against}
 use Rattle.ktm_snapshot.proofs.OneState.{one_state}
 use Rattle.ktm_snapshot.proofs.Reading.{reads_state}
 use Rattle.ktm_snapshot.specs.StateGrammar.{AreTransactionsOf, IsStateOf, IsUpToManagersOf, head_of}
-use Rattle.ktm_states.specs.GoodState.{IsGoodState}
+use Rattle.txf_laws.specs.GoodState.{IsGoodState}
 use Rattle.ktm_world.specs.Durable.{Durable, Recorded, is_before, is_within_limits}
 use Rattle.txf_laws.specs.Contents.{is_good_entry}
 use Rattle.txf_laws.specs.Elements.{each_pair}

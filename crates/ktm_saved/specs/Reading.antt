@@ -10,7 +10,7 @@ use Rattle.ktm_saved.specs.declared.saved.Saved.{Saved}
 use Rattle.ktm_saved.specs.Saved.{IsSaved}
 use Rattle.ktm_saved.specs.Tests.{Against, AreGoodSoFar, against}
 use Rattle.ktm_snapshot.specs.StateGrammar.{AreTransactionsOf, IsStateOf, IsUpToManagersOf}
-use Rattle.ktm_states.specs.GoodState.{IsGoodState, is_of_object}
+use Rattle.txf_laws.specs.GoodState.{IsGoodState, is_of_object}
 use Rattle.ktm_waiting.specs.Totals.{TransactionsState}
 use Rattle.ktm_waiting.specs.Waiting.{AreHeld}
 use Rattle.ktm_world.specs.Durable.{Durable, Recorded, is_before}

@@ -3,7 +3,7 @@ use Rattle.std.specs.Prelude.{◌≡◌, ℕ, List, Option, Some, None}
 use Rattle.ktm_records.specs.Spelling.{AreRecordedTexts}
 use Rattle.ktm_saved.specs.declared.saved.Saved.{Saved}
 use Rattle.ktm_snapshot.specs.StateGrammar.{IsStateOf}
-use Rattle.ktm_states.specs.GoodState.{IsGoodState}
+use Rattle.txf_laws.specs.GoodState.{IsGoodState}
 use Rattle.ktm_waiting.specs.Waiting.{AreHeld}
 use Rattle.ktm_world.specs.Durable.{Durable}
 use Rattle.txf_tree.specs.TreeState.{tree_of}

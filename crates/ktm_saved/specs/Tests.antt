@@ -3,9 +3,9 @@ use Rattle.std.specs.Prelude.{◌≡◌, ℕ, ◌^◌, ◌<◌, ◌&&◌, not, B
 use Rattle.std.specs.List.{list_all, list_any}
 use Rattle.ktm_base.specs.declared.id.Id.{Id}
 use Rattle.ktm_base.specs.declared.limits.TheConstants.{MOST_INFORMATION_BYTES}
-use Rattle.ktm_types.specs.declared.recorded.Superior.{Superior}
+use Rattle.ktm_world.specs.declared.recorded.Superior.{Superior}
 use Rattle.ktm_saved.specs.declared.head.Head.{Head}
-use Rattle.ktm_states.specs.GoodState.{IsGoodState, are_kept_changes, are_kept_settings, enlisted, has_one_part_each, is_decided_well, is_done_well, is_drawn, is_held_well, is_ready_well}
+use Rattle.txf_laws.specs.GoodState.{IsGoodState, are_kept_changes, are_kept_settings, enlisted, has_one_part_each, is_decided_well, is_done_well, is_drawn, is_held_well, is_ready_well}
 use Rattle.ktm_waiting.specs.Table.{IsByRisingId}
 use Rattle.ktm_waiting.specs.Waiting.{AreBeside, AreHeld}
 use Rattle.ktm_world.specs.Changes.{changes_apply}

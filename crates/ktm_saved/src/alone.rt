@@ -2,7 +2,7 @@
 ghost use Rattle.std.specs.Prelude.{◌≡◌, ◌&&◌, true, IfOk, count_by};
 ghost use Rattle.std.specs.List.{list_all};
 ghost use Rattle.ktm_saved.specs.Tests.{against_of, has_good_changes, has_good_parts, is_good_alone, is_staged_well};
-ghost use Rattle.ktm_states.specs.GoodState.{are_kept_changes, are_kept_settings, has_one_part_each, is_decided_well, is_done_well, is_held_well, is_ready_well};
+ghost use Rattle.txf_laws.specs.GoodState.{are_kept_changes, are_kept_settings, has_one_part_each, is_decided_well, is_done_well, is_held_well, is_ready_well};
 ghost use Rattle.ktm_world.specs.Changes.{changes_apply, has_changes};
 ghost use Rattle.ktm_world.specs.Durable.{are_recorded_changes, changes_of, is_new_in, is_part_of, is_sole};
 ghost use Rattle.txf_laws.specs.Contents.{is_made_below, puts_some};
@@ -11,12 +11,11 @@ ghost use Rattle.txf_tree.specs.TreeState.{tree_of};
 use crate::enlisted::{are_enlisted_well, are_enlistments_apart, is_drawn};
 use crate::head::Head;
 use ktm_base::NoMemory;
-use ktm_types::{Change, Contents, DonePart, Part, RecordedPart};
 use ktm_waiting::{
     changes_of, has_part, has_part_of, has_undone_part, is_decided, is_held, is_part_of, is_ready,
     settings_of,
 };
-use ktm_world::{Recorded, are_good_settings};
+use ktm_world::{Change, Contents, DonePart, Part, Recorded, RecordedPart, are_good_settings};
 use std::alloc::Global;
 use txf_durable::{DurableFiles, FileNumbers, are_recorded_changes};
 use txf_tree::{is_make, node_of};

@@ -11,9 +11,8 @@ ghost use Rattle.txf_tree.specs.TreeState.{tree_of};
 use crate::alone::is_good_alone;
 use crate::head::Head;
 use ktm_base::{Id, MOST_LIVE, NoMemory};
-use ktm_types::{Change, Part, RecordedPart, Superior};
 use ktm_waiting::{Transactions, changes_of, enlistments_of, is_before, others_set, settings_of};
-use ktm_world::Recorded;
+use ktm_world::{Change, Part, Recorded, RecordedPart, Superior};
 use std::alloc::Global;
 use txf_durable::{DurableFiles, FileNumbers, Waiting};
 

@@ -2,16 +2,15 @@
 ghost use Rattle.std.specs.Prelude.{◌≡◌, ◌&&◌, not, nat_le};
 ghost use Rattle.std.specs.List.{flat_map, list_all, list_any};
 ghost use Rattle.ktm_saved.specs.Tests.{against_of, is_enlisted_well};
-ghost use Rattle.ktm_states.specs.GoodState.{enlisted, enlisted_in, is_of_object, superiors_in};
+ghost use Rattle.txf_laws.specs.GoodState.{enlisted, enlisted_in, is_of_object, superiors_in};
 ghost use Rattle.ktm_world.specs.Durable.{enlistments_in, enlistments_of, superior_ids};
 ghost use Rattle.ktm_world.specs.Transactions.{same_id};
 ghost use Rattle.txf_laws.specs.Elements.{each_pair};
 
 use crate::head::Head;
 use ktm_base::{Id, MOST_INFORMATION_BYTES};
-use ktm_types::{DonePart, Part, RecordedPart, Superior};
 use ktm_waiting::has_part_of;
-use ktm_world::Recorded;
+use ktm_world::{DonePart, Part, Recorded, RecordedPart, Superior};
 
 /// Was the Id drawn in one of so many boots.
 pub(crate) fn is_drawn(boots: u32, id: Id) -> bool

@@ -11,13 +11,13 @@ use Rattle.ktm_event.specs.Spelling.{AreSpellableChanges, IsSpellableEvent, IsSp
 use Rattle.ktm_event.specs.Work.{FinalFile, changes_of, changes_of_file, pages_changes}
 use Rattle.ktm_snapshot.specs.Works.{has_page_each, is_of_work, is_work, placed, placed_change, placed_part}
 use Rattle.ktm_trace.specs.Contents.{contents_of}
-use Rattle.ktm_types.specs.declared.change.Change.{Change}
-use Rattle.ktm_types.specs.declared.change.Change.TheVariants.{Make, Put, Cut, Move, Drop}
-use Rattle.ktm_types.specs.declared.change.Contents.{Contents}
-use Rattle.ktm_types.specs.declared.change.Contents.TheVariants.{Whole, Paged}
-use Rattle.ktm_types.specs.declared.event.DonePart.{DonePart}
-use Rattle.ktm_types.specs.declared.event.Event.TheVariants.{Ready}
-use Rattle.ktm_types.specs.declared.event.Part.TheVariants.{Changes}
+use Rattle.ktm_world.specs.declared.change.Change.{Change}
+use Rattle.ktm_world.specs.declared.change.Change.TheVariants.{Make, Put, Cut, Move, Drop}
+use Rattle.ktm_world.specs.declared.change.Contents.{Contents}
+use Rattle.ktm_world.specs.declared.change.Contents.TheVariants.{Whole, Paged}
+use Rattle.ktm_world.specs.declared.event.DonePart.{DonePart}
+use Rattle.ktm_world.specs.declared.event.Event.TheVariants.{Ready}
+use Rattle.ktm_world.specs.declared.event.Part.TheVariants.{Changes}
 use Rattle.ktm_world.specs.Enlistments.{Enlistment}
 use Rattle.ktm_world.specs.Keys.{OwnSettings}
 use Rattle.txf_laws.proofs.offered.Elements.{IsIn-filter, list_all-from}

@@ -10,14 +10,14 @@ use Rattle.ktm_base.specs.Names.{IsName}
 use Rattle.ktm_content.specs.Contents.{units_of}
 use Rattle.ktm_event.specs.Spelling.{AreSpellableChanges, AreSpellableSettings, IsSpellableId, IsSpellablePart, IsSpellableRecord}
 use Rattle.ktm_keyed.specs.declared.keyed.Keyed.{Keyed}
-use Rattle.ktm_types.specs.declared.change.Change.{Change}
-use Rattle.ktm_types.specs.declared.event.DonePart.{DonePart}
-use Rattle.ktm_types.specs.declared.recorded.Node.{Node}
-use Rattle.ktm_types.specs.declared.recorded.RecordedPart.{RecordedPart}
-use Rattle.ktm_types.specs.declared.recorded.Stage.{Stage}
-use Rattle.ktm_types.specs.declared.recorded.Superior.{Superior}
-use Rattle.ktm_types.specs.Sizes.{area_len}
-use Rattle.ktm_types.specs.Values.{IsText}
+use Rattle.ktm_world.specs.declared.change.Change.{Change}
+use Rattle.ktm_world.specs.declared.event.DonePart.{DonePart}
+use Rattle.ktm_world.specs.declared.recorded.Node.{Node}
+use Rattle.ktm_world.specs.declared.recorded.RecordedPart.{RecordedPart}
+use Rattle.ktm_world.specs.declared.recorded.Stage.{Stage}
+use Rattle.ktm_world.specs.declared.recorded.Superior.{Superior}
+use Rattle.ktm_world.specs.Sizes.{area_len}
+use Rattle.ktm_world.specs.Values.{IsText}
 use Rattle.ktm_world.specs.Durable.{Durable, is_decided}
 use Rattle.ktm_world.specs.Enlistments.{Enlistment}
 use Rattle.ktm_world.specs.Keys.{OwnSettings, is_bad_key, is_bad_value}
@@ -30,8 +30,8 @@ use Rattle.txf_laws.proofs.offered.Elements.{IsIn-flat_map, list_all-at, list_an
 use Rattle.txf_laws.proofs.offered.Lists.{IsIn-left}
 use Rattle.txf_laws.proofs.offered.Sums.{sum-one}
 use Rattle.txf_laws.proofs.offered.Tables.{same_id-equal}
-use Rattle.ktm_states.specs.GoodState.{IsGoodState, enlisted, enlisted_in, is_drawn, is_of_object, superiors_in}
-use Rattle.ktm_states.proofs.offered.GoodTransactions.{IsEnlisted, table-of}
+use Rattle.txf_laws.specs.GoodState.{IsGoodState, enlisted, enlisted_in, is_drawn, is_of_object, superiors_in}
+use Rattle.txf_laws.proofs.offered.GoodTransactions.{IsEnlisted, table-of}
 use Rattle.ktm_records.specs.Kept.{IsKept}
 use Rattle.ktm_records.specs.Spelling.{AreTexts}
 use Rattle.ktm_records.proofs.offered.DurableLimits.{limits-kept}

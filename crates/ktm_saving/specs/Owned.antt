@@ -2,9 +2,9 @@
 use Rattle.std.specs.Prelude.{List, [], map, if◌then◌else◌}
 use Rattle.ktm_base.specs.declared.id.Id.{Id}
 use Rattle.ktm_event.specs.Work.{changes_of}
-use Rattle.ktm_types.specs.declared.change.Change.{Change}
-use Rattle.ktm_types.specs.declared.recorded.RecordedPart.{RecordedPart}
-use Rattle.ktm_types.specs.declared.recorded.Stage.{Stage}
+use Rattle.ktm_world.specs.declared.change.Change.{Change}
+use Rattle.ktm_world.specs.declared.recorded.RecordedPart.{RecordedPart}
+use Rattle.ktm_world.specs.declared.recorded.Stage.{Stage}
 use Rattle.ktm_world.specs.Durable.{Recorded, is_decided}
 use Rattle.ktm_world.specs.Enlistments.{Enlistment}
 use Rattle.ktm_world.specs.Files.{OwnChanges, own_changes}
@@ -12,7 +12,7 @@ use Rattle.ktm_world.specs.Keys.{Own, OwnSettings, own_settings}
 use Rattle.ktm_snapshot.specs.Works.{placed_change}
 use Rattle.ktm_trace.specs.Contents.{contents_of, expanded}
 use Rattle.ktm_trace.specs.Traces.{Traced, TracedPart}
-use Rattle.txf_volume.specs.Shown.{shown}
+use Rattle.ktm_memory.specs.Shown.{shown}
 use Rattle.ktm_memory.specs.Memory.{LayersNow, MemoryState, held}
 use Rattle.ktm_saving.specs.declared.owned.Owned.{Owned}
 

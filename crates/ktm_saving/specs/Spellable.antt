@@ -3,9 +3,9 @@ use Rattle.std.specs.Prelude.{ℕ, ◌<◌, ◌^◌, List, length, All, IfSome}
 use Rattle.ktm_content.specs.Contents.{units_of}
 use Rattle.ktm_event.specs.Spelling.{IsSpellableId, IsSpellablePart, IsSpellableRecord}
 use Rattle.ktm_keyed.specs.declared.keyed.Keyed.{Keyed}
-use Rattle.ktm_types.specs.declared.recorded.Node.{Node}
-use Rattle.ktm_types.specs.declared.recorded.RecordedPart.{RecordedPart}
-use Rattle.ktm_types.specs.Values.{IsText}
+use Rattle.ktm_world.specs.declared.recorded.Node.{Node}
+use Rattle.ktm_world.specs.declared.recorded.RecordedPart.{RecordedPart}
+use Rattle.ktm_world.specs.Values.{IsText}
 use Rattle.ktm_world.specs.Durable.{Durable, Recorded}
 
 -- the length of a node's name fits one byte, and the count of a file's units four

@@ -7,7 +7,7 @@ ghost use Rattle.ktm_memory.specs.Memory.{present_of};
 ghost use Rattle.ktm_records.specs.Kept.{IsKept};
 ghost use Rattle.ktm_records.specs.Spelling.{AreTexts};
 ghost use Rattle.ktm_saving.specs.Saved.{SavingLeaves};
-ghost use Rattle.ktm_types.specs.Sizes.{area_len};
+ghost use Rattle.ktm_world.specs.Sizes.{area_len};
 
 use crate::state::write_state;
 use ktm_base::{Disk, Down};

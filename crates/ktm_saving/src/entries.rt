@@ -8,7 +8,7 @@ ghost use Rattle.ktm_saving.specs.Writes.{Writes};
 
 use ktm_codec::put_u32;
 use ktm_snapshot::{ShownEntry, law_of_writing, put_entry};
-use ktm_types::Entry;
+use ktm_world::Entry;
 
 fn write_entry(entry: &Entry, out: &mut Vec<u8>)
     requires spelled { IsSpellableEntry entry.now }

@@ -8,9 +8,8 @@ ghost use Rattle.ktm_snapshot.specs.Works.{is_of_work};
 
 use ktm_base::Id;
 use ktm_course::law_of_pages;
-use ktm_memory::Memory;
-use ktm_types::{Change, Setting, Stage};
-use txf_volume::Written;
+use ktm_memory::{Memory, Written};
+use ktm_world::{Change, Setting, Stage};
 
 /// What a transaction has left to commit, shown where it stands.
 #[derive(Drop)]

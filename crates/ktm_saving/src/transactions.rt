@@ -13,19 +13,18 @@ ghost use Rattle.ktm_snapshot.specs.StateGrammar.{AreTransactionsOf, IsMarkedOf,
 ghost use Rattle.ktm_trace.specs.Contents.{contents_of, manager_of, superior_at};
 ghost use Rattle.ktm_trace.specs.Lent.{part_lent, transaction_lent};
 ghost use Rattle.ktm_world.specs.Enlistments.{enlistment_at};
-ghost use Rattle.txf_volume.specs.Shown.{shown};
+ghost use Rattle.ktm_memory.specs.Shown.{shown};
 
 use crate::owned::{Owned, left_to_commit};
 use ktm_base::Id;
 use ktm_codec::put_u32;
 use ktm_event::Work;
-use ktm_memory::Memory;
+use ktm_memory::{Memory, Written};
 use ktm_phase::Enlistment;
 use ktm_snapshot::{ShownSuperior, law_of_works, law_of_writing, put_transaction, put_work};
 use ktm_tm::Tm;
 use ktm_trace::{PartRef, TransactionRef};
-use ktm_types::DonePart;
-use txf_volume::Written;
+use ktm_world::DonePart;
 
 // The enlistment with this Id, which is there.
 fn enlistment_of(tm: &Tm, id: Id) -> &Enlistment

@@ -18,19 +18,19 @@ use Rattle.ktm_codec.specs.Hex.{hex_digit, hex_of, hex_or_dash, unhex_or_dash}
 use Rattle.ktm_codec.specs.Number.{number_at, starts_with_digit}
 use Rattle.ktm_codec.specs.Quoted.{AreTextBytes, is_text_byte, quoted}
 use Rattle.ktm_codec.specs.Word.{after_word, word_at}
-use Rattle.ktm_types.specs.declared.command.View.{View}
-use Rattle.ktm_types.specs.declared.command.View.TheVariants.{Plain, Transaction}
-use Rattle.ktm_types.specs.declared.options.Access.{Access}
-use Rattle.ktm_types.specs.declared.options.Access.TheVariants as access
-use Rattle.ktm_types.specs.declared.options.ShareMode.{ShareMode}
-use Rattle.ktm_types.specs.declared.options.ShareMode.TheVariants as share
-use Rattle.ktm_types.specs.declared.options.Disposition.{Disposition}
-use Rattle.ktm_types.specs.declared.options.Disposition.TheVariants as disposition
-use Rattle.ktm_types.specs.declared.options.Durability.{Durability}
-use Rattle.ktm_types.specs.declared.options.Durability.TheVariants as durability
-use Rattle.ktm_types.specs.declared.options.EnlistmentKind.{EnlistmentKind}
-use Rattle.ktm_types.specs.declared.options.EnlistmentKind.TheVariants as kind
-use Rattle.ktm_types.specs.Values.{IsTextByte, IsText, IsPid, IsLabel, IsView, IsGuid}
+use Rattle.ktm_world.specs.declared.command.View.{View}
+use Rattle.ktm_world.specs.declared.command.View.TheVariants.{Plain, Transaction}
+use Rattle.ktm_world.specs.declared.options.Access.{Access}
+use Rattle.ktm_world.specs.declared.options.Access.TheVariants as access
+use Rattle.ktm_world.specs.declared.options.ShareMode.{ShareMode}
+use Rattle.ktm_world.specs.declared.options.ShareMode.TheVariants as share
+use Rattle.ktm_world.specs.declared.options.Disposition.{Disposition}
+use Rattle.ktm_world.specs.declared.options.Disposition.TheVariants as disposition
+use Rattle.ktm_world.specs.declared.options.Durability.{Durability}
+use Rattle.ktm_world.specs.declared.options.Durability.TheVariants as durability
+use Rattle.ktm_world.specs.declared.options.EnlistmentKind.{EnlistmentKind}
+use Rattle.ktm_world.specs.declared.options.EnlistmentKind.TheVariants as kind
+use Rattle.ktm_world.specs.Values.{IsTextByte, IsText, IsPid, IsLabel, IsView, IsGuid}
 use Rattle.ktm_codec.proofs.Steps.{bind_some, on_some_is}
 use Rattle.ktm_script.specs.Reading.{behind_space, named_at, process_at, label_at, view_at, size_at, text_at, bytes_at, access_at, share_at, disposition_at, durability_at, kind_at, kind_in_transaction_at, modes_at, by_word, accesses, shares, dispositions, durabilities, kinds, form_name, forms, form_at}
 use Rattle.ktm_script.specs.Spelling.{space, ◌␣◌, process_spelling, label_spelling, view_spelling, access_spelling, share_spelling, disposition_spelling, durability_spelling, kind_spelling}

@@ -15,22 +15,22 @@ use Rattle.ktm_script.specs.declared.fault.LineFault.{LineFault}
 use Rattle.ktm_script.specs.declared.fault.LineFault.TheVariants.{BadLine, NoMemory}
 use Rattle.ktm_script.specs.declared.form.Form.{Form}
 use Rattle.ktm_script.specs.declared.form.Form.TheVariants as form
-use Rattle.ktm_types.specs.declared.command.Command.{Command}
-use Rattle.ktm_types.specs.declared.command.Command.TheVariants.{CreateTransaction, OpenTransaction, CommitTransaction, RollbackTransaction, GetTransactionInformation, CreateResourceManager, OpenResourceManager, RecoverResourceManager, GetNotificationResourceManager, CreateEnlistment, OpenEnlistment, RecoverEnlistment, PrePrepareComplete, PrepareComplete, ReadOnlyEnlistment, CommitComplete, RollbackComplete, SinglePhaseReject, RollbackEnlistment, PrePrepareEnlistment, PrepareEnlistment, CommitEnlistment, SetEnlistmentRecoveryInformation, GetEnlistmentRecoveryInformation, CreateFile, CreateFileTransacted, ReadFile, WriteFile, SetEndOfFile, GetFileSizeEx, FlushFileBuffers, DeleteFile, CreateDirectory, RemoveDirectory, MoveFile, DeleteFileTransacted, CreateDirectoryTransacted, RemoveDirectoryTransacted, MoveFileTransacted, FindFiles, FindFilesTransacted, KvSet, KvUnset, KvGet, KvList, CloseHandle, DuplicateHandle, Exit}
-use Rattle.ktm_types.specs.declared.command.Line.{Line}
-use Rattle.ktm_types.specs.declared.command.Line.TheVariants.{Tick, Cut, Crash, Restart, Process}
-use Rattle.ktm_types.specs.declared.command.View.{View}
-use Rattle.ktm_types.specs.declared.command.View.TheVariants as view
-use Rattle.ktm_types.specs.declared.options.Access.{Access}
-use Rattle.ktm_types.specs.declared.options.Access.TheVariants as access
-use Rattle.ktm_types.specs.declared.options.ShareMode.{ShareMode}
-use Rattle.ktm_types.specs.declared.options.ShareMode.TheVariants as share
-use Rattle.ktm_types.specs.declared.options.Disposition.{Disposition}
-use Rattle.ktm_types.specs.declared.options.Disposition.TheVariants as disposition
-use Rattle.ktm_types.specs.declared.options.Durability.{Durability}
-use Rattle.ktm_types.specs.declared.options.Durability.TheVariants as durability
-use Rattle.ktm_types.specs.declared.options.EnlistmentKind.{EnlistmentKind}
-use Rattle.ktm_types.specs.declared.options.EnlistmentKind.TheVariants as kind
+use Rattle.ktm_world.specs.declared.command.Command.{Command}
+use Rattle.ktm_world.specs.declared.command.Command.TheVariants.{CreateTransaction, OpenTransaction, CommitTransaction, RollbackTransaction, GetTransactionInformation, CreateResourceManager, OpenResourceManager, RecoverResourceManager, GetNotificationResourceManager, CreateEnlistment, OpenEnlistment, RecoverEnlistment, PrePrepareComplete, PrepareComplete, ReadOnlyEnlistment, CommitComplete, RollbackComplete, SinglePhaseReject, RollbackEnlistment, PrePrepareEnlistment, PrepareEnlistment, CommitEnlistment, SetEnlistmentRecoveryInformation, GetEnlistmentRecoveryInformation, CreateFile, CreateFileTransacted, ReadFile, WriteFile, SetEndOfFile, GetFileSizeEx, FlushFileBuffers, DeleteFile, CreateDirectory, RemoveDirectory, MoveFile, DeleteFileTransacted, CreateDirectoryTransacted, RemoveDirectoryTransacted, MoveFileTransacted, FindFiles, FindFilesTransacted, KvSet, KvUnset, KvGet, KvList, CloseHandle, DuplicateHandle, Exit}
+use Rattle.ktm_world.specs.declared.command.Line.{Line}
+use Rattle.ktm_world.specs.declared.command.Line.TheVariants.{Tick, Cut, Crash, Restart, Process}
+use Rattle.ktm_world.specs.declared.command.View.{View}
+use Rattle.ktm_world.specs.declared.command.View.TheVariants as view
+use Rattle.ktm_world.specs.declared.options.Access.{Access}
+use Rattle.ktm_world.specs.declared.options.Access.TheVariants as access
+use Rattle.ktm_world.specs.declared.options.ShareMode.{ShareMode}
+use Rattle.ktm_world.specs.declared.options.ShareMode.TheVariants as share
+use Rattle.ktm_world.specs.declared.options.Disposition.{Disposition}
+use Rattle.ktm_world.specs.declared.options.Disposition.TheVariants as disposition
+use Rattle.ktm_world.specs.declared.options.Durability.{Durability}
+use Rattle.ktm_world.specs.declared.options.Durability.TheVariants as durability
+use Rattle.ktm_world.specs.declared.options.EnlistmentKind.{EnlistmentKind}
+use Rattle.ktm_world.specs.declared.options.EnlistmentKind.TheVariants as kind
 
 -- what a function returned is what is read, unless memory ran out
 abbrev pub Gives : {Y : Type 0} → Result Y LineFault → Option Y → Type 0

@@ -11,7 +11,7 @@ use crate::parts::{
 };
 use ktm_base::{Label, Text};
 use ktm_codec::strip_word;
-use ktm_types::Command;
+use ktm_world::Command;
 use std::alloc::Global;
 use uuid::Uuid;
 

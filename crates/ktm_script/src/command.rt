@@ -10,7 +10,7 @@ use crate::arguments::{
 };
 use crate::form::{Form, read_form};
 use crate::parts::end;
-use ktm_types::Command;
+use ktm_world::Command;
 use std::alloc::Global;
 
 // A command of one label, which is this field.

@@ -8,7 +8,7 @@ use crate::command::command;
 use crate::parts::{end, read_count, read_process};
 use ktm_base::MOST_LINE_BYTES;
 use ktm_codec::strip_word;
-use ktm_types::Line;
+use ktm_world::Line;
 use std::alloc::Global;
 
 // A number behind a space, which nothing follows.

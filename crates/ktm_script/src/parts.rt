@@ -9,7 +9,7 @@ use crate::LineFault::{self, BadLine};
 use crate::word::one_of;
 use ktm_base::{Bytes, Label, MOST_PROCESS, Pid, Text};
 use ktm_codec::{read_guid, read_hex_or_dash, read_number, read_quoted, split_word, strip_word};
-use ktm_types::{Access, Disposition, Durability, EnlistmentKind, ShareMode, View};
+use ktm_world::{Access, Disposition, Durability, EnlistmentKind, ShareMode, View};
 use std::alloc::Global;
 use uuid::Uuid;
 

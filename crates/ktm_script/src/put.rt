@@ -8,7 +8,7 @@ ghost use Rattle.ktm_script.specs.Spelling.{access_spelling, disposition_spellin
 use crate::word::put_word;
 use ktm_base::{Bytes, Label, NoMemory, Pid, Text};
 use ktm_codec::{put_guid, put_hex_or_dash, put_number, put_quoted};
-use ktm_types::{Access, Disposition, ShareMode, View};
+use ktm_world::{Access, Disposition, ShareMode, View};
 use uuid::Uuid;
 
 // A process, at the front.

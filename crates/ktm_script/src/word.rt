@@ -5,7 +5,7 @@ ghost use Rattle.ktm_script.specs.Spelling.{access_spelling, disposition_spellin
 
 use ktm_base::NoMemory;
 use ktm_codec::{split_word, strip_word};
-use ktm_types::{Access, Disposition, Durability, EnlistmentKind, ShareMode};
+use ktm_world::{Access, Disposition, Durability, EnlistmentKind, ShareMode};
 
 /// A value that is spelled by a word.
 pub trait Word: Copy {

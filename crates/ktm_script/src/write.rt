@@ -14,7 +14,7 @@ use crate::put::{
 };
 use crate::word::put_word;
 use ktm_base::{Bytes, Label, NoMemory, Text};
-use ktm_types::{Command, Line};
+use ktm_world::{Command, Line};
 use std::alloc::Global;
 use uuid::Uuid;
 

@@ -3,11 +3,11 @@ use Rattle.std.specs.Prelude.{◌≡◌, ℕ, ◌+◌, ◌-◌, ◌*◌, ◌≤�
 use Rattle.ktm_base.specs.declared.id.Id.{Id}
 use Rattle.ktm_base.specs.declared.id.Pid.{Pid}
 use Rattle.ktm_base.specs.declared.notify.Notify.{Notify}
-use Rattle.ktm_types.specs.declared.command.Command.{Command}
-use Rattle.ktm_types.specs.declared.input.PhaseInput.{PhaseInput}
-use Rattle.ktm_types.specs.declared.object.Phase.{Phase}
-use Rattle.ktm_types.specs.declared.object.Phase.TheVariants.{Active, PrePreparing, Preparing, InDoubt, Committing, Aborting, Ended}
-use Rattle.ktm_types.specs.declared.object.Transaction.{Transaction}
+use Rattle.ktm_world.specs.declared.command.Command.{Command}
+use Rattle.ktm_world.specs.declared.input.PhaseInput.{PhaseInput}
+use Rattle.ktm_world.specs.declared.object.Phase.{Phase}
+use Rattle.ktm_world.specs.declared.object.Phase.TheVariants.{Active, PrePreparing, Preparing, InDoubt, Committing, Aborting, Ended}
+use Rattle.ktm_world.specs.declared.object.Transaction.{Transaction}
 use Rattle.ktm_world.specs.Decide.{decide}
 use Rattle.ktm_world.specs.Enlistments.{Enlistment, Sent, is_ended, is_superior, takes_part}
 use Rattle.ktm_world.specs.Labels.{holds_of}

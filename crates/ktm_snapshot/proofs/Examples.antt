@@ -4,8 +4,8 @@ use Rattle.std.proofs.lemmas.Grind.{same_number_lists}
 use Rattle.ktm_base.specs.Grammar.{IsU32, IsU64}
 use Rattle.ktm_content.specs.Places.{LieOn, places_on}
 use Rattle.ktm_content.proofs.offered.Placing.{get_or-places_on, length-places_on}
-use Rattle.ktm_types.specs.EventGrammar.{IsIdOf}
-use Rattle.ktm_types.specs.declared.event.Part.TheVariants.{Enlistment}
+use Rattle.ktm_world.specs.EventGrammar.{IsIdOf}
+use Rattle.ktm_world.specs.declared.event.Part.TheVariants.{Enlistment}
 use Rattle.ktm_world.specs.Durable.{empty_state}
 use Rattle.ktm_snapshot.specs.Examples.{four, eight, empty_bytes, small_state, small_bytes}
 use Rattle.ktm_snapshot.specs.StateGrammar.{IsHeadOf, IsContentsOf, IsNodeOf, IsEntryOf, IsMarkedOf, IsStateOf, IsRisingListOf, AreNodesOf, AreEntriesOf, AreManagersOf, AreTransactionsOf}

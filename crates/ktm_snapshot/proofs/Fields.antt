@@ -14,13 +14,13 @@ use Rattle.ktm_event.proofs.Tags.{other_tag, no_byte}
 use Rattle.ktm_event.specs.declared.fault.EventFault.{EventFault}
 use Rattle.ktm_event.specs.declared.fault.EventFault.TheVariants.{NotAnEvent, NoMemory}
 use Rattle.ktm_event.specs.Reading.{Behind, Gives, IsRecordedOf}
-use Rattle.ktm_types.specs.EventGrammar.{IsPartOf}
-use Rattle.ktm_types.specs.Values.{IsText}
-use Rattle.ktm_types.specs.declared.event.Part.{Part}
-use Rattle.ktm_types.specs.declared.recorded.RecordedPart.{RecordedPart}
-use Rattle.ktm_types.specs.declared.recorded.Stage.{Stage}
-use Rattle.ktm_types.specs.declared.recorded.Stage.TheVariants.{Ready, Held, Decided}
-use Rattle.ktm_types.specs.declared.recorded.Superior.{Superior}
+use Rattle.ktm_world.specs.EventGrammar.{IsPartOf}
+use Rattle.ktm_world.specs.Values.{IsText}
+use Rattle.ktm_world.specs.declared.event.Part.{Part}
+use Rattle.ktm_world.specs.declared.recorded.RecordedPart.{RecordedPart}
+use Rattle.ktm_world.specs.declared.recorded.Stage.{Stage}
+use Rattle.ktm_world.specs.declared.recorded.Stage.TheVariants.{Ready, Held, Decided}
+use Rattle.ktm_world.specs.declared.recorded.Superior.{Superior}
 use Rattle.ktm_snapshot.proofs.OnePiece.{IsContentsPairOf, IsHeadPairOf, IsNodePairOf, IsStartPairOf, start_pair, unambiguous_contents_pair, unambiguous_start, unambiguous_marked}
 use Rattle.ktm_snapshot.proofs.Placed.{lie-on}
 use Rattle.ktm_snapshot.specs.Works.{IsPlaced, is_work, placed_part}

@@ -8,12 +8,12 @@ use Rattle.ktm_content.specs.Places.{places_on}
 use Rattle.ktm_event.proofs.Pairs.{Both, unambiguous_both}
 use Rattle.ktm_event.proofs.Parts.{IsEnlistedOf, unambiguous_id, unambiguous_enlisted, unambiguous_part, one_id, one_enlisted, one_part}
 use Rattle.ktm_event.proofs.Tags.{other}
-use Rattle.ktm_types.specs.EventGrammar.{IsIdOf, IsPartOf}
-use Rattle.ktm_types.specs.declared.event.Part.{Part}
-use Rattle.ktm_types.specs.declared.recorded.RecordedPart.{RecordedPart}
-use Rattle.ktm_types.specs.declared.recorded.Stage.{Stage}
-use Rattle.ktm_types.specs.declared.recorded.Stage.TheVariants.{Ready, Held, Decided}
-use Rattle.ktm_types.specs.declared.recorded.Superior.{Superior}
+use Rattle.ktm_world.specs.EventGrammar.{IsIdOf, IsPartOf}
+use Rattle.ktm_world.specs.declared.event.Part.{Part}
+use Rattle.ktm_world.specs.declared.recorded.RecordedPart.{RecordedPart}
+use Rattle.ktm_world.specs.declared.recorded.Stage.{Stage}
+use Rattle.ktm_world.specs.declared.recorded.Stage.TheVariants.{Ready, Held, Decided}
+use Rattle.ktm_world.specs.declared.recorded.Superior.{Superior}
 use Rattle.ktm_world.specs.Durable.{Recorded}
 use Rattle.ktm_snapshot.proofs.Placed.{pages-one, part-one}
 use Rattle.ktm_snapshot.specs.Works.{placed_part}

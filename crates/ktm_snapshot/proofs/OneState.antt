@@ -6,7 +6,7 @@ use Rattle.ktm_codec.proofs.Forms.{HasOne, unambiguous_list, one_then, one_list}
 use Rattle.ktm_event.proofs.Pairs.{Both, unambiguous_both}
 use Rattle.ktm_event.proofs.Parts.{unambiguous_id, one_id}
 use Rattle.ktm_keyed.specs.Keyed.{is_rising}
-use Rattle.ktm_types.specs.EventGrammar.{IsIdOf}
+use Rattle.ktm_world.specs.EventGrammar.{IsIdOf}
 use Rattle.ktm_world.specs.Durable.{Durable, Recorded, is_before}
 use Rattle.ktm_world.specs.Keys.{Store}
 use Rattle.ktm_world.specs.Tree.{Tree, numbers_rise}

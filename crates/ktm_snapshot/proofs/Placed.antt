@@ -8,13 +8,13 @@ use Rattle.ktm_content.specs.Contents.{units_of}
 use Rattle.ktm_content.specs.Places.{LieOn, places_on}
 use Rattle.ktm_content.proofs.offered.Placing.{drop-places_on, get_or-places_on, length-places_on}
 use Rattle.ktm_event.specs.Spelling.{IsRecordableChange}
-use Rattle.ktm_types.specs.declared.change.Change.{Change}
-use Rattle.ktm_types.specs.declared.change.Change.TheVariants.{Make, Put, Cut, Move, Drop}
-use Rattle.ktm_types.specs.declared.change.Contents.{Contents}
-use Rattle.ktm_types.specs.declared.change.Contents.TheVariants.{Whole, Paged}
-use Rattle.ktm_types.specs.declared.event.Part.{Part}
-use Rattle.ktm_types.specs.declared.event.Part.TheVariants.{Enlistment, Changes, Settings}
-use Rattle.ktm_types.specs.Sizes.{change_size, part_size, put_size}
+use Rattle.ktm_world.specs.declared.change.Change.{Change}
+use Rattle.ktm_world.specs.declared.change.Change.TheVariants.{Make, Put, Cut, Move, Drop}
+use Rattle.ktm_world.specs.declared.change.Contents.{Contents}
+use Rattle.ktm_world.specs.declared.change.Contents.TheVariants.{Whole, Paged}
+use Rattle.ktm_world.specs.declared.event.Part.{Part}
+use Rattle.ktm_world.specs.declared.event.Part.TheVariants.{Enlistment, Changes, Settings}
+use Rattle.ktm_world.specs.Sizes.{change_size, part_size, put_size}
 use Rattle.ktm_snapshot.specs.Works.{has_page_each, is_of_work, is_work, placed, placed_change, placed_part}
 
 -- ---- pages from places

@@ -4,7 +4,7 @@ use Rattle.std.specs.List.{list_all}
 use Rattle.std.proofs.lemmas.Bool.{and_parts, and_from}
 use Rattle.ktm_keyed.specs.declared.keyed.Keyed.{Keyed}
 use Rattle.ktm_keyed.specs.Keyed.{comes_before, comes_first, is_rising}
-use Rattle.ktm_types.specs.declared.recorded.Node.{Node}
+use Rattle.ktm_world.specs.declared.recorded.Node.{Node}
 use Rattle.ktm_world.specs.Durable.{Recorded, is_before}
 use Rattle.ktm_world.specs.Tree.{numbers_rise}
 use Rattle.txf_laws.specs.Elements.{IsIn, each_pair}

@@ -6,14 +6,14 @@ use Rattle.ktm_content.specs.Contents.{units_of}
 use Rattle.ktm_base.specs.Grammar.{IsU32, IsU64, Then, IsListOf}
 use Rattle.ktm_event.proofs.GroupSizes.{length-then, length-tagged, length-row, length-list, length-id, length-text, length-record, length-part}
 use Rattle.ktm_keyed.specs.declared.keyed.Keyed.{Keyed}
-use Rattle.ktm_types.specs.EventGrammar.{IsIdOf}
-use Rattle.ktm_types.specs.Sizes.{part_size, record_size}
-use Rattle.ktm_types.specs.declared.event.Part.{Part}
-use Rattle.ktm_types.specs.declared.recorded.Node.{Node}
-use Rattle.ktm_types.specs.declared.recorded.RecordedPart.{RecordedPart}
-use Rattle.ktm_types.specs.declared.recorded.Stage.{Stage}
-use Rattle.ktm_types.specs.declared.recorded.Stage.TheVariants.{Ready, Held, Decided}
-use Rattle.ktm_types.specs.declared.recorded.Superior.{Superior}
+use Rattle.ktm_world.specs.EventGrammar.{IsIdOf}
+use Rattle.ktm_world.specs.Sizes.{part_size, record_size}
+use Rattle.ktm_world.specs.declared.event.Part.{Part}
+use Rattle.ktm_world.specs.declared.recorded.Node.{Node}
+use Rattle.ktm_world.specs.declared.recorded.RecordedPart.{RecordedPart}
+use Rattle.ktm_world.specs.declared.recorded.Stage.{Stage}
+use Rattle.ktm_world.specs.declared.recorded.Stage.TheVariants.{Ready, Held, Decided}
+use Rattle.ktm_world.specs.declared.recorded.Superior.{Superior}
 use Rattle.ktm_world.specs.Durable.{Recorded}
 use Rattle.ktm_snapshot.proofs.Placed.{size-part}
 use Rattle.ktm_snapshot.specs.Laws.{StateHasItsSize}

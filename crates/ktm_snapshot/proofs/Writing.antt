@@ -4,8 +4,8 @@ use Rattle.ktm_base.specs.Grammar.{IsU32, IsU64, IsListOf, Then}
 use Rattle.ktm_codec.specs.Spans.{Adds}
 use Rattle.ktm_codec.proofs.Adding.{adds_no_items, adds_then, row-push}
 use Rattle.ktm_content.specs.Places.{LieOn}
-use Rattle.ktm_types.specs.declared.event.Part.{Part}
-use Rattle.ktm_types.specs.EventGrammar.{IsPartOf}
+use Rattle.ktm_world.specs.declared.event.Part.{Part}
+use Rattle.ktm_world.specs.EventGrammar.{IsPartOf}
 use Rattle.ktm_snapshot.specs.Works.{is_work, placed_part}
 use Rattle.ktm_snapshot.specs.Pieces.{IsFrontOf, AddsItems, ListIsWritten, StateIsWritten}
 use Rattle.ktm_snapshot.specs.StateGrammar.{IsContentsOf, IsMarkOf, IsPlacedPartOf, IsMarkedOf}

@@ -1,7 +1,7 @@
 -- Worked examples of states and their bytes.
 use Rattle.std.specs.Prelude.{ℕ, false, List, [], ◌∷◌, ◌++◌, Some, None}
-use Rattle.ktm_types.specs.declared.event.Part.TheVariants.{Enlistment}
-use Rattle.ktm_types.specs.declared.recorded.Stage.TheVariants.{Held}
+use Rattle.ktm_world.specs.declared.event.Part.TheVariants.{Enlistment}
+use Rattle.ktm_world.specs.declared.recorded.Stage.TheVariants.{Held}
 use Rattle.ktm_world.specs.Durable.{Durable}
 
 -- a number below 256 in four bytes

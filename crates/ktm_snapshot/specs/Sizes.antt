@@ -2,10 +2,10 @@
 use Rattle.std.specs.Prelude.{ℕ, ◌+◌, ◌*◌, List, length, sum_by, Option, Some, None}
 use Rattle.ktm_content.specs.Contents.{units_of}
 use Rattle.ktm_keyed.specs.declared.keyed.Keyed.{Keyed}
-use Rattle.ktm_types.specs.declared.recorded.Node.{Node}
-use Rattle.ktm_types.specs.declared.recorded.RecordedPart.{RecordedPart}
-use Rattle.ktm_types.specs.declared.recorded.Superior.{Superior}
-use Rattle.ktm_types.specs.Sizes.{part_size, record_size}
+use Rattle.ktm_world.specs.declared.recorded.Node.{Node}
+use Rattle.ktm_world.specs.declared.recorded.RecordedPart.{RecordedPart}
+use Rattle.ktm_world.specs.declared.recorded.Superior.{Superior}
+use Rattle.ktm_world.specs.Sizes.{part_size, record_size}
 use Rattle.ktm_world.specs.Durable.{Durable, Recorded}
 
 -- the contents of a file: their length in eight bytes, a count of four, and four for the page of each unit; a directory has none

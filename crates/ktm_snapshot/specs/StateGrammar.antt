@@ -5,14 +5,14 @@ use Rattle.ktm_base.specs.Grammar.{IsU8, IsU32, IsU64, Then, Tagged, IsTextOf, I
 use Rattle.ktm_content.specs.Places.{LieOn}
 use Rattle.ktm_keyed.specs.declared.keyed.Keyed.{Keyed}
 use Rattle.ktm_keyed.specs.Keyed.{is_rising}
-use Rattle.ktm_types.specs.declared.event.Part.{Part}
-use Rattle.ktm_types.specs.declared.recorded.Node.{Node}
-use Rattle.ktm_types.specs.declared.recorded.RecordedPart.{RecordedPart}
-use Rattle.ktm_types.specs.declared.recorded.Stage.{Stage}
-use Rattle.ktm_types.specs.declared.recorded.Stage.TheVariants.{Ready, Held, Decided}
-use Rattle.ktm_types.specs.declared.recorded.Superior.{Superior}
-use Rattle.ktm_types.specs.EventGrammar.{IsIdOf, IsRecordOf, IsPartOf}
-use Rattle.ktm_types.specs.Values.{IsText}
+use Rattle.ktm_world.specs.declared.event.Part.{Part}
+use Rattle.ktm_world.specs.declared.recorded.Node.{Node}
+use Rattle.ktm_world.specs.declared.recorded.RecordedPart.{RecordedPart}
+use Rattle.ktm_world.specs.declared.recorded.Stage.{Stage}
+use Rattle.ktm_world.specs.declared.recorded.Stage.TheVariants.{Ready, Held, Decided}
+use Rattle.ktm_world.specs.declared.recorded.Superior.{Superior}
+use Rattle.ktm_world.specs.EventGrammar.{IsIdOf, IsRecordOf, IsPartOf}
+use Rattle.ktm_world.specs.Values.{IsText}
 use Rattle.ktm_world.specs.Durable.{Durable, Recorded, is_before}
 use Rattle.ktm_world.specs.Keys.{Store}
 use Rattle.ktm_world.specs.Tree.{Tree, numbers_rise}

@@ -1,7 +1,7 @@
 // Committed keys.
 ghost use Rattle.std.specs.Prelude.{◌≡◌, ◌+◌, ◌<◌, ◌≤◌, ◌^◌, length, option_map, vec_len, vec_capacity};
 ghost use Rattle.ktm_codec.specs.Spans.{Adds, Reads};
-ghost use Rattle.ktm_types.specs.Values.{IsText};
+ghost use Rattle.ktm_world.specs.Values.{IsText};
 ghost use Rattle.ktm_snapshot.specs.Shown.{entry_of};
 ghost use Rattle.ktm_snapshot.specs.Sizes.{entry_size};
 ghost use Rattle.ktm_snapshot.specs.StateGrammar.{IsEntryOf};

@@ -2,7 +2,7 @@
 ghost use Rattle.std.specs.Prelude.{◌≡◌, ◌+◌, ◌≤◌, vec_len, vec_capacity};
 ghost use Rattle.ktm_codec.specs.Spans.{Adds, Reads};
 ghost use Rattle.ktm_event.specs.Spelling.{IsSpellableId};
-ghost use Rattle.ktm_types.specs.EventGrammar.{IsIdOf};
+ghost use Rattle.ktm_world.specs.EventGrammar.{IsIdOf};
 
 use ktm_base::Id;
 use ktm_event::{put_id, read_id};

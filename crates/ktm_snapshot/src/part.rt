@@ -4,7 +4,7 @@ ghost use Rattle.ktm_codec.specs.Spans.{Adds, Reads};
 ghost use Rattle.ktm_event.specs.Reading.{Gives};
 ghost use Rattle.ktm_event.specs.Spelling.{IsSpellablePart};
 ghost use Rattle.ktm_event.specs.Work.{part_of};
-ghost use Rattle.ktm_types.specs.Sizes.{part_size};
+ghost use Rattle.ktm_world.specs.Sizes.{part_size};
 ghost use Rattle.ktm_snapshot.specs.Works.{is_work, placed_part};
 ghost use Rattle.ktm_snapshot.specs.StateGrammar.{IsMarkOf, IsMarkedOf};
 
@@ -14,7 +14,7 @@ use ktm_event::{
     EventFault, Work, WrittenFiles, part_at, put_enlistment, put_names_and_files_part,
     put_settings_part,
 };
-use ktm_types::RecordedPart;
+use ktm_world::RecordedPart;
 use std::alloc::Global;
 
 const NOT_DONE: u8 = 0;

@@ -11,8 +11,7 @@ use crate::part::marked_at;
 use ktm_base::{Id, NoMemory};
 use ktm_codec::{put_u8, put_u32, u8_at, u32_at};
 use ktm_event::{EventFault, put_id, put_record, read_id, record_at};
-use ktm_types::{Stage, Superior};
-use ktm_world::Recorded;
+use ktm_world::{Recorded, Stage, Superior};
 use std::alloc::Global;
 
 const READY: u8 = 0;

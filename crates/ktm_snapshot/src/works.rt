@@ -6,7 +6,7 @@ ghost use Rattle.ktm_snapshot.specs.Works.{IsPlaced, has_page_each, is_of_work, 
 use ktm_base::UNIT_BYTES;
 use ktm_content::{Content, Placed};
 use ktm_event::EventFault;
-use ktm_types::{Change, Changes, Contents, Part};
+use ktm_world::{Change, Changes, Contents, Part};
 use std::alloc::Global;
 
 // Has each unit of the contents a page.

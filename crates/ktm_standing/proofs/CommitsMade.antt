@@ -4,13 +4,13 @@ use Rattle.std.proofs.lemmas.Bool.{and_from, eq-eqb, false≢true, not-true, tru
 use Rattle.std.specs.List.{list_all}
 use Rattle.ktm_base.specs.declared.id.Id.{Id}
 use Rattle.ktm_base.specs.declared.limits.TheConstants.{MOST_UNITS}
-use Rattle.ktm_types.specs.declared.change.Change.{Change}
-use Rattle.ktm_types.specs.declared.input.PhaseInput.{PhaseInput}
-use Rattle.ktm_types.specs.declared.object.Phase.{Phase}
-use Rattle.ktm_types.specs.declared.object.Transaction.{Transaction}
-use Rattle.ktm_types.specs.declared.object.TransactionOutcome.{TransactionOutcome}
-use Rattle.ktm_types.specs.declared.object.TransactionOutcome.TheVariants.{Undetermined, Committed, Aborted}
-use Rattle.ktm_types.specs.declared.reply.Reply.TheVariants.{Done}
+use Rattle.ktm_world.specs.declared.change.Change.{Change}
+use Rattle.ktm_world.specs.declared.input.PhaseInput.{PhaseInput}
+use Rattle.ktm_world.specs.declared.object.Phase.{Phase}
+use Rattle.ktm_world.specs.declared.object.Transaction.{Transaction}
+use Rattle.ktm_world.specs.declared.object.TransactionOutcome.{TransactionOutcome}
+use Rattle.ktm_world.specs.declared.object.TransactionOutcome.TheVariants.{Undetermined, Committed, Aborted}
+use Rattle.ktm_world.specs.declared.reply.Reply.TheVariants.{Done}
 use Rattle.ktm_world.specs.Changes.{has_made}
 use Rattle.ktm_world.specs.Files.{FirstOpen, OwnChanges, own_changes}
 use Rattle.ktm_world.specs.Holds.{is_in}
@@ -37,8 +37,8 @@ use Rattle.txf_laws.proofs.offered.Tables.{same_id-sym}
 use Rattle.ktm_courses.specs.SoundCourse.{is_outcome_of}
 use Rattle.ktm_courses.proofs.offered.Calls.{transaction_at-found}
 use Rattle.ktm_laws.specs.Running.{HasEventsLeft}
-use Rattle.ktm_limits.specs.LimitsKept.{AreVersionsFixed}
-use Rattle.ktm_owned.proofs.offered.CoursesKept.{led-is}
+use Rattle.ktm_laws.specs.LimitsKept.{AreVersionsFixed}
+use Rattle.ktm_laws.specs.CoursesKept.{led-is}
 use Rattle.ktm_records.specs.Kept.{IsKept}
 use Rattle.ktm_records.proofs.offered.LiveEnlistments.{fades-led}
 use Rattle.ktm_records.proofs.offered.NoMore.{NoMore, fits-within, no_more-arrived, no_more-fits}

@@ -7,10 +7,10 @@ use Rattle.ktm_base.specs.declared.id.Id.{Id}
 use Rattle.ktm_base.specs.declared.id.Label.{Label}
 use Rattle.ktm_base.specs.declared.id.Pid.{Pid}
 use Rattle.ktm_event.specs.Spelling.{IsSpellableEvent}
-use Rattle.ktm_types.specs.declared.change.Change.{Change}
-use Rattle.ktm_types.specs.declared.command.Command.{Command}
-use Rattle.ktm_types.specs.declared.recorded.Node.{Node}
-use Rattle.ktm_types.specs.Values.{IsGiven}
+use Rattle.ktm_world.specs.declared.change.Change.{Change}
+use Rattle.ktm_world.specs.declared.command.Command.{Command}
+use Rattle.ktm_world.specs.declared.recorded.Node.{Node}
+use Rattle.ktm_world.specs.Values.{IsGiven}
 use Rattle.ktm_world.specs.Changes.{node_of}
 use Rattle.ktm_world.specs.Conflicts.{writes}
 use Rattle.ktm_world.specs.Decide.{decide, events_of, refusal_of}
@@ -32,7 +32,7 @@ use Rattle.txf_laws.proofs.offered.Elements.{list_all-at}
 use Rattle.txf_laws.proofs.offered.Diamonds.{none-from}
 use Rattle.ktm_courses.proofs.offered.Moves.{find-found}
 use Rattle.txf_laws.proofs.offered.CommitsOfOthers.{All-by, undecided-entry, next-free}
-use Rattle.ktm_owned.proofs.offered.SeenFiles.{below-next}
+use Rattle.ktm_laws.specs.SeenFiles.{below-next}
 use Rattle.txf_laws.specs.FileEffects.{IsOrderly, IsPlainChange, IsPlainOpen, LeavesOwn, CanBeCounted}
 use Rattle.ktm_standing.specs.Files.{IsOnCommitted, MayMake}
 use Rattle.ktm_standing.specs.Laws.{EffectsLaw}

@@ -4,11 +4,11 @@ use Rattle.ktm_base.specs.declared.limits.TheConstants.{MOST_UNITS}
 use Rattle.ktm_world.specs.Durable.{Durable, is_worn}
 use Rattle.ktm_world.specs.World.{opened}
 use Rattle.ktm_records.specs.Agreement.{AgreeingLaw}
-use Rattle.ktm_states.specs.GoodState.{IsGoodState}
-use Rattle.ktm_states.specs.GoodStates.{GoodStatesLaw}
-use Rattle.ktm_limits.specs.LimitsKept.{LimitsLaw}
+use Rattle.txf_laws.specs.GoodState.{IsGoodState}
+use Rattle.txf_laws.specs.GoodStates.{GoodStatesLaw}
+use Rattle.ktm_laws.specs.LimitsKept.{LimitsLaw}
 use Rattle.ktm_laws.specs.Notes.{NotesLaw}
-use Rattle.ktm_states.specs.OwnGroup.{OwnGroupLaw}
+use Rattle.txf_laws.specs.OwnGroup.{OwnGroupLaw}
 use Rattle.ktm_records.specs.SoundWorlds.{SoundWorldsLaw}
 use Rattle.ktm_records.specs.Spelling.{AreRecordedTexts, SpellingLaw}
 use Rattle.ktm_laws.proofs.offered.Starts.{running-opened}

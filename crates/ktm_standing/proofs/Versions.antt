@@ -3,7 +3,7 @@ use Rattle.std.proofs.Common.{◌≡◌, ℕ, ◌+◌, ◌≤◌, ◌==◌, nat_
 use Rattle.std.proofs.lemmas.Bool.{cases_Bool, eqb-true}
 use Rattle.std.proofs.lemmas.List.Sums.{length-filter, sum_by-cons}
 use Rattle.ktm_base.specs.declared.id.Id.{Id}
-use Rattle.ktm_types.specs.declared.change.Change.{Change}
+use Rattle.ktm_world.specs.declared.change.Change.{Change}
 use Rattle.ktm_world.specs.Changes.{changes_bytes, is_drop, node_of}
 use Rattle.ktm_world.specs.Committed.{Committed, Version, Work, changes_to_commit, committed_with, final_bytes, raised_version, version_of, versions_after, with_change, with_work, without_version, written_files}
 use Rattle.ktm_world.specs.Files.{OwnChanges, bytes_seen, own_changes}

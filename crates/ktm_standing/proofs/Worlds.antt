@@ -2,8 +2,8 @@
 use Rattle.std.proofs.Common.{ℕ, List, [], ◌∷◌, sym, ◌∙◌, ap, subst, arith}
 use Rattle.std.proofs.lemmas.List.Sums.{fold-append}
 use Rattle.ktm_base.specs.declared.id.Pid.{Pid}
-use Rattle.ktm_types.specs.declared.command.Command.{Command}
-use Rattle.ktm_types.specs.Values.{IsGiven}
+use Rattle.ktm_world.specs.declared.command.Command.{Command}
+use Rattle.ktm_world.specs.Values.{IsGiven}
 use Rattle.ktm_world.specs.Committed.{Committed, version_of, with_work}
 use Rattle.ktm_world.specs.Decide.{decide}
 use Rattle.ktm_world.specs.Laws.{StepLaw}

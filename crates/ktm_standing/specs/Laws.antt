@@ -10,13 +10,13 @@ use Rattle.ktm_base.specs.declared.id.Pid.{Pid}
 use Rattle.ktm_base.specs.declared.refusal.Refusal.{Refusal}
 use Rattle.ktm_base.specs.declared.refusal.Refusal.TheVariants.{MachineDown}
 use Rattle.ktm_event.specs.Spelling.{IsSpellableEvent}
-use Rattle.ktm_types.specs.declared.command.Command.{Command}
-use Rattle.ktm_types.specs.declared.input.PhaseInput.{PhaseInput}
-use Rattle.ktm_types.specs.declared.object.Transaction.{Transaction}
-use Rattle.ktm_types.specs.declared.reply.Reply.{Reply}
-use Rattle.ktm_types.specs.declared.reply.Reply.TheVariants.{Refused}
-use Rattle.ktm_types.specs.declared.step.Step.{Step}
-use Rattle.ktm_types.specs.Values.{IsGiven}
+use Rattle.ktm_world.specs.declared.command.Command.{Command}
+use Rattle.ktm_world.specs.declared.input.PhaseInput.{PhaseInput}
+use Rattle.ktm_world.specs.declared.object.Transaction.{Transaction}
+use Rattle.ktm_world.specs.declared.reply.Reply.{Reply}
+use Rattle.ktm_world.specs.declared.reply.Reply.TheVariants.{Refused}
+use Rattle.ktm_world.specs.declared.step.Step.{Step}
+use Rattle.ktm_world.specs.Values.{IsGiven}
 use Rattle.ktm_course.specs.Moved.{is_commit}
 use Rattle.ktm_world.specs.Decide.{decide, refusal_of, of_files, opening}
 use Rattle.ktm_world.specs.Durable.{Durable, is_worn, stand}
@@ -36,7 +36,7 @@ use Rattle.ktm_world.specs.World.{World, present, extend, after, decide_tick, cr
 use Rattle.ktm_records.specs.FileCallsMade.{file_call}
 use Rattle.ktm_records.specs.Kept.{IsKept}
 use Rattle.ktm_records.specs.Spelling.{AreRecordedTexts}
-use Rattle.ktm_states.specs.GoodState.{IsGoodState}
+use Rattle.txf_laws.specs.GoodState.{IsGoodState}
 use Rattle.ktm_laws.specs.Running.{HasEventsLeft, is_good_log}
 use Rattle.ktm_courses.specs.SoundCourse.{IsSoundCourse}
 use Rattle.txf_laws.specs.FileEffects.{IsOrderly}

@@ -1,12 +1,12 @@
 // Laws of worlds that stand, each the contract of a function that does nothing.
 ghost use Rattle.ktm_standing.specs.Laws.{EffectsLaw, TimeoutLaw, CoursesLaw, NamedLaw, GuidLaw, DecidedLaw, SpelledLaw, KeptLaw, FilesLaw, StandingLaw, FreshLaw};
 
-use ktm_laws::{law_of_lawful_worlds, law_of_notes, law_of_sound_worlds};
-use ktm_limits::law_of_limits;
+use ktm_laws::{law_of_lawful_worlds, law_of_limits, law_of_notes, law_of_sound_worlds};
 use ktm_records::{law_of_agreement, law_of_file_calls, law_of_spelling};
-use ktm_states::{law_of_good_states, law_of_own_groups};
 use ktm_world::law_of_step;
-use txf_laws::{law_of_forms, law_of_lists, law_of_reservations};
+use txf_laws::{
+    law_of_forms, law_of_good_states, law_of_lists, law_of_own_groups, law_of_reservations,
+};
 
 /// What an outcome makes of what is so now.
 pub fn law_of_effects()

@@ -1,6 +1,6 @@
 -- No enlistment comes back to life on the way.
 use Rattle.std.specs.Prelude.{◌≡◌, true, List, map}
-use Rattle.ktm_types.specs.declared.step.Step.{Step}
+use Rattle.ktm_world.specs.declared.step.Step.{Step}
 use Rattle.ktm_world.specs.Enlistments.{Enlistment}
 use Rattle.ktm_world.specs.Phases.{Course}
 use Rattle.ktm_world.specs.Steps.{lasting, run}

@@ -1,11 +1,11 @@
 -- What is proved of the phase table: what its rows for answers come to once the answer counts, and that what steps record is known ahead.
 use Rattle.std.specs.Prelude.{◌≡◌, ◌&&◌, Bool, true, false, List, [], ◌∷◌, ◌++◌, Some, is_some, if◌then◌else◌}
 use Rattle.std.specs.List.{AllByRecursion, list_any}
-use Rattle.ktm_types.specs.declared.input.PhaseInput.{PhaseInput}
-use Rattle.ktm_types.specs.declared.step.Answered.{Answered}
-use Rattle.ktm_types.specs.declared.step.Fact.{Fact}
-use Rattle.ktm_types.specs.declared.step.Step.{Step}
-use Rattle.ktm_types.specs.declared.step.Who.{Who}
+use Rattle.ktm_world.specs.declared.input.PhaseInput.{PhaseInput}
+use Rattle.ktm_world.specs.declared.step.Answered.{Answered}
+use Rattle.ktm_world.specs.declared.step.Fact.{Fact}
+use Rattle.ktm_world.specs.declared.step.Step.{Step}
+use Rattle.ktm_world.specs.declared.step.Who.{Who}
 use Rattle.ktm_world.specs.Enlistments.{Enlistment, has_id, takes_part}
 use Rattle.ktm_world.specs.Phases.{Course}
 use Rattle.ktm_world.specs.Rows.{all_readies, proceeds, proceeds_without}

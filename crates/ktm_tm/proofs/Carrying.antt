@@ -4,10 +4,10 @@ use Rattle.std.specs.Prelude.{is_some}
 use Rattle.std.specs.List.{list_all, list_any}
 use Rattle.std.proofs.lemmas.Bool.{and_from, and_parts, cases_Bool}
 use Rattle.ktm_base.specs.declared.id.Id.{Id}
-use Rattle.ktm_types.specs.declared.object.Transaction.{Transaction}
-use Rattle.ktm_types.specs.declared.step.Answered.{Answered}
-use Rattle.ktm_types.specs.declared.step.Owed.{Owed}
-use Rattle.ktm_types.specs.declared.step.Step.{Step}
+use Rattle.ktm_world.specs.declared.object.Transaction.{Transaction}
+use Rattle.ktm_world.specs.declared.step.Answered.{Answered}
+use Rattle.ktm_world.specs.declared.step.Owed.{Owed}
+use Rattle.ktm_world.specs.declared.step.Step.{Step}
 use Rattle.ktm_world.specs.Enlistments.{Enlistment, Manager, Sent, has_id, is_unfinished, manager_at, with_enlistments}
 use Rattle.ktm_world.specs.Outcome.{served}
 use Rattle.ktm_world.specs.Steps.{answered, is_one_of}

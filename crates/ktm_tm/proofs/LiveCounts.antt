@@ -6,8 +6,8 @@ use Rattle.std.proofs.lemmas.Bool.{and_parts, cases_Bool}
 use Rattle.std.proofs.lemmas.List.Sums.{sum_by-cons}
 use Rattle.ktm_base.specs.declared.id.Id.{Id}
 use Rattle.ktm_keyed.proofs.KeyedLemmas.{count_by-cons}
-use Rattle.ktm_types.specs.declared.object.Phase.{Phase}
-use Rattle.ktm_types.specs.declared.object.Transaction.{Transaction}
+use Rattle.ktm_world.specs.declared.object.Phase.{Phase}
+use Rattle.ktm_world.specs.declared.object.Transaction.{Transaction}
 use Rattle.ktm_world.specs.Durable.{is_before}
 use Rattle.ktm_world.specs.Enlistments.{Enlistment, is_ended, is_live_enlistment, is_live_in, is_superior}
 use Rattle.ktm_world.specs.Transactions.{is_live, same_id}

@@ -1,7 +1,7 @@
 -- The courses of the model on which a transaction stands.
 use Rattle.std.specs.Prelude.{◌≡◌, Bool, List, [], Option, Some, None}
 use Rattle.ktm_base.specs.declared.id.Id.{Id}
-use Rattle.ktm_types.specs.declared.object.Transaction.{Transaction}
+use Rattle.ktm_world.specs.declared.object.Transaction.{Transaction}
 use Rattle.ktm_world.specs.Changes.{has_changes}
 use Rattle.ktm_world.specs.Enlistments.{Enlistment, enlistment_at, id_of}
 use Rattle.ktm_world.specs.Phases.{Course, has_settings}

@@ -10,7 +10,7 @@ ghost use Rattle.ktm_tm.specs.TmState.{id_after, with_enlisted, KeepsNow, KeepsO
 use crate::tm::Tm;
 use ktm_base::{Bytes, Id, MOST_LIVE, MOST_NUMBER, NoMemory};
 use ktm_phase::Enlistment;
-use ktm_types::EnlistmentKind;
+use ktm_world::EnlistmentKind;
 use std::alloc::Global;
 
 /// How many notifications may wait for an enlistment.

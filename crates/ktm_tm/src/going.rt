@@ -13,7 +13,7 @@ use crate::steps::{Going, carry_all};
 use crate::tm::Tm;
 use ktm_base::Id;
 use ktm_phase::Enlistment;
-use ktm_types::{Seen, Step, Transaction};
+use ktm_world::{Seen, Step, Transaction};
 
 impl Tm {
     /// What counts of the transaction, where the files and the keys take part or not.

@@ -5,7 +5,7 @@ ghost use Rattle.ktm_world.specs.Transactions.{is_live};
 ghost use Rattle.ktm_tm.specs.Listed.{AreRisingFrom, with_number};
 ghost use Rattle.ktm_tm.specs.TmState.{if_live};
 
-use ktm_types::{Phase, Transaction};
+use ktm_world::{Phase, Transaction};
 
 /// Is the transaction live.
 pub fn is_live(t: &Transaction) -> bool

@@ -6,7 +6,7 @@ ghost use Rattle.ktm_tm.specs.Listed.{AreListed, IsAbsent, IsPlace, is_number};
 
 use ktm_base::Id;
 use ktm_manager::order_of;
-use ktm_types::Transaction;
+use ktm_world::Transaction;
 
 // Is it the number of one of so many that were made.
 fn is_number(count: usize, number: u32) -> bool

@@ -1,7 +1,7 @@
 // What a resource manager is told when it recovers.
 ghost use Rattle.std.specs.Prelude.{◌≡◌, ◌+◌, ◌≤◌, ◌∷◌, [], List, None, OnOk, is_some, length, map, true};
 ghost use Rattle.ktm_base.specs.declared.id.Id.{Id};
-ghost use Rattle.ktm_types.specs.declared.object.Transaction.{Transaction};
+ghost use Rattle.ktm_world.specs.declared.object.Transaction.{Transaction};
 ghost use Rattle.ktm_world.specs.Enlistments.{manager_at};
 ghost use Rattle.ktm_world.specs.Labels.{holds_of};
 ghost use Rattle.ktm_world.specs.Outcome.{served};
@@ -17,7 +17,7 @@ use ktm_enlist::Enlistments;
 use ktm_manager::Managers;
 use ktm_notify::Note;
 use ktm_phase::Enlistment;
-use ktm_types::{Phase, Transaction};
+use ktm_world::{Phase, Transaction};
 
 // Is there a transaction, and is it in doubt.
 fn is_in_doubt(t: Option<Transaction>) -> bool

@@ -6,7 +6,7 @@ ghost use Rattle.ktm_world.specs.TransactionCalls.{may_roll_back, rollback_trans
 ghost use Rattle.ktm_world.specs.Transactions.{is_active};
 
 use ktm_base::Refusal;
-use ktm_types::{Phase, Transaction, TransactionOutcome, TransactionState};
+use ktm_world::{Phase, Transaction, TransactionOutcome, TransactionState};
 
 // Why a call on the transaction is refused: for its outcome, where that is known, and else for this, where its phase is wrong.
 fn refusal(t: &Transaction, is_right: bool, other: Refusal) -> Option<Refusal>

@@ -9,7 +9,7 @@ ghost use Rattle.ktm_tm.specs.Steps.{after, after_all, ends, records, told_those
 use ktm_base::{Id, Notify};
 use ktm_enlist::Enlistments;
 use ktm_manager::Managers;
-use ktm_types::{Answered, Fact, Owed, Phase, Step, Transaction, TransactionOutcome, Who};
+use ktm_world::{Answered, Fact, Owed, Phase, Step, Transaction, TransactionOutcome, Who};
 
 /// What the steps of a call go by: the enlistment that calls, if one does, whether its resource manager is durable, and whether
 /// the files and the keys take part.

@@ -13,7 +13,7 @@ use crate::refusals::may_roll_back;
 use ktm_base::{Id, MOST_LIVE, MOST_NUMBER, NoMemory};
 use ktm_enlist::Enlistments;
 use ktm_manager::Managers;
-use ktm_types::{Phase, Transaction, TransactionOutcome};
+use ktm_world::{Phase, Transaction, TransactionOutcome};
 use std::alloc::Global;
 use std::marker::Model;
 

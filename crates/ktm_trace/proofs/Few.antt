@@ -8,18 +8,18 @@ use Rattle.std.proofs.lemmas.List.{length-append, length-map}
 use Rattle.std.proofs.lemmas.List.Sums.{sum_by-cons}
 use Rattle.ktm_base.specs.declared.id.Id.{Id}
 use Rattle.ktm_base.specs.declared.limits.TheConstants.{MOST_LIVE}
-use Rattle.ktm_types.specs.declared.event.DonePart.{DonePart}
-use Rattle.ktm_types.specs.declared.event.Part.{Part}
-use Rattle.ktm_types.specs.declared.recorded.RecordedPart.{RecordedPart}
-use Rattle.ktm_types.specs.declared.recorded.Stage.{Stage}
-use Rattle.ktm_types.specs.declared.step.Fact.{Fact}
+use Rattle.ktm_world.specs.declared.event.DonePart.{DonePart}
+use Rattle.ktm_world.specs.declared.event.Part.{Part}
+use Rattle.ktm_world.specs.declared.recorded.RecordedPart.{RecordedPart}
+use Rattle.ktm_world.specs.declared.recorded.Stage.{Stage}
+use Rattle.ktm_world.specs.declared.step.Fact.{Fact}
 use Rattle.ktm_world.specs.Durable.{Durable, Recorded, changes_in_wait, enlistments_in, enlistments_in_use, enlistments_of, is_part_of, is_within_limits, keys_in_use, nodes_in_use, superior_ids, units_in_use}
 use Rattle.ktm_world.specs.Transactions.{same_id}
 use Rattle.txf_laws.proofs.offered.Elements.{length-filter-less}
 use Rattle.txf_laws.proofs.offered.Sums.{count-cons, sum-filter-less}
 use Rattle.txf_laws.proofs.offered.Tables.{same_id-equal, same_id-from}
-use Rattle.ktm_states.specs.GoodState.{has_one_part_each}
-use Rattle.ktm_states.proofs.offered.Parts.{count_among, gathered}
+use Rattle.txf_laws.specs.GoodState.{has_one_part_each}
+use Rattle.txf_laws.proofs.offered.Parts.{count_among, gathered}
 use Rattle.ktm_trace.specs.declared.heads.Head.{Head}
 use Rattle.ktm_trace.specs.declared.marks.Mark.{Mark}
 use Rattle.ktm_trace.specs.declared.recording.Recording.{Recording}

@@ -1,18 +1,18 @@
 -- What memory keeps of the log's transactions, with what their parts have in them.
 use Rattle.std.specs.Prelude.{◌≡◌, ℕ, List, [], map, Option, Some, None, if◌then◌else◌}
 use Rattle.ktm_base.specs.declared.id.Id.{Id}
-use Rattle.ktm_types.specs.declared.change.Change.{Change}
-use Rattle.ktm_types.specs.declared.event.DonePart.{DonePart}
-use Rattle.ktm_types.specs.declared.event.Part.{Part}
-use Rattle.ktm_types.specs.declared.recorded.RecordedPart.{RecordedPart}
-use Rattle.ktm_types.specs.declared.recorded.Superior.{Superior}
+use Rattle.ktm_world.specs.declared.change.Change.{Change}
+use Rattle.ktm_world.specs.declared.event.DonePart.{DonePart}
+use Rattle.ktm_world.specs.declared.event.Part.{Part}
+use Rattle.ktm_world.specs.declared.recorded.RecordedPart.{RecordedPart}
+use Rattle.ktm_world.specs.declared.recorded.Superior.{Superior}
 use Rattle.ktm_world.specs.Durable.{Recorded, is_decided}
 use Rattle.ktm_world.specs.Enlistments.{Enlistment, enlistment_at}
 use Rattle.ktm_world.specs.Files.{OwnChanges, own_changes}
 use Rattle.ktm_world.specs.Keys.{Own, OwnSettings, own_settings}
 use Rattle.ktm_world.specs.Lawful.{Agrees}
 use Rattle.ktm_world.specs.Present.{Present}
-use Rattle.ktm_states.specs.GoodState.{IsGoodState}
+use Rattle.txf_laws.specs.GoodState.{IsGoodState}
 use Rattle.ktm_courses.specs.SoundCourse.{IsSoundCourse}
 use Rattle.ktm_trace.specs.Traces.{Traced, TracedPart, traced, traces_of}
 

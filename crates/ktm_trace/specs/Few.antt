@@ -2,7 +2,7 @@
 use Rattle.std.specs.Prelude.{ℕ, ◌+◌, ◌<◌, ◌≤◌, List, length, sum_by}
 use Rattle.ktm_base.specs.declared.limits.TheConstants.{MOST_LIVE}
 use Rattle.ktm_world.specs.Durable.{Durable}
-use Rattle.ktm_states.specs.GoodState.{IsGoodState}
+use Rattle.txf_laws.specs.GoodState.{IsGoodState}
 use Rattle.ktm_trace.specs.declared.room.TheConstants.{MOST_HEADS, MOST_LIVE_PARTS, MOST_MARKS}
 use Rattle.ktm_trace.specs.Traces.{Traced, traces_of}
 

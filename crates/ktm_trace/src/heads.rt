@@ -7,7 +7,7 @@ ghost use Rattle.ktm_trace.specs.Joined.{head_id, head_or_new};
 ghost use Rattle.ktm_trace.specs.Placed.{Rises, at_id, placed, without_id};
 
 use ktm_base::{Id, NoMemory};
-use ktm_types::Stage;
+use ktm_world::Stage;
 use std::alloc::Global;
 use std::marker::Model;
 

@@ -6,7 +6,7 @@ ghost use Rattle.ktm_trace.specs.Traces.{same_participant, who_of};
 ghost use Rattle.ktm_trace.specs.declared.marks.Mark.{Mark as Marked};
 
 use ktm_base::{Id, NoMemory};
-use ktm_types::{DonePart, Part, RecordedPart};
+use ktm_world::{DonePart, Part, RecordedPart};
 use std::alloc::Global;
 use std::marker::Model;
 

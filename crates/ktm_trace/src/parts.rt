@@ -5,7 +5,7 @@ ghost use Rattle.ktm_trace.specs.Lent.{part_lent};
 
 use crate::marks::Mark;
 use ktm_base::Id;
-use ktm_types::DonePart;
+use ktm_world::DonePart;
 use std::marker::Model;
 
 /// A part of a transaction of the log, without what it has in it.

@@ -3,7 +3,7 @@ ghost use Rattle.std.specs.Prelude.{◌≡◌};
 ghost use Rattle.ktm_trace.specs.Recordings.{behind_step, is_noted_by};
 
 use ktm_base::Id;
-use ktm_types::{Fact, Step};
+use ktm_world::{Fact, Step};
 
 /// A transaction, with those of it that its steps record.
 #[derive(Clone, Copy)]

@@ -13,8 +13,7 @@ use crate::recording::Recording;
 use crate::room::{MOST_HEADS, MOST_MARKS, MOST_NOTED};
 use crate::transactions::Transactions;
 use ktm_base::{Id, NoMemory};
-use ktm_types::{DonePart, Fact, Stage, Step, Superior};
-use ktm_world::Recorded;
+use ktm_world::{DonePart, Fact, Recorded, Stage, Step, Superior};
 use std::alloc::Global;
 use std::marker::Model;
 

@@ -7,7 +7,7 @@ use crate::heads::Head;
 use crate::marks::Mark;
 use crate::parts::Parts;
 use ktm_base::Id;
-use ktm_types::Stage;
+use ktm_world::Stage;
 use std::marker::Model;
 
 /// A transaction of the log, whose parts are lent.

@@ -1,9 +1,9 @@
 -- Commands that have no bytes, and what follows another that comes to the same.
 use Rattle.std.proofs.Common.{◌≡◌, ℕ, length, map, refl, sym, ◌∙◌, ap, inl}
 use Rattle.ktm_base.specs.declared.id.Pid.{Pid}
-use Rattle.ktm_types.specs.declared.command.Command.{Command}
-use Rattle.ktm_types.specs.declared.command.Command.TheVariants.{ReadFile, WriteFile, WriteUnits}
-use Rattle.ktm_types.specs.declared.reply.Reply.{Reply}
+use Rattle.ktm_world.specs.declared.command.Command.{Command}
+use Rattle.ktm_world.specs.declared.command.Command.TheVariants.{ReadFile, WriteFile, WriteUnits}
+use Rattle.ktm_world.specs.declared.reply.Reply.{Reply}
 use Rattle.ktm_world.specs.Decide.{decide, refusal_of}
 use Rattle.ktm_world.specs.Outcome.{Outcome, apply}
 use Rattle.ktm_world.specs.Present.{Present}

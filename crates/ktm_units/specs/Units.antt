@@ -3,10 +3,10 @@ use Rattle.std.specs.Prelude.{◌≡◌, ◌⊎◌, ℕ, ◌≤◌, true, List, 
 use Rattle.ktm_base.specs.declared.id.Label.{Label}
 use Rattle.ktm_base.specs.declared.id.Pid.{Pid}
 use Rattle.ktm_base.specs.declared.limits.TheConstants.{MOST_AT_ONCE}
-use Rattle.ktm_types.specs.declared.change.Change.{Change}
-use Rattle.ktm_types.specs.declared.command.Command.{Command}
-use Rattle.ktm_types.specs.declared.command.Command.TheVariants.{ReadFile, WriteFile, SetEndOfFile, WriteUnits}
-use Rattle.ktm_types.specs.declared.event.Event.TheVariants.{Plain}
+use Rattle.ktm_world.specs.declared.change.Change.{Change}
+use Rattle.ktm_world.specs.declared.command.Command.{Command}
+use Rattle.ktm_world.specs.declared.command.Command.TheVariants.{ReadFile, WriteFile, SetEndOfFile, WriteUnits}
+use Rattle.ktm_world.specs.declared.event.Event.TheVariants.{Plain}
 use Rattle.ktm_world.specs.Changes.{changes_bytes}
 use Rattle.ktm_world.specs.Decide.{decide, refusal_of}
 use Rattle.ktm_world.specs.Files.{OpenFile, bytes_seen}

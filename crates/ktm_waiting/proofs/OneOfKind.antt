@@ -6,13 +6,13 @@ use Rattle.std.proofs.lemmas.List.{append-nil}
 use Rattle.std.proofs.lemmas.List.Folds.{find_at}
 use Rattle.std.proofs.lemmas.Option.{slice_get-get_or, slice_get_past}
 use Rattle.std.specs.Prelude.{if◌then◌else◌, slice_get}
-use Rattle.ktm_types.specs.declared.event.DonePart.{DonePart}
-use Rattle.ktm_types.specs.declared.event.Part.{Part}
-use Rattle.ktm_types.specs.declared.event.Part.TheVariants.{Enlistment, Changes, Settings}
-use Rattle.ktm_types.specs.declared.recorded.RecordedPart.{RecordedPart}
+use Rattle.ktm_world.specs.declared.event.DonePart.{DonePart}
+use Rattle.ktm_world.specs.declared.event.Part.{Part}
+use Rattle.ktm_world.specs.declared.event.Part.TheVariants.{Enlistment, Changes, Settings}
+use Rattle.ktm_world.specs.declared.recorded.RecordedPart.{RecordedPart}
 use Rattle.ktm_world.specs.Durable.{changes_in, is_part_of, settings_in}
 use Rattle.txf_laws.proofs.offered.Sums.{count-cons}
-use Rattle.ktm_states.proofs.offered.Parts.{gathered, gathered-none, is_among, count_among}
+use Rattle.txf_laws.proofs.offered.Parts.{gathered, gathered-none, is_among, count_among}
 use Rattle.ktm_waiting.proofs.Placing.{first-found, first-none}
 
 counted : (test : Part → Bool) (p : RecordedPart) (ps : List RecordedPart) → count_among test (p ∷ ps) ≡ cond (test p.part) 1 0 + count_among test ps

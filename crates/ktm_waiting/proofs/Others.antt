@@ -6,14 +6,14 @@ use Rattle.std.proofs.Math.Bool.{and-true}
 use Rattle.std.proofs.lemmas.Bool.{and_from, and_parts, cases_Bool, eq-eqb, eqb-true, not-true, true≢false}
 use Rattle.std.proofs.lemmas.List.{append-nil}
 use Rattle.ktm_base.specs.declared.id.Id.{Id}
-use Rattle.ktm_types.specs.declared.change.Change.{Change}
-use Rattle.ktm_types.specs.declared.recorded.Node.{Node}
+use Rattle.ktm_world.specs.declared.change.Change.{Change}
+use Rattle.ktm_world.specs.declared.recorded.Node.{Node}
 use Rattle.ktm_world.specs.Changes.{changes_apply, has_made, is_make, node_of}
 use Rattle.ktm_world.specs.Durable.{Durable, Recorded, acts_of_all, changes_of, holds_in, is_decided, is_new_in, others_waiting, recorded_at, recorded_changes_apply}
 use Rattle.ktm_world.specs.Holds.{holds_by, is_in, meets}
 use Rattle.ktm_world.specs.Transactions.{is_of, same_id}
 use Rattle.ktm_world.specs.Tree.{node_at}
-use Rattle.ktm_states.proofs.offered.WaitingChanges.{in_others, in_others-plain}
+use Rattle.txf_laws.proofs.offered.WaitingChanges.{in_others, in_others-plain}
 use Rattle.txf_laws.specs.Elements.{IsIn}
 use Rattle.txf_laws.proofs.offered.Diamonds.{IsIn-map}
 use Rattle.txf_laws.proofs.offered.Elements.{IsIn-filter, list_all-at, list_any-at, list_any-from}

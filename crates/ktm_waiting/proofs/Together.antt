@@ -6,13 +6,13 @@ use Rattle.std.proofs.lemmas.List.{append-nil}
 use Rattle.std.proofs.lemmas.Option.{none-some, same_Some}
 use Rattle.ktm_base.specs.declared.id.Id.{Id}
 use Rattle.ktm_keyed.specs.declared.keyed.Keyed.{Keyed}
-use Rattle.ktm_types.specs.declared.change.Change.{Change}
-use Rattle.ktm_types.specs.declared.event.DonePart.{DonePart}
-use Rattle.ktm_types.specs.declared.event.Part.{Part}
-use Rattle.ktm_types.specs.declared.event.Part.TheVariants.{Enlistment, Changes, Settings}
-use Rattle.ktm_types.specs.declared.recorded.RecordedPart.{RecordedPart}
-use Rattle.ktm_types.specs.declared.recorded.Stage.{Stage}
-use Rattle.ktm_types.specs.declared.recorded.Superior.{Superior}
+use Rattle.ktm_world.specs.declared.change.Change.{Change}
+use Rattle.ktm_world.specs.declared.event.DonePart.{DonePart}
+use Rattle.ktm_world.specs.declared.event.Part.{Part}
+use Rattle.ktm_world.specs.declared.event.Part.TheVariants.{Enlistment, Changes, Settings}
+use Rattle.ktm_world.specs.declared.recorded.RecordedPart.{RecordedPart}
+use Rattle.ktm_world.specs.declared.recorded.Stage.{Stage}
+use Rattle.ktm_world.specs.declared.recorded.Superior.{Superior}
 use Rattle.ktm_world.specs.Changes.{changes_apply, changes_bytes, has_changes, nodes_made}
 use Rattle.ktm_world.specs.Durable.{Recorded, changes_in, changes_of, emptied_part, enlistments_in, enlistments_of, is_before, is_decided, is_of_enlistment, is_part_of, parts_done, recorded_at, recorded_or_new, settings_in, settings_of, superior_ids, while_not_done, with_recorded, without_recorded}
 use Rattle.ktm_world.specs.Keys.{OwnSettings}
@@ -20,7 +20,7 @@ use Rattle.ktm_world.specs.Transactions.{same_id}
 use Rattle.ktm_world.specs.Tree.{Tree}
 use Rattle.txf_laws.proofs.offered.Sums.{count-append}
 use Rattle.txf_laws.proofs.offered.Tables.{Rises, fresh, recorded_at-found, rises-first, rises-rest, same_id-equal}
-use Rattle.ktm_states.proofs.offered.Parts.{gathered, gathered-map, gathered-push}
+use Rattle.txf_laws.proofs.offered.Parts.{gathered, gathered-map, gathered-push}
 use Rattle.ktm_waiting.specs.declared.amounts.Amounts.{Amounts}
 use Rattle.ktm_waiting.specs.Table.{decided_in, finished_in, held_for, with_one_part}
 use Rattle.ktm_waiting.specs.Totals.{AllApply, AreKeptOver, IsAmountAt, IsAmountOf, PassImages, TakeTogether, amounts_in, enlisted_at, enlistments_alone, nothing}

@@ -1,7 +1,7 @@
 -- What transactions take together, as it is counted while they come and go.
 use Rattle.std.specs.Prelude.{◌≡◌, ℕ, ◌^◌, ◌<◌, ◌+◌, ◌&&◌, not, Bool, false, true, List, [], ◌∷◌, length, count_by, is_some, is_none, Option, None, Some}
-use Rattle.ktm_types.specs.declared.change.Change.{Change}
-use Rattle.ktm_types.specs.declared.event.Part.{Part}
+use Rattle.ktm_world.specs.declared.change.Change.{Change}
+use Rattle.ktm_world.specs.declared.event.Part.{Part}
 use Rattle.ktm_world.specs.Changes.{changes_apply, changes_bytes, is_drop, node_of, nodes_made}
 use Rattle.ktm_world.specs.Durable.{Recorded, changes_in, changes_of, enlistments_in, enlistments_of, settings_in}
 use Rattle.ktm_world.specs.Tree.{Tree, node_at}

@@ -3,8 +3,8 @@ use Rattle.std.specs.Prelude.{◌≡◌, ℕ, ◌+◌, ◌-◌, ◌&&◌, not, B
 use Rattle.std.specs.List.{list_all, list_any}
 use Rattle.ktm_base.specs.declared.id.Id.{Id}
 use Rattle.ktm_base.specs.declared.limits.TheConstants.{MOST_LIVE}
-use Rattle.ktm_types.specs.declared.change.Change.{Change}
-use Rattle.ktm_states.specs.GoodState.{are_kept_changes, are_kept_settings, has_one_part_each}
+use Rattle.ktm_world.specs.declared.change.Change.{Change}
+use Rattle.txf_laws.specs.GoodState.{are_kept_changes, are_kept_settings, has_one_part_each}
 use Rattle.ktm_world.specs.Changes.{changed_all, changes_apply, changes_bytes, nodes_made}
 use Rattle.ktm_world.specs.Committed.{written_files}
 use Rattle.ktm_world.specs.Durable.{Recorded, changes_of, enlistments_of, has_changes_part, is_decided, is_new_in, recorded_at, settings_of}

@@ -1,7 +1,7 @@
 // How much is taken of what is limited.
 ghost use Rattle.std.specs.Prelude.{◌≡◌, ℕ, ◌-◌, ◌^◌, ◌<◌, ◌≤◌, not, true, count_by, is_none, is_some, length, IfSome, IfNone, false};
 ghost use Rattle.std.specs.List.{list_all};
-ghost use Rattle.ktm_states.specs.GoodState.{has_one_part_each};
+ghost use Rattle.txf_laws.specs.GoodState.{has_one_part_each};
 ghost use Rattle.ktm_world.specs.Changes.{changes_apply, changes_bytes, has_changes, is_make, nodes_made};
 ghost use Rattle.ktm_world.specs.Durable.{are_recorded_changes, changes_in, changes_of, enlistments_in, enlistments_of, is_new_in, is_sole, superior_ids};
 ghost use Rattle.ktm_world.specs.Tree.{Tree};
@@ -11,8 +11,7 @@ ghost use Rattle.txf_tree.specs.TreeState.{tree_of};
 
 use crate::parts::{changes_in, changes_of, is_decided, settings_in, settings_of};
 use ktm_base::MOST_LIVE;
-use ktm_types::{Change, Part, RecordedPart, Setting, Superior};
-use ktm_world::Recorded;
+use ktm_world::{Change, Part, Recorded, RecordedPart, Setting, Superior};
 use txf_durable::{DurableFiles, name_changes, units_given};
 use txf_tree::{is_drop, is_make, node_of};
 

@@ -2,7 +2,7 @@
 ghost use Rattle.std.specs.Prelude.{◌≡◌, ◌&&◌, not, true, false, is_some};
 ghost use Rattle.std.specs.List.{list_any};
 ghost use Rattle.ktm_keyed.specs.Keyed.{is_rising, value_at};
-ghost use Rattle.ktm_states.specs.GoodState.{are_kept_settings, has_one_part_each};
+ghost use Rattle.txf_laws.specs.GoodState.{are_kept_settings, has_one_part_each};
 ghost use Rattle.ktm_world.specs.Durable.{Recorded as Transaction, has_changes_part, is_ready, settings_of};
 ghost use Rattle.ktm_world.specs.Holds.{holds_by};
 ghost use Rattle.ktm_world.specs.Lawful.{set_both};
@@ -13,8 +13,7 @@ ghost use Rattle.txf_laws.specs.Elements.{IsIn};
 use crate::parts::{has_part_of, is_decided, settings_of};
 use ktm_base::Id;
 use ktm_keyed::{Slot, slot_of};
-use ktm_types::{DonePart, Setting};
-use ktm_world::Recorded;
+use ktm_world::{DonePart, Recorded, Setting};
 
 // Is the transaction this one.
 fn is_of(id: Id, who: Option<Id>) -> bool

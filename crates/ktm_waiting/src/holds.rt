@@ -11,8 +11,7 @@ ghost use Rattle.txf_tree.specs.TreeState.{tree_of};
 
 use crate::parts::is_ready;
 use ktm_base::{Id, NoMemory};
-use ktm_types::Change;
-use ktm_world::Recorded;
+use ktm_world::{Change, Recorded};
 use txf_durable::{DurableFiles, Waiting};
 
 // A transaction that is ready, and neither held nor decided, holds nothing from now on.

@@ -2,12 +2,12 @@
 ghost use Rattle.std.specs.Prelude.{◌≡◌, ◌<◌, ◌≤◌, ◌&&◌, ◌||◌, not, true, false, count_by, find, length, map, slice_index_or, slice_set};
 ghost use Rattle.std.specs.List.{flat_map, list_any, position};
 ghost use Rattle.std.specs.Option.{option_copied};
-ghost use Rattle.ktm_types.specs.declared.recorded.RecordedPart.{RecordedPart as Recording};
+ghost use Rattle.ktm_world.specs.declared.recorded.RecordedPart.{RecordedPart as Recording};
 ghost use Rattle.ktm_world.specs.Durable.{changes_in, is_decided, is_held, is_part_of, is_ready, parts_done, settings_in};
 ghost use Rattle.ktm_waiting.specs.Work.{without_changes, without_settings};
 
 use ktm_base::Items;
-use ktm_types::{Change, DonePart, Part, RecordedPart, Setting, Stage};
+use ktm_world::{Change, DonePart, Part, RecordedPart, Setting, Stage};
 use std::alloc::Global;
 use std::mem::replace;
 

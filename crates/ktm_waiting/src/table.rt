@@ -2,8 +2,8 @@
 ghost use Rattle.std.specs.Prelude.{◌≡◌, ◌<◌, ◌≤◌, ◌&&◌, ◌||◌, [], None, Some, not, true, OnOk, OnErr, IsOk, IfOk, IfSome, filter, length, map, if◌then◌else◌};
 ghost use Rattle.std.specs.List.{list_any, position, position_or_len};
 ghost use Rattle.std.specs.Option.{option_copied};
-ghost use Rattle.ktm_types.specs.declared.recorded.Stage.{Stage as Progress};
-ghost use Rattle.ktm_states.specs.GoodState.{has_one_part_each};
+ghost use Rattle.ktm_world.specs.declared.recorded.Stage.{Stage as Progress};
+ghost use Rattle.txf_laws.specs.GoodState.{has_one_part_each};
 ghost use Rattle.ktm_world.specs.Durable.{Recorded as Transaction, changes_of, emptied_part, enlistments_of, has_part, has_undone, is_before, is_decided, is_held, is_part_of, is_ready, parts_done, recorded_at, recorded_or_new, settings_of, superior_ids, with_recorded, without_recorded};
 ghost use Rattle.ktm_world.specs.Transactions.{same_id};
 ghost use Rattle.ktm_waiting.specs.Table.{IsByRisingId, changes_at, decided_in, finished_in, held_for, settings_at, with_one_part};
@@ -14,8 +14,7 @@ use crate::parts::{
     is_ready, take_changes, take_settings,
 };
 use ktm_base::{Id, NoMemory};
-use ktm_types::{Change, DonePart, Part, RecordedPart, Setting, Stage, Superior};
-use ktm_world::Recorded;
+use ktm_world::{Change, DonePart, Part, Recorded, RecordedPart, Setting, Stage, Superior};
 use std::alloc::Global;
 use std::marker::Model;
 

@@ -17,8 +17,7 @@ use crate::amounts::{
 };
 use crate::table::{Table, is_ready_now};
 use ktm_base::{Id, NoMemory};
-use ktm_types::{Change, DonePart, Part, Setting, Superior};
-use ktm_world::Recorded;
+use ktm_world::{Change, DonePart, Part, Recorded, Setting, Superior};
 use std::alloc::Global;
 use std::marker::Model;
 use txf_durable::DurableFiles;

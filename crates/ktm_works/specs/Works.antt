@@ -7,9 +7,9 @@ use Rattle.ktm_kernel.specs.Answers.{CallLeaves, IsAsItWas}
 use Rattle.ktm_kernel.specs.Stands.{KernelAt, KernelState}
 use Rattle.ktm_laws.specs.Running.{HasEventsLeft}
 use Rattle.ktm_log.specs.OnDisk.{OnDisk}
-use Rattle.ktm_types.specs.declared.command.Command.{Command}
-use Rattle.ktm_types.specs.declared.reply.Reply.{Reply}
-use Rattle.ktm_types.specs.declared.reply.Reply.TheVariants.{Refused}
+use Rattle.ktm_world.specs.declared.command.Command.{Command}
+use Rattle.ktm_world.specs.declared.reply.Reply.{Reply}
+use Rattle.ktm_world.specs.declared.reply.Reply.TheVariants.{Refused}
 use Rattle.ktm_world.specs.Changes.{changed_all}
 use Rattle.ktm_world.specs.Committed.{Work}
 use Rattle.ktm_world.specs.Decide.{decide}

@@ -8,9 +8,9 @@ use Rattle.ktm_base.specs.declared.limits.TheConstants.{MOST_LIVE, MOST_HANDLES,
 use Rattle.ktm_base.specs.declared.id.Id.{Id}
 use Rattle.ktm_base.specs.declared.id.Label.{Label}
 use Rattle.ktm_base.specs.declared.id.Pid.{Pid}
-use Rattle.ktm_types.specs.declared.change.Change.{Change}
-use Rattle.ktm_types.specs.declared.object.Handle.{Handle}
-use Rattle.ktm_types.specs.declared.object.Object.{Object}
+use Rattle.ktm_world.specs.declared.change.Change.{Change}
+use Rattle.ktm_world.specs.declared.object.Handle.{Handle}
+use Rattle.ktm_world.specs.declared.object.Object.{Object}
 use Rattle.ktm_world.specs.Keys.{Store, keys_used, changes_pending as keys_unset}
 use Rattle.ktm_world.specs.Committed.{committed_with}
 use Rattle.ktm_world.specs.Decide.{bound_file, events_of, of_files}

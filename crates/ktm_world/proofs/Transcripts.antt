@@ -3,9 +3,9 @@ use Rattle.std.specs.Prelude.{Contains}
 use Rattle.std.proofs.Common.{◌≡◌, ℕ, ◌+◌, ◌-◌, ◌≤◌, Bool, true, false, cond, List, [], ◌∷◌, length, get_or, Option, None, Some, refl, ◌∙◌, ap, subst, arith, length-drop}
 use Rattle.std.proofs.lemmas.List.{get_or-drop, get_or-map, length-map}
 use Rattle.ktm_base.specs.declared.refusal.Refusal.TheVariants.{MachineDown, MachineUp, ImageWorn}
-use Rattle.ktm_types.specs.declared.command.Line.{Line}
-use Rattle.ktm_types.specs.declared.command.Line.TheVariants.{Tick, Cut, Crash, Restart, Process}
-use Rattle.ktm_types.specs.declared.reply.Reply.TheVariants.{Refused, Done, Restarted}
+use Rattle.ktm_world.specs.declared.command.Line.{Line}
+use Rattle.ktm_world.specs.declared.command.Line.TheVariants.{Tick, Cut, Crash, Restart, Process}
+use Rattle.ktm_world.specs.declared.reply.Reply.TheVariants.{Refused, Done, Restarted}
 use Rattle.ktm_world.specs.Transcript.{answered, found, worn, CrashDoes, StartDoes, RestartDoes, Transcript}
 use Rattle.ktm_world.specs.Logs.{Group, Power, up, down, is_up, possible_by, prefixes, prefixes_from}
 use Rattle.ktm_world.specs.Scripts.{says, restarts, answer, answers}

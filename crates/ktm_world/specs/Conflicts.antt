@@ -2,9 +2,9 @@
 use Rattle.std.specs.Prelude.{ℕ, ◌==◌, ◌&&◌, ◌||◌, not, Bool, true, false, List, [], ◌∷◌, ◌++◌, map, filter, Option, Some, None, is_some, is_none}
 use Rattle.std.specs.List.{list_any, flat_map}
 use Rattle.ktm_base.specs.declared.id.Id.{Id}
-use Rattle.ktm_types.specs.declared.options.Access.{Access}
-use Rattle.ktm_types.specs.declared.options.Access.TheVariants.{Read, Write, ReadWrite}
-use Rattle.ktm_types.specs.declared.options.ShareMode.{ShareMode}
+use Rattle.ktm_world.specs.declared.options.Access.{Access}
+use Rattle.ktm_world.specs.declared.options.Access.TheVariants.{Read, Write, ReadWrite}
+use Rattle.ktm_world.specs.declared.options.ShareMode.{ShareMode}
 use Rattle.ktm_world.specs.Transactions.{same_id, is_of}
 use Rattle.ktm_world.specs.Files.{FilesNow, FileTable, OpenFile, FirstOpen, own_changes, first_open_of, is_last_version}
 use Rattle.ktm_world.specs.Holds.{Holds, Act, holds_by, meets, is_in, file_touched, file_changed, file_overwritten}

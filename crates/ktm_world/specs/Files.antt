@@ -1,9 +1,9 @@
 -- The files as they are now, and what a transaction sees of them.
 use Rattle.std.specs.Prelude.{ℕ, ◌==◌, ◌&&◌, not, Bool, List, [], ◌∷◌, ◌++◌, filter, find, Option, Some, None, if◌then◌else◌}
 use Rattle.ktm_base.specs.declared.id.Id.{Id}
-use Rattle.ktm_types.specs.declared.change.Change.{Change}
-use Rattle.ktm_types.specs.declared.options.Access.{Access}
-use Rattle.ktm_types.specs.declared.options.ShareMode.{ShareMode}
+use Rattle.ktm_world.specs.declared.change.Change.{Change}
+use Rattle.ktm_world.specs.declared.options.Access.{Access}
+use Rattle.ktm_world.specs.declared.options.ShareMode.{ShareMode}
 use Rattle.ktm_world.specs.Transactions.{same_id, is_of}
 use Rattle.ktm_world.specs.Changes.{changed_all, node_of, changes_bytes, has_made}
 use Rattle.ktm_world.specs.Keys.{Store}

@@ -4,9 +4,9 @@ use Rattle.ktm_base.specs.declared.limits.TheConstants.{MOST_HANDLES}
 use Rattle.ktm_base.specs.declared.id.Id.{Id}
 use Rattle.ktm_base.specs.declared.id.Pid.{Pid}
 use Rattle.ktm_base.specs.declared.id.Label.{Label}
-use Rattle.ktm_types.specs.declared.object.Handle.{Handle}
-use Rattle.ktm_types.specs.declared.object.Object.{Object}
-use Rattle.ktm_types.specs.declared.object.Object.TheVariants.{Transaction, Manager, Enlistment, File}
+use Rattle.ktm_world.specs.declared.object.Handle.{Handle}
+use Rattle.ktm_world.specs.declared.object.Object.{Object}
+use Rattle.ktm_world.specs.declared.object.Object.TheVariants.{Transaction, Manager, Enlistment, File}
 
 -- what a label of a process names, if it is bound
 abbrev pub object_at : List Handle → Pid → Label → Option Object

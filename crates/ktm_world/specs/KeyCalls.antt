@@ -3,8 +3,8 @@ use Rattle.std.specs.Prelude.{ℕ, ◌||◌, Bool, false, List, [], ◌∷◌, n
 use Rattle.ktm_base.specs.declared.id.Id.{Id}
 use Rattle.ktm_base.specs.declared.refusal.Refusal.{Refusal}
 use Rattle.ktm_base.specs.declared.refusal.Refusal.TheVariants.{InvalidParameter, NotFound, TransactionalConflict, NotEnoughQuota, DiskFull}
-use Rattle.ktm_types.specs.declared.reply.Reply.{Reply}
-use Rattle.ktm_types.specs.declared.reply.Reply.TheVariants.{Refused, Done, Contents, Keys}
+use Rattle.ktm_world.specs.declared.reply.Reply.{Reply}
+use Rattle.ktm_world.specs.declared.reply.Reply.TheVariants.{Refused, Done, Contents, Keys}
 use Rattle.ktm_world.specs.Keys.{KeysNow, Own, with_own, value_seen, store_seen, keys_of, is_held_by_other, keys_used, changes_pending, is_bad_key, is_bad_value}
 
 -- how many keys may be in use, and how many unset keys may wait

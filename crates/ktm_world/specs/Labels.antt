@@ -5,12 +5,12 @@ use Rattle.ktm_base.specs.declared.id.Label.{Label}
 use Rattle.ktm_base.specs.declared.id.Pid.{Pid}
 use Rattle.ktm_base.specs.declared.refusal.Refusal.{Refusal}
 use Rattle.ktm_base.specs.declared.refusal.Refusal.TheVariants.{InvalidHandle, HandleNoLongerValid, TransactionAlreadyCommitted, TransactionAlreadyAborted, TransactionNotActive}
-use Rattle.ktm_types.specs.declared.command.View.{View}
-use Rattle.ktm_types.specs.declared.command.View.TheVariants.{Plain, Transaction as Through}
-use Rattle.ktm_types.specs.declared.object.Handle.{Handle}
-use Rattle.ktm_types.specs.declared.object.Object.{Object}
-use Rattle.ktm_types.specs.declared.object.Object.TheVariants.{Manager as ManagerObject, Enlistment as EnlistmentObject, File as FileObject}
-use Rattle.ktm_types.specs.declared.object.Transaction.{Transaction}
+use Rattle.ktm_world.specs.declared.command.View.{View}
+use Rattle.ktm_world.specs.declared.command.View.TheVariants.{Plain, Transaction as Through}
+use Rattle.ktm_world.specs.declared.object.Handle.{Handle}
+use Rattle.ktm_world.specs.declared.object.Object.{Object}
+use Rattle.ktm_world.specs.declared.object.Object.TheVariants.{Manager as ManagerObject, Enlistment as EnlistmentObject, File as FileObject}
+use Rattle.ktm_world.specs.declared.object.Transaction.{Transaction}
 use Rattle.ktm_world.specs.Handles.{object_at, transaction_id}
 use Rattle.ktm_world.specs.Transactions.{transaction_at, is_active, is_committed, is_aborted}
 use Rattle.ktm_world.specs.Enlistments.{Enlistment, Manager, manager_at, enlistment_at}

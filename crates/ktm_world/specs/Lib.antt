@@ -1,3 +1,8 @@
+pub mod Values
+pub mod Completions
+pub mod EventGrammar
+pub mod Sizes
+pub mod Groups
 pub mod Handles
 pub mod Transactions
 pub mod Keys

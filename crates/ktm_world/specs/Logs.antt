@@ -1,7 +1,7 @@
 -- Logs of groups of events, and what a loss of power may leave of one.
 use Rattle.std.specs.Prelude.{ℕ, ◌+◌, Bool, true, false, List, [], ◌∷◌, length, map, drop}
-use Rattle.ktm_types.specs.declared.event.Event.{Event}
-pub use Rattle.ktm_types.specs.Groups.{Group}
+use Rattle.ktm_world.specs.declared.event.Event.{Event}
+pub use Rattle.ktm_world.specs.Groups.{Group}
 
 -- the machine is up, or it is down and one of these logs is on its disk
 pub data Power : Type 0 where

@@ -1,7 +1,7 @@
 -- What is so now: a record for each layer.
 use Rattle.std.specs.Prelude.{ℕ, Bool, List}
-use Rattle.ktm_types.specs.declared.object.Handle.{Handle}
-use Rattle.ktm_types.specs.declared.object.Transaction.{Transaction}
+use Rattle.ktm_world.specs.declared.object.Handle.{Handle}
+use Rattle.ktm_world.specs.declared.object.Transaction.{Transaction}
 use Rattle.ktm_world.specs.Durable.{Durable}
 use Rattle.ktm_world.specs.Keys.{KeysNow}
 use Rattle.ktm_world.specs.Enlistments.{Enlistment, Manager}

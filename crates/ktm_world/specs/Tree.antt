@@ -2,7 +2,7 @@
 use Rattle.std.specs.Prelude.{◌≡◌, ℕ, zero, suc, ◌+◌, ◌==◌, ◌≤◌, ◌&&◌, ◌||◌, not, Bool, true, List, [], ◌∷◌, length, map, nat_lt, Option, Some, None, is_some, find, filter, All, if◌then◌else◌, bytes_eq}
 use Rattle.std.specs.List.{list_any}
 use Rattle.ktm_base.specs.Names.{IsName, folded}
-use Rattle.ktm_types.specs.declared.recorded.Node.{Node}
+use Rattle.ktm_world.specs.declared.recorded.Node.{Node}
 pub use Rattle.ktm_content.specs.Contents.{cut_to, put_over, units_of}
 
 -- the nodes but the root, by rising number

@@ -3,9 +3,9 @@ ghost use Rattle.std.specs.Prelude.{◌≡◌, ◌==◌, not};
 ghost use Rattle.std.specs.List.{list_all};
 ghost use Rattle.ktm_world.specs.Keys.{is_bad_key, is_bad_value, is_bad_set_to, is_good_setting, are_good_settings};
 
+use crate::Setting;
 use ktm_base::{Bytes, MOST_KEY_BYTES, MOST_VALUE_BYTES, Text};
 use ktm_keyed::is_rising;
-use ktm_types::Setting;
 
 pub fn is_bad_key(key: &Text) -> bool
     ensures { result ≡ is_bad_key key.now }

@@ -2,9 +2,9 @@
 ghost use Rattle.std.specs.Prelude.{◌≡◌, ◌+◌, ◌<◌, ◌≤◌, length};
 ghost use Rattle.ktm_world.specs.Keys.{stored, stored_all};
 
+use crate::Setting;
 use ktm_base::Bytes;
 use ktm_keyed::{Keyed, KeyedList};
-use ktm_types::Setting;
 
 fn make_one(store: &mut KeyedList<Bytes>, setting: Setting)
     requires { 0 < store.old.spare }

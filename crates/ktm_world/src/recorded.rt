@@ -1,22 +1,43 @@
-// What of a transaction outlives a loss of power.
+// The parts of what outlives a loss of power.
 
-use ktm_base::Id;
-use ktm_types::{RecordedPart, Stage, Superior};
-use std::marker::Model;
+use crate::Part;
+use ktm_base::{Bytes, Id, Text};
 
-/// A transaction that is not over.
+/// A file or a directory. The root is not among them: it is a directory with the number 1.
 #[derive(Drop)]
-pub struct Recorded {
-    pub id: Id,
-    pub stage: Stage,
-    pub superior: Option<Superior>,
-    pub parts: Vec<RecordedPart>,
+pub struct Node {
+    /// At least 2; no later node has the same.
+    pub number: u64,
+    /// The number of the directory that it is in.
+    pub parent: u64,
+    pub name: Text,
+    /// The bytes of a file; a directory has none.
+    pub content: Option<Bytes>,
 }
 
-impl Model for Recorded {
-    ghost use Rattle.ktm_world.specs.Durable.{Recorded};
+/// How far a recorded transaction is.
+#[derive(Clone, Copy)]
+pub enum Stage {
+    /// Some of its parts are ready.
+    Ready,
+    /// It waits for its superior.
+    Held,
+    /// It commits.
+    Decided,
+}
 
-    ghost Value = { Recorded };
+/// The superior of a transaction that waits for it.
+#[derive(Debug, Drop)]
+pub struct Superior {
+    pub enlistment: Id,
+    pub manager: Id,
+    /// The recovery information.
+    pub information: Bytes,
+}
 
-    ghost view = { λ t. record { id = t.id; stage = t.stage; superior = t.superior; parts = t.parts.items } };
+/// What a participant of a transaction recorded, and whether it is done.
+#[derive(Drop)]
+pub struct RecordedPart {
+    pub is_done: bool,
+    pub part: Part,
 }

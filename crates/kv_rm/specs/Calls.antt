@@ -2,8 +2,8 @@
 use Rattle.std.specs.Prelude.{Bool, true, false, Option, Some, None}
 use Rattle.ktm_base.specs.declared.id.Id.{Id}
 use Rattle.ktm_base.specs.declared.refusal.Refusal.{Refusal}
-use Rattle.ktm_types.specs.declared.reply.Reply.{Reply}
-use Rattle.ktm_types.specs.declared.reply.Reply.TheVariants.{Refused}
+use Rattle.ktm_world.specs.declared.reply.Reply.{Reply}
+use Rattle.ktm_world.specs.declared.reply.Reply.TheVariants.{Refused}
 use Rattle.ktm_world.specs.KeyCalls.{KeyRoom, KeyOutcome, kv_set, kv_set_tests, kv_unset, kv_unset_tests, kv_get, kv_get_tests, kv_list}
 use Rattle.ktm_world.specs.Keys.{KeysNow}
 use Rattle.ktm_world.specs.Outcome.{first_refusal}

@@ -4,7 +4,7 @@ ghost use Rattle.kv_rm.specs.Count.{kind_of, is_of_kind, one_of, AreFew};
 ghost use Rattle.kv_rm.specs.declared.count.Kind.TheVariants.{Value, Unset};
 
 use ktm_base::Bytes;
-use ktm_types::Setting;
+use ktm_world::Setting;
 
 /// What a setting does with its key.
 #[derive(Clone, Copy)]

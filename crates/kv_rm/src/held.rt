@@ -5,7 +5,7 @@ ghost use Rattle.kv_rm.specs.Held.{AreHeld, count_at, has_hash, hash_of, one_at}
 ghost use Rattle.kv_rm.specs.declared.held.TheConstants.{HASHES};
 
 use ktm_base::NoMemory;
-use ktm_types::Setting;
+use ktm_world::Setting;
 use std::alloc::Global;
 
 // How many hashes there are.

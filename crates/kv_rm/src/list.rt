@@ -6,7 +6,7 @@ ghost use Rattle.kv_rm.specs.Split.{IsSplit};
 
 use ktm_base::{NoMemory, TextList};
 use ktm_keyed::{Slot, slot_of};
-use ktm_types::{Entry, Setting};
+use ktm_world::{Entry, Setting};
 use std::alloc::Global;
 
 // The entries whose keys come before this one, and those whose keys come after it.

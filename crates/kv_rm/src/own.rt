@@ -16,7 +16,7 @@ use crate::setting_list::SettingList;
 use ktm_base::{Bytes, Id, NoMemory, Text};
 use ktm_keyed::Slot;
 use ktm_places::{Entry, Places};
-use ktm_types::Setting;
+use ktm_world::Setting;
 use std::alloc::Global;
 use std::marker::Model;
 

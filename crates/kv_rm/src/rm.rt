@@ -2,7 +2,7 @@
 ghost use Rattle.std.specs.Prelude.{◌≡◌, ◌+◌, ◌^◌, ◌<◌, ℕ, List, [], ◌∷◌, ◌++◌, Option, IfOk, OnOk, OnErr, IsOk, count_by, is_none, length, nat_lt, true, MatchOption, ⊤};
 ghost use Rattle.std.specs.Option.{option_copied};
 ghost use Rattle.ktm_base.specs.declared.id.Id.{Id};
-ghost use Rattle.ktm_types.specs.declared.reply.Reply.TheVariants.{Done};
+ghost use Rattle.ktm_world.specs.declared.reply.Reply.TheVariants.{Done};
 ghost use Rattle.ktm_world.specs.KeyCalls.{KeyRoom, is_key_held, keys_with, with_setting};
 ghost use Rattle.ktm_keyed.specs.Keyed.{is_rising};
 ghost use Rattle.ktm_world.specs.Keys.{changes_pending, keys_used, Own, own_settings, without_own, value_seen, stored_all, store_seen, keys_of};
@@ -24,8 +24,7 @@ use crate::own::{OwnList, Seat};
 use crate::setting_list::SettingList;
 use ktm_base::{Bytes, Id, NoMemory, Refusal, Text, TextList};
 use ktm_keyed::KeyedList;
-use ktm_types::{Entry, Reply, Setting};
-use ktm_world::{is_bad_key, is_bad_value, make_all};
+use ktm_world::{Entry, Reply, Setting, is_bad_key, is_bad_value, make_all};
 use std::alloc::Global;
 use std::marker::Model;
 

@@ -6,7 +6,7 @@ ghost use Rattle.ktm_keyed.specs.Slot.{IsFree, IsHere, IsSlot};
 
 use ktm_base::{Bytes, NoMemory, Text};
 use ktm_keyed::{Keyed, Slot, slot_of};
-use ktm_types::Setting;
+use ktm_world::Setting;
 use std::alloc::Global;
 use std::marker::Model;
 

@@ -2,8 +2,8 @@
 use Rattle.std.proofs.Common.{◌≡◌, ◌∙◌, List, ℕ, [], ◌∷◌, map, Option, Some, None, is_none, if◌then◌else◌, refl, sym, ap}
 use Rattle.ktm_base.specs.declared.id.Id.{Id}
 use Rattle.ktm_base.specs.declared.refusal.Refusal.TheVariants.{FileNotFound, InvalidName, PathNotFound}
-use Rattle.ktm_types.specs.declared.recorded.Node.{Node}
-use Rattle.ktm_types.specs.declared.reply.Reply.TheVariants.{Names, Refused}
+use Rattle.ktm_world.specs.declared.recorded.Node.{Node}
+use Rattle.ktm_world.specs.declared.reply.Reply.TheVariants.{Names, Refused}
 use Rattle.ktm_world.specs.FileCalls.{entries, find_files, find_files_tests, found_entries, is_no_entry, listed, searched_directory}
 use Rattle.ktm_world.specs.FileOutcome.{FileOutcome, FileRoom, answering}
 use Rattle.ktm_world.specs.Files.{FilesNow, tree_seen}

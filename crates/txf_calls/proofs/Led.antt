@@ -1,7 +1,7 @@
 -- Where a path leads, by what is told of it.
 use Rattle.std.proofs.Common.{◌≡◌, subst}
 use Rattle.ktm_base.specs.Names.{folded}
-use Rattle.ktm_types.specs.declared.recorded.Node.{Node}
+use Rattle.ktm_world.specs.declared.recorded.Node.{Node}
 use Rattle.ktm_world.specs.FileCalls.{Whereabouts as There, no_path, no_way, free, at_root, at_node}
 use Rattle.txf_calls.specs.Leads.{Leads, seen_of}
 use Rattle.txf_calls.specs.declared.along.Whereabouts.{Whereabouts}

@@ -2,8 +2,8 @@
 use Rattle.std.proofs.Common.{◌≡◌, ◌∙◌, List, ℕ, [], ◌∷◌, Bool, true, false, Option, None, refl, ap}
 use Rattle.ktm_base.specs.declared.id.Id.{Id}
 use Rattle.ktm_base.specs.declared.refusal.Refusal.TheVariants.{AccessDenied, InvalidName, NotEnoughQuota, SharingViolation, TransactionalConflict}
-use Rattle.ktm_types.specs.declared.recorded.Node.{Node}
-use Rattle.ktm_types.specs.declared.reply.Reply.TheVariants.{Refused}
+use Rattle.ktm_world.specs.declared.recorded.Node.{Node}
+use Rattle.ktm_world.specs.declared.reply.Reply.TheVariants.{Refused}
 use Rattle.ktm_world.specs.FileCalls.{Whereabouts as There, no_path, no_way, free, at_root, at_node, conflict_test, find_path, is_open_at, move_act, move_at}
 use Rattle.ktm_world.specs.FileOutcome.{FileOutcome, FileRoom, answering, lacks_quota}
 use Rattle.ktm_world.specs.Files.{FilesNow, tree_seen}

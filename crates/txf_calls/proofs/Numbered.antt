@@ -1,9 +1,9 @@
 -- Files by their numbers: what changes of names leave of them, and that they are the only ones with their number.
 use Rattle.std.proofs.Common.{◌≡◌, ◌∙◌, ◌≤◌, ◌==◌, ◌&&◌, ◌||◌, not, ℕ, Bool, true, false, List, [], ◌∷◌, filter, nat_lt, is_some, refl, sym, ap, arith, inl, inr}
 use Rattle.std.proofs.lemmas.Bool.{cases_Bool, and_left, and_parts, both_ways, false≢true, true≢false, eqb-true, ltb-true, ne_eqb, or_cases, or_left, or_parts, or_right}
-use Rattle.ktm_types.specs.declared.change.Change.{Change}
-use Rattle.ktm_types.specs.declared.change.Change.TheVariants.{Make, Put, Cut, Move, Drop}
-use Rattle.ktm_types.specs.declared.recorded.Node.{Node}
+use Rattle.ktm_world.specs.declared.change.Change.{Change}
+use Rattle.ktm_world.specs.declared.change.Change.TheVariants.{Make, Put, Cut, Move, Drop}
+use Rattle.ktm_world.specs.declared.recorded.Node.{Node}
 use Rattle.ktm_world.specs.Changes.{changed, changed_all, changes_bytes, has_made, is_make, new_content, node_of}
 use Rattle.ktm_world.specs.Tree.{Tree, has_number, is_file, numbers_rise, with_changed, with_node, without_node}
 use Rattle.txf_calls.specs.Found.{has_file}

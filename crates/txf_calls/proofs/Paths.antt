@@ -2,7 +2,7 @@
 use Rattle.std.proofs.Common.{◌≡◌, ◌∙◌, List, ℕ, Option, None, refl, ap}
 use Rattle.ktm_base.specs.declared.id.Id.{Id}
 use Rattle.ktm_base.specs.declared.refusal.Refusal.TheVariants.{InvalidName}
-use Rattle.ktm_types.specs.declared.reply.Reply.TheVariants.{Refused}
+use Rattle.ktm_world.specs.declared.reply.Reply.TheVariants.{Refused}
 use Rattle.ktm_world.specs.FileCalls.{create_directory, create_directory_tests, delete_file, delete_file_tests, find_path, move_file, move_file_tests, remove_directory, remove_directory_tests}
 use Rattle.ktm_world.specs.FileOutcome.{FileRoom, answering}
 use Rattle.ktm_world.specs.Files.{FilesNow, tree_seen}

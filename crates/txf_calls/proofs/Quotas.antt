@@ -2,7 +2,7 @@
 use Rattle.std.proofs.Common.{◌≡◌, ◌||◌, Bool, true, false, [], ◌∷◌, Option, Some, None, nat_lt, ◌==◌, ◌&&◌, ◌+◌, is_some, refl, ap, ◌∙◌}
 use Rattle.ktm_base.specs.declared.limits.TheConstants.{MOST_NUMBER, END_OF_NODES}
 use Rattle.ktm_base.specs.declared.id.Id.{Id}
-use Rattle.ktm_types.specs.declared.reply.Reply.TheVariants.{Refused}
+use Rattle.ktm_world.specs.declared.reply.Reply.TheVariants.{Refused}
 use Rattle.ktm_base.specs.declared.refusal.Refusal.TheVariants.{NotEnoughQuota, SharingViolation, TransactionalConflict}
 use Rattle.ktm_world.specs.Conflicts.{conflicts}
 use Rattle.ktm_world.specs.FileCalls.{limit_tests}

@@ -8,8 +8,8 @@ use Rattle.ktm_base.specs.declared.limits.TheConstants.{MOST_AT_ONCE, UNIT_BYTES
 use Rattle.ktm_base.specs.declared.refusal.Refusal.{Refusal}
 use Rattle.ktm_base.specs.declared.refusal.Refusal.TheVariants.{AccessDenied, DiskFull, InvalidParameter}
 use Rattle.ktm_base.specs.declared.id.Id.{Id}
-use Rattle.ktm_types.specs.declared.change.Change.TheVariants.{Put, Cut}
-use Rattle.ktm_types.specs.declared.change.Contents.TheVariants.{Whole}
+use Rattle.ktm_world.specs.declared.change.Change.TheVariants.{Put, Cut}
+use Rattle.ktm_world.specs.declared.change.Contents.TheVariants.{Whole}
 use Rattle.ktm_world.specs.Conflicts.{writes}
 use Rattle.ktm_world.specs.FileCalls.{set_end, set_end_tests, write_file, write_file_tests, write_units_tests}
 use Rattle.ktm_world.specs.FileOutcome.{FileOutcome, FileRoom, changing, files_after, lacks_disk}
@@ -17,8 +17,8 @@ use Rattle.ktm_world.specs.Files.{FilesNow, OpenFile, bytes_seen}
 use Rattle.ktm_world.specs.FileUses.{nodes_used, units_used}
 use Rattle.ktm_world.specs.Tree.{cut_to, numbers_rise, put_over}
 use Rattle.ktm_content.proofs.offered.PutBytes.{length-put_over}
-use Rattle.ktm_alike.specs.Alike.{mapped_files}
-use Rattle.ktm_alike.proofs.offered.Outcomes.{nodes_used-mapped, units_used-mapped}
+use Rattle.ktm_replaced.specs.Alike.{mapped_files}
+use Rattle.ktm_replaced.specs.Outcomes.{nodes_used-mapped, units_used-mapped}
 use Rattle.ktm_replaced.specs.Replaced.{AreOutcomesAlike}
 use Rattle.ktm_replaced.proofs.offered.Calls.{own-alike, plain-alike}
 use Rattle.ktm_world.specs.Outcome.{first_refusal}

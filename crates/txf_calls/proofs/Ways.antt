@@ -3,7 +3,7 @@ use Rattle.std.proofs.Common.{◌≡◌, ◌==◌, ◌&&◌, ◌+◌, Bor, subst
 use Rattle.std.specs.List.{slice_get}
 use Rattle.std.proofs.lemmas.Slice.Eq.{bytes_eq-Decides}
 use Rattle.ktm_base.specs.Names.{folded}
-use Rattle.ktm_types.specs.declared.recorded.Node.{Node}
+use Rattle.ktm_world.specs.declared.recorded.Node.{Node}
 use Rattle.ktm_world.specs.FileCalls.{Whereabouts, no_way, directory_of, entered, reached, walk}
 use Rattle.ktm_world.specs.Tree.{Tree, child_of, root, same_name}
 use Rattle.txf_calls.specs.Leads.{Leads, seen_of, way}

@@ -2,7 +2,7 @@
 use Rattle.std.specs.Prelude.{◌≡◌, ℕ, ◌+◌, ◌≤◌, max, length, Bool, true, false, List, [], ◌∷◌, Option, Some, None}
 use Rattle.ktm_base.specs.declared.id.Id.{Id}
 use Rattle.ktm_base.specs.declared.refusal.Refusal.{Refusal}
-use Rattle.ktm_types.specs.declared.reply.Reply.TheVariants.{Refused}
+use Rattle.ktm_world.specs.declared.reply.Reply.TheVariants.{Refused}
 use Rattle.ktm_world.specs.FileCalls.{create_file, create_file_tests, write_file, write_file_tests, write_units_tests, set_end, set_end_tests, get_size, flush_file, write_access_test, delete_file, delete_file_tests, create_directory, create_directory_tests, remove_directory, remove_directory_tests, move_file, move_file_tests, find_files, find_files_tests}
 use Rattle.ktm_world.specs.FileOutcome.{FileOutcome, FileRoom, answering}
 use Rattle.ktm_world.specs.Files.{FilesNow, bytes_seen}

@@ -1,7 +1,7 @@
 -- Where a path leads, as a caller is told it.
 use Rattle.std.specs.Prelude.{◌≡◌, ℕ, List, [], ◌∷◌, Option, Some, is_some, option_and_then}
 use Rattle.ktm_base.specs.Names.{folded}
-use Rattle.ktm_types.specs.declared.recorded.Node.{Node}
+use Rattle.ktm_world.specs.declared.recorded.Node.{Node}
 use Rattle.ktm_world.specs.FileCalls.{Whereabouts as There, no_way, free, at_root, at_node, entered}
 use Rattle.ktm_world.specs.Tree.{Tree, child_of}
 use Rattle.txf_calls.specs.declared.along.Whereabouts.{Whereabouts}

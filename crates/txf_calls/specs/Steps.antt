@@ -3,8 +3,8 @@ use Rattle.std.specs.Prelude.{ℕ, Bool, true, false, List, [], ◌∷◌, Optio
 use Rattle.ktm_base.specs.declared.id.Id.{Id}
 use Rattle.ktm_base.specs.declared.refusal.Refusal.{Refusal}
 use Rattle.ktm_base.specs.declared.refusal.Refusal.TheVariants.{AccessDenied, FileExists, NotEnoughQuota, SharingViolation, TransactionalConflict}
-use Rattle.ktm_types.specs.declared.options.Disposition.{Disposition}
-use Rattle.ktm_types.specs.declared.change.Change.TheVariants.{Drop}
+use Rattle.ktm_world.specs.declared.options.Disposition.{Disposition}
+use Rattle.ktm_world.specs.declared.change.Change.TheVariants.{Drop}
 use Rattle.ktm_world.specs.Conflicts.{conflicts}
 use Rattle.ktm_world.specs.FileCalls.{limit_tests, wants_new}
 use Rattle.ktm_world.specs.FileOutcome.{FileOutcome, FileRoom, changing, lacks_quota}

@@ -3,9 +3,9 @@ use Rattle.std.specs.Prelude.{◌&&◌, ◌||◌, [], ◌∷◌, Option}
 use Rattle.ktm_base.specs.declared.id.Id.{Id}
 use Rattle.ktm_base.specs.declared.refusal.Refusal.{Refusal}
 use Rattle.ktm_base.specs.declared.refusal.Refusal.TheVariants.{AccessDenied, AlreadyExists, DirNotEmpty, FileExists, FileNotFound, InvalidName, NotEnoughQuota, PathNotFound, SharingViolation}
-use Rattle.ktm_types.specs.declared.options.Access.{Access}
-use Rattle.ktm_types.specs.declared.options.Disposition.{Disposition}
-use Rattle.ktm_types.specs.declared.options.ShareMode.{ShareMode}
+use Rattle.ktm_world.specs.declared.options.Access.{Access}
+use Rattle.ktm_world.specs.declared.options.Disposition.{Disposition}
+use Rattle.ktm_world.specs.declared.options.ShareMode.{ShareMode}
 use Rattle.ktm_world.specs.FileCalls.{Whereabouts, conflict_test, create_act, create_at, create_violates, delete_act, drop_at, is_at_directory, is_at_file, is_free_name, is_into_itself, is_no_path, is_no_way, is_not_empty, is_open_at, is_root, is_taken, limit_tests, make_act, make_at, move_act, move_at, remove_act, wants_existing, wants_new}
 use Rattle.ktm_world.specs.FileOutcome.{FileOutcome, FileRoom, lacks_quota}
 use Rattle.ktm_world.specs.Files.{FilesNow, tree_seen}

@@ -1,7 +1,7 @@
 // The calls on files.
 use ktm_base::Text;
 use ktm_content::Placed;
-use ktm_types::{Access, Disposition, ShareMode};
+use ktm_world::{Access, Disposition, ShareMode};
 use std::marker::Model;
 use txf_opens::OpenFile;
 

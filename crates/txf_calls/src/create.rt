@@ -1,7 +1,7 @@
 // CreateFile, plain or in a transaction.
 ghost use Rattle.std.specs.Prelude.{◌≡◌, ◌≤◌, ◌&&◌, not, true, IfOk, IfSome, IfNone, length};
 ghost use Rattle.ktm_base.specs.declared.limits.TheConstants.{MOST_NUMBER, MOST_NAME_BYTES};
-ghost use Rattle.ktm_types.specs.declared.recorded.Node.{Node};
+ghost use Rattle.ktm_world.specs.declared.recorded.Node.{Node};
 ghost use Rattle.ktm_world.specs.Conflicts.{writes};
 ghost use Rattle.ktm_world.specs.FileCalls.{Whereabouts as There, at_node, create_at, empties, emptying, first_opening, free, is_truncate_existing, new_open};
 ghost use Rattle.ktm_world.specs.Files.{tree_seen};
@@ -23,7 +23,7 @@ use crate::plan::{Plan, making, within_limits};
 use crate::view::Seen;
 use crate::volume::Volume;
 use ktm_base::{Id, NoMemory, PageList, Refusal, Text};
-use ktm_types::{Access, Change, Disposition, NodeKind, Reply, ShareMode};
+use ktm_world::{Access, Change, Disposition, NodeKind, Reply, ShareMode};
 use std::alloc::Global;
 use txf_opens::{Act, OpenFile, Place, writes};
 

@@ -16,7 +16,7 @@ use crate::caller::{path_of, whereabouts};
 use crate::plan::{Plan, making, within_limits};
 use crate::volume::Volume;
 use ktm_base::{Id, NoMemory, Refusal, Text};
-use ktm_types::NodeKind;
+use ktm_world::NodeKind;
 use std::alloc::Global;
 use txf_opens::{Act, Place};
 

@@ -17,7 +17,7 @@ use crate::plan::{Plan, unless_refused};
 use crate::volume::Volume;
 use ktm_base::{Id, MOST_AT_ONCE, PageList, Refusal};
 use ktm_content::Placed;
-use ktm_types::{Change, Contents, Reply};
+use ktm_world::{Change, Contents, Reply};
 use std::alloc::Global;
 use txf_opens::{OpenFile, reads, writes};
 

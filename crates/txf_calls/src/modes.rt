@@ -2,7 +2,7 @@
 ghost use Rattle.std.specs.Prelude.{◌≡◌};
 ghost use Rattle.ktm_world.specs.FileCalls.{empties, is_truncate_existing, wants_existing, wants_new};
 
-use ktm_types::Disposition;
+use ktm_world::Disposition;
 
 /// Does the call empty a file that is there.
 pub(crate) fn empties(disposition: Disposition) -> bool

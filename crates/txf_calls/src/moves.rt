@@ -3,9 +3,9 @@ ghost use Rattle.std.specs.Prelude.{◌≡◌, ℕ, ◌≤◌, List, ◌∷◌, 
 ghost use Rattle.ktm_base.specs.declared.limits.TheConstants.{MOST_NAME_BYTES};
 ghost use Rattle.ktm_base.specs.Names.{folded};
 ghost use Rattle.ktm_base.specs.declared.refusal.Refusal.TheVariants.{SharingViolation};
-ghost use Rattle.ktm_types.specs.declared.change.Change.TheVariants.{Move as Shift};
-ghost use Rattle.ktm_types.specs.declared.recorded.Node.{Node};
-ghost use Rattle.ktm_types.specs.declared.reply.Reply.TheVariants.{Refused};
+ghost use Rattle.ktm_world.specs.declared.change.Change.TheVariants.{Move as Shift};
+ghost use Rattle.ktm_world.specs.declared.recorded.Node.{Node};
+ghost use Rattle.ktm_world.specs.declared.reply.Reply.TheVariants.{Refused};
 ghost use Rattle.ktm_world.specs.FileCalls.{Whereabouts as There, at_node, at_root, conflict_test, find_path, free, is_open_at, move_act};
 ghost use Rattle.ktm_world.specs.FileOutcome.{answering};
 ghost use Rattle.ktm_world.specs.Outcome.{first_refusal};
@@ -23,7 +23,7 @@ use crate::plan::{Plan, within_quota};
 use crate::view::Seen;
 use crate::volume::Volume;
 use ktm_base::{Id, NoMemory, Refusal, Text};
-use ktm_types::Change;
+use ktm_world::Change;
 use std::alloc::Global;
 use txf_opens::{Act, Place};
 

@@ -1,7 +1,7 @@
 // What a call comes to.
 ghost use Rattle.std.specs.Prelude.{◌≡◌, IfOk, Some, None};
-ghost use Rattle.ktm_types.specs.declared.change.Change.TheVariants.{Make};
-ghost use Rattle.ktm_types.specs.declared.reply.Reply.TheVariants.{Done, Refused};
+ghost use Rattle.ktm_world.specs.declared.change.Change.TheVariants.{Make};
+ghost use Rattle.ktm_world.specs.declared.reply.Reply.TheVariants.{Done, Refused};
 ghost use Rattle.std.specs.Prelude.{◌∷◌, []};
 ghost use Rattle.ktm_base.specs.declared.refusal.Refusal.TheVariants.{NotEnoughQuota};
 ghost use Rattle.ktm_world.specs.FileCalls.{limit_tests};
@@ -13,7 +13,7 @@ ghost use Rattle.txf_calls.specs.Fits.{IsFit};
 use crate::call::Room;
 use crate::volume::Volume;
 use ktm_base::{Id, NoMemory, Refusal, Text};
-use ktm_types::{Change, NodeKind, Reply};
+use ktm_world::{Change, NodeKind, Reply};
 use std::alloc::Global;
 use std::marker::Model;
 use txf_opens::{OpenFile, Place};

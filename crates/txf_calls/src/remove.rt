@@ -2,7 +2,7 @@
 ghost use Rattle.std.specs.Prelude.{◌≡◌, ◌≤◌, IfOk, length};
 ghost use Rattle.ktm_base.specs.declared.limits.TheConstants.{MOST_NAME_BYTES};
 ghost use Rattle.ktm_base.specs.Names.{folded};
-ghost use Rattle.ktm_types.specs.declared.recorded.Node.{Node};
+ghost use Rattle.ktm_world.specs.declared.recorded.Node.{Node};
 ghost use Rattle.ktm_world.specs.FileCalls.{Whereabouts as There, at_node};
 ghost use Rattle.ktm_world.specs.Files.{tree_seen};
 ghost use Rattle.txf_calls.specs.Calls.{file_outcome};
@@ -20,7 +20,7 @@ use crate::plan::{Plan, within_quota};
 use crate::view::Seen;
 use crate::volume::Volume;
 use ktm_base::{Id, NoMemory, Refusal, Text};
-use ktm_types::Change;
+use ktm_world::Change;
 use std::alloc::Global;
 use txf_opens::{Act, Place};
 

@@ -1,7 +1,7 @@
 // FindFiles, plain or in a transaction.
 ghost use Rattle.std.specs.Prelude.{◌≡◌, ℕ, List, IfOk, MatchOption, None, Some, if◌then◌else◌};
 ghost use Rattle.ktm_base.specs.declared.refusal.Refusal.TheVariants.{FileNotFound};
-ghost use Rattle.ktm_types.specs.declared.reply.Reply.TheVariants.{Names, Refused};
+ghost use Rattle.ktm_world.specs.declared.reply.Reply.TheVariants.{Names, Refused};
 ghost use Rattle.ktm_world.specs.FileOutcome.{FileRoom, answering};
 ghost use Rattle.ktm_world.specs.Paths.{pattern_of};
 ghost use Rattle.txf_calls.specs.Calls.{file_outcome};
@@ -17,8 +17,7 @@ use crate::plan::Plan;
 use crate::volume::Volume;
 use ktm_base::{Id, NoMemory, Refusal, Text, TextList};
 use ktm_names::{PathFault, Pattern};
-use ktm_types::Reply;
-use ktm_world::law_of_paths;
+use ktm_world::{Reply, law_of_paths};
 use std::alloc::Global;
 
 // The pattern that a text is, if it is one.

@@ -4,9 +4,9 @@ use Rattle.std.proofs.Math.Bool.{or-false}
 use Rattle.std.proofs.lemmas.Bool.{and_parts, or_right, true≢false}
 use Rattle.std.proofs.lemmas.List.{append-nil}
 use Rattle.std.specs.List.{flat_map, list_any}
-use Rattle.ktm_types.specs.declared.change.Change.{Change}
-use Rattle.ktm_types.specs.declared.change.Change.TheVariants.{Make, Put, Cut, Move, Drop}
-use Rattle.ktm_types.specs.declared.recorded.Node.{Node}
+use Rattle.ktm_world.specs.declared.change.Change.{Change}
+use Rattle.ktm_world.specs.declared.change.Change.TheVariants.{Make, Put, Cut, Move, Drop}
+use Rattle.ktm_world.specs.declared.recorded.Node.{Node}
 use Rattle.ktm_world.specs.Changes.{applies, changes_bytes, is_empty_list, is_whole, node_of}
 use Rattle.ktm_world.specs.Durable.{act_of_node, acts_of}
 use Rattle.ktm_world.specs.Holds.{Act, Place, deletes, directory_dropped, dropped_directory, drops_directory, is_move_of_directory, moved_directory, moves_directory, moves_file, opens, place, place_of, places_changed, places_of}

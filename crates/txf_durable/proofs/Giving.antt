@@ -5,10 +5,10 @@ use Rattle.std.specs.List.{list_all}
 use Rattle.std.proofs.lemmas.Bool.{and_from, and_parts, cases_Bool, eq-eqb, eqb-true, leb-true, not_from_false, or_cases, true≢false}
 use Rattle.std.proofs.lemmas.List.Sums.{fold-append, sum_by-append, sum_by-cons}
 use Rattle.std.proofs.lemmas.Option.{none-some, same_Some}
-use Rattle.ktm_types.specs.declared.change.Change.{Change}
-use Rattle.ktm_types.specs.declared.change.Change.TheVariants.{Make, Put, Cut, Move, Drop}
-use Rattle.ktm_types.specs.declared.change.Contents.{Contents}
-use Rattle.ktm_types.specs.declared.recorded.Node.{Node}
+use Rattle.ktm_world.specs.declared.change.Change.{Change}
+use Rattle.ktm_world.specs.declared.change.Change.TheVariants.{Make, Put, Cut, Move, Drop}
+use Rattle.ktm_world.specs.declared.change.Contents.{Contents}
+use Rattle.ktm_world.specs.declared.recorded.Node.{Node}
 use Rattle.ktm_world.specs.Changes.{applies, bytes_in, changed, changed_all, changes_apply, changes_bytes, has_changes, is_whole, node_of}
 use Rattle.ktm_world.specs.Committed.{with_number, written_after, written_files}
 use Rattle.ktm_world.specs.Durable.{are_final_bytes, are_recorded_changes, ends_in_bytes, gives_bytes, was_cut}

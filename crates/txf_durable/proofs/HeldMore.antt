@@ -6,7 +6,7 @@ use Rattle.std.proofs.lemmas.List.{append-nil, map-append}
 use Rattle.std.proofs.lemmas.List.Folds.{list_any-append}
 use Rattle.std.specs.List.{list_all, list_any}
 use Rattle.ktm_base.specs.declared.id.Id.{Id}
-use Rattle.ktm_types.specs.declared.change.Change.{Change}
+use Rattle.ktm_world.specs.declared.change.Change.{Change}
 use Rattle.ktm_world.specs.Changes.{applies, changed, changed_all, changes_bytes, node_of}
 use Rattle.ktm_world.specs.Durable.{acts_of}
 use Rattle.ktm_world.specs.Holds.{Act, Place, directories_of, directory_dropped, dropped_directory, each_change, holds_by, is_in, is_move_of_directory, is_place_in, moved_directory, places_changed, places_of, same_place}

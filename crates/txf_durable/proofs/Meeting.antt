@@ -5,7 +5,7 @@ use Rattle.std.proofs.lemmas.Bool.{and_parts}
 use Rattle.std.proofs.lemmas.List.Folds.{list_any-append}
 use Rattle.std.specs.List.{list_all, list_any}
 use Rattle.ktm_base.specs.declared.id.Id.{Id}
-use Rattle.ktm_types.specs.declared.change.Change.{Change}
+use Rattle.ktm_world.specs.declared.change.Change.{Change}
 use Rattle.ktm_world.specs.Changes.{applies, changed, changed_all, changes_apply, changes_bytes, is_make, node_of}
 use Rattle.ktm_world.specs.Durable.{acts_of, acts_of_all}
 use Rattle.ktm_world.specs.Holds.{Act, opens}

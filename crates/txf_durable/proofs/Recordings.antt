@@ -4,8 +4,8 @@ use Rattle.std.specs.List.{list_all, position, prefix_len}
 use Rattle.std.specs.Option.{unwrap_or}
 use Rattle.std.proofs.lemmas.Bool.{and_from, and_parts, and_right, cases_Bool, eqb-true, eqb-false, leb-true, leb-false, ltb-false, not-true, true≢false}
 use Rattle.std.proofs.lemmas.List.{drop_all, take_all}
-use Rattle.ktm_types.specs.declared.change.Change.{Change}
-use Rattle.ktm_types.specs.declared.change.Change.TheVariants.{Make, Put, Cut, Move, Drop}
+use Rattle.ktm_world.specs.declared.change.Change.{Change}
+use Rattle.ktm_world.specs.declared.change.Change.TheVariants.{Make, Put, Cut, Move, Drop}
 use Rattle.ktm_world.specs.Changes.{changes_bytes, has_changes, node_of}
 use Rattle.ktm_world.specs.Durable.{are_final_bytes, are_recorded_changes, ends_in_bytes, gives_bytes, made_files}
 use Rattle.ktm_world.specs.Committed.{written_files}

@@ -1,7 +1,7 @@
 -- The places of nodes. No public clause cites this module.
 use Rattle.std.specs.Prelude.{Option, Some, None}
-use Rattle.ktm_types.specs.declared.change.Change.{Change}
-use Rattle.ktm_types.specs.declared.change.Change.TheVariants.{Make, Put, Cut, Move, Drop}
+use Rattle.ktm_world.specs.declared.change.Change.{Change}
+use Rattle.ktm_world.specs.declared.change.Change.TheVariants.{Make, Put, Cut, Move, Drop}
 use Rattle.ktm_world.specs.Holds.{Place, place}
 
 -- the place to which a change brings its node

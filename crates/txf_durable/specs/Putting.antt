@@ -1,7 +1,7 @@
 -- What the first of some recorded changes come to in the form in which changes are committed.
 use Rattle.std.specs.Prelude.{ℕ, ◌==◌, List, [], fold, if◌then◌else◌}
-use Rattle.ktm_types.specs.declared.change.Change.{Change}
-use Rattle.ktm_types.specs.declared.change.Change.TheVariants.{Make, Put, Cut, Move, Drop}
+use Rattle.ktm_world.specs.declared.change.Change.{Change}
+use Rattle.ktm_world.specs.declared.change.Change.TheVariants.{Make, Put, Cut, Move, Drop}
 use Rattle.ktm_world.specs.Changes.{bytes_in}
 use Rattle.ktm_world.specs.Committed.{changes_to_commit}
 

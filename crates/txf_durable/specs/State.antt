@@ -1,6 +1,6 @@
 -- What a contract sees of the files that a log comes to.
 use Rattle.std.specs.Prelude.{◌≡◌, ℕ, ◌+◌, ◌<◌, ◌≤◌, ◌^◌, true, List, [], ◌∷◌, sum_by}
-use Rattle.ktm_types.specs.declared.change.Change.{Change}
+use Rattle.ktm_world.specs.declared.change.Change.{Change}
 use Rattle.ktm_world.specs.Changes.{changed}
 use Rattle.ktm_world.specs.Tree.{Tree, IsWellFormed, bytes_or_none, units_of}
 use Rattle.txf_tree.specs.TreeState.{TreeState, fits, takes, tree_of, versions_of, KeepsRoom}

@@ -2,7 +2,7 @@
 use Rattle.std.specs.Prelude.{◌≡◌, ◌&&◌, ◌||◌, true, false, Bool, List, [], map, Option}
 use Rattle.std.specs.List.{list_any}
 use Rattle.ktm_base.specs.declared.id.Id.{Id}
-use Rattle.ktm_types.specs.declared.change.Change.{Change}
+use Rattle.ktm_world.specs.declared.change.Change.{Change}
 use Rattle.ktm_world.specs.Changes.{is_make, node_of}
 use Rattle.ktm_world.specs.Durable.{acts_of_all}
 use Rattle.ktm_world.specs.Holds.{dropped_directory, each_change, holds_by, moved_directory, places_of}

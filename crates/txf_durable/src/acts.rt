@@ -2,8 +2,8 @@
 ghost use Rattle.std.specs.Prelude.{◌≡◌, ◌≤◌, ◌∷◌, [], Some, true, is_some, length};
 ghost use Rattle.std.specs.Option.{option_map};
 ghost use Rattle.ktm_base.specs.declared.limits.TheConstants.{MOST_NAME_BYTES};
-ghost use Rattle.ktm_types.specs.declared.recorded.Node.{Node};
-ghost use Rattle.ktm_types.specs.declared.change.Change.TheVariants.{Move, Drop};
+ghost use Rattle.ktm_world.specs.declared.recorded.Node.{Node};
+ghost use Rattle.ktm_world.specs.declared.change.Change.TheVariants.{Move, Drop};
 ghost use Rattle.ktm_world.specs.Changes.{applies};
 ghost use Rattle.ktm_world.specs.Durable.{acts_of};
 ghost use Rattle.ktm_world.specs.Holds.{directory_dropped, is_move_of_directory, makes, opens, place, places_changed};
@@ -15,7 +15,7 @@ ghost use Rattle.txf_overlay.specs.Views.{StandsOver};
 ghost use Rattle.txf_reserve.specs.Acts.{listed, places_held};
 ghost use Rattle.txf_tree.specs.TreeState.{tree_of};
 
-use ktm_types::{Access, Change, ShareMode};
+use ktm_world::{Access, Change, ShareMode};
 use txf_opens::{Act, Place};
 use txf_overlay::Overlay;
 use txf_reserve::Held;

@@ -7,7 +7,7 @@ ghost use Rattle.ktm_world.specs.Tree.{Tree, bytes_of, units_of};
 ghost use Rattle.txf_durable.specs.Recorded.{units_put};
 
 use ktm_base::UNIT_BYTES;
-use ktm_types::Change;
+use ktm_world::Change;
 use txf_tree::{bytes_in, changes_bytes};
 
 /// How many of the changes make, move or drop a node.

@@ -11,7 +11,7 @@ ghost use Rattle.txf_durable.specs.State.{CanMake, CanMakeAll, IsCounted, IsMade
 use crate::recorded::split_at_bytes;
 use crate::tried::{next_after_all, would_apply};
 use ktm_base::{NoMemory, UNIT_BYTES};
-use ktm_types::Change;
+use ktm_world::Change;
 use std::alloc::Global;
 use std::marker::Model;
 use txf_laws::law_of_forms;

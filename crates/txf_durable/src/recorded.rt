@@ -8,7 +8,7 @@ ghost use Rattle.txf_durable.specs.Recorded.{are_names, begins_with, begins_with
 
 use crate::numbers::FileNumbers;
 use crate::written::gather_written;
-use ktm_types::Change;
+use ktm_world::Change;
 use txf_tree::{changes_bytes, node_of};
 
 // Where the first change of bytes is.

@@ -10,7 +10,7 @@ ghost use Rattle.txf_overlay.specs.Views.{StandsOver};
 ghost use Rattle.txf_tree.specs.TreeState.{tree_of};
 
 use ktm_base::NoMemory;
-use ktm_types::Change;
+use ktm_world::Change;
 use std::alloc::Global;
 use txf_laws::law_of_forms;
 use txf_overlay::Overlay;

@@ -21,7 +21,7 @@ use crate::files::DurableFiles;
 use crate::recorded::split_at_bytes;
 use crate::tried::lay;
 use ktm_base::{Id, NoMemory};
-use ktm_types::Change;
+use ktm_world::Change;
 use std::alloc::Global;
 use std::marker::Model;
 use txf_opens::{Act, Opens};

@@ -4,7 +4,7 @@ ghost use Rattle.ktm_world.specs.Changes.{is_make_of_file};
 ghost use Rattle.ktm_world.specs.Committed.{written_after, written_files};
 
 use crate::numbers::FileNumbers;
-use ktm_types::{Change, NodeKind};
+use ktm_world::{Change, NodeKind};
 use txf_tree::{changes_bytes, is_drop, node_of};
 
 fn is_make_of_file(change: &Change) -> bool

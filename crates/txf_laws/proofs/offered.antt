@@ -3,10 +3,13 @@ pub mod ChangeTests
 pub mod CommitsOfOthers
 pub mod CommittedUnits
 pub mod Diamonds
+pub mod DoneEvents
 pub mod Elements
 pub mod FirstOpening
 pub mod Formed
+pub mod GoodTransactions
 pub mod Holds
+pub mod Limits
 pub mod Lists
 pub mod NodeKinds
 pub mod NodeNumbers
@@ -14,9 +17,13 @@ pub mod NormalForms
 pub mod OlderVersions
 pub mod Openings
 pub mod OwnChange
+pub mod OwnGroups
+pub mod Parts
 pub mod Pigeons
 pub mod PlainChange
 pub mod Reservations
+pub mod Settings
 pub mod Sums
 pub mod Tables
 pub mod Versions
+pub mod WaitingChanges

@@ -1,7 +1,7 @@
 -- When two changes apply in both orders.
 use Rattle.std.specs.Prelude.{◌≡◌, ◌&&◌, true, false, map}
 use Rattle.std.specs.List.{list_any}
-use Rattle.ktm_types.specs.declared.change.Change.{Change}
+use Rattle.ktm_world.specs.declared.change.Change.{Change}
 use Rattle.ktm_world.specs.Changes.{changed, applies, node_of}
 use Rattle.ktm_world.specs.Holds.{meet_in, same_place, places_of, dropped_directory, moved_directory}
 use Rattle.ktm_world.specs.Tree.{Tree, IsWellFormed}

@@ -5,7 +5,7 @@ use Rattle.ktm_world.specs.Files.{FilesNow, OpenFile, OwnChanges, FileTable, fir
 use Rattle.ktm_world.specs.Tree.{node_at, numbers_rise, is_file}
 use Rattle.ktm_world.specs.FileUses.{file_changes_waiting, nodes_used, units_used}
 use Rattle.txf_laws.specs.Reservations.{IsLeft, files_committed}
-use Rattle.ktm_types.specs.declared.change.Change.{Change}
+use Rattle.ktm_world.specs.declared.change.Change.{Change}
 use Rattle.ktm_world.specs.Changes.{applies, is_make, node_of, has_made}
 use Rattle.ktm_world.specs.Committed.{version_of, Version}
 use Rattle.ktm_world.specs.FileOutcome.{FileOutcome, files_after}

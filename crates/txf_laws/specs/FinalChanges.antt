@@ -1,6 +1,6 @@
 -- What a transaction's changes are in the form in which they are committed.
 use Rattle.std.specs.Prelude.{◌≡◌, ℕ, not, true, List, [], ◌∷◌, ◌++◌, filter}
-use Rattle.ktm_types.specs.declared.change.Change.{Change}
+use Rattle.ktm_world.specs.declared.change.Change.{Change}
 use Rattle.ktm_world.specs.Changes.{changed_all, applies, changes_apply, changes_bytes}
 use Rattle.ktm_world.specs.Committed.{changes_to_commit, written_files}
 use Rattle.ktm_world.specs.Files.{bytes_after}

@@ -1,7 +1,7 @@
 -- What lists of changes hold, and when two of them apply in both orders.
 use Rattle.std.specs.Prelude.{◌≡◌, ℕ, ◌&&◌, true, false, List, map}
 use Rattle.std.specs.List.{list_any}
-use Rattle.ktm_types.specs.declared.change.Change.{Change}
+use Rattle.ktm_world.specs.declared.change.Change.{Change}
 use Rattle.ktm_world.specs.Changes.{changed_all, changes_apply, is_make, node_of, has_made}
 use Rattle.ktm_world.specs.Durable.{acts_of_all}
 use Rattle.ktm_world.specs.Holds.{Place, each_change, holds_by, meets, same_place, places_of, dropped_directory, moved_directory}

@@ -1,6 +1,6 @@
 -- What keeps a tree well formed.
 use Rattle.std.specs.Prelude.{◌≡◌, true, List}
-use Rattle.ktm_types.specs.declared.change.Change.{Change}
+use Rattle.ktm_world.specs.declared.change.Change.{Change}
 use Rattle.ktm_world.specs.Changes.{changed, changed_all, applies, changes_apply}
 use Rattle.ktm_world.specs.Tree.{Tree, IsWellFormed}
 

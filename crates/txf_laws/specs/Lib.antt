@@ -11,3 +11,7 @@ pub mod OwnChange
 pub mod PlainChange
 pub mod Reservations
 pub mod SoundFiles
+pub mod GoodState
+pub mod GoodStates
+pub mod Grammatical
+pub mod OwnGroup

@@ -1,8 +1,8 @@
 -- One change more of a transaction.
 use Rattle.std.specs.Prelude.{◌≡◌, ℕ, ◌≤◌, ◌^◌, true, false, Some, is_none}
 use Rattle.ktm_base.specs.declared.id.Id.{Id}
-use Rattle.ktm_types.specs.declared.change.Change.{Change}
-use Rattle.ktm_types.specs.declared.object.Transaction.{Transaction}
+use Rattle.ktm_world.specs.declared.change.Change.{Change}
+use Rattle.ktm_world.specs.declared.object.Transaction.{Transaction}
 use Rattle.ktm_world.specs.Changes.{applies, changes_bytes, is_drop, is_make, next_after, node_of}
 use Rattle.ktm_world.specs.Conflicts.{holds_now, writes}
 use Rattle.ktm_world.specs.Files.{FilesNow, FirstOpen, OpenFile, with_own_changes, changes_with, is_last_version, tree_seen}

@@ -1,7 +1,7 @@
 -- A change that a plain call commits.
 use Rattle.std.specs.Prelude.{◌≡◌, ◌≤◌, ◌^◌, true, false, None, is_none, [], ◌∷◌}
-use Rattle.ktm_types.specs.declared.change.Change.{Change}
-use Rattle.ktm_types.specs.declared.object.Transaction.{Transaction}
+use Rattle.ktm_world.specs.declared.change.Change.{Change}
+use Rattle.ktm_world.specs.declared.object.Transaction.{Transaction}
 use Rattle.ktm_world.specs.Changes.{applies, changes_bytes, is_drop, is_make, next_after, node_of}
 use Rattle.ktm_world.specs.Conflicts.{holds_now, writes}
 use Rattle.ktm_world.specs.Decide.{of_files}

@@ -1,8 +1,8 @@
 -- What a commit or a plain call leaves of what another transaction holds.
 use Rattle.std.specs.Prelude.{◌≡◌, ℕ, ◌||◌, not, true, false, [], ◌∷◌, filter, map, Some, None, is_none}
 use Rattle.ktm_base.specs.declared.id.Id.{Id}
-use Rattle.ktm_types.specs.declared.change.Change.{Change}
-use Rattle.ktm_types.specs.declared.object.Transaction.{Transaction}
+use Rattle.ktm_world.specs.declared.change.Change.{Change}
+use Rattle.ktm_world.specs.declared.object.Transaction.{Transaction}
 use Rattle.ktm_world.specs.Changes.{applies, changes_apply, changes_bytes, is_make, node_of}
 use Rattle.ktm_world.specs.Committed.{committed_with}
 use Rattle.ktm_world.specs.Conflicts.{conflicts, holds_now, writes}

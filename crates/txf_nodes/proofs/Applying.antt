@@ -5,9 +5,9 @@ use Rattle.std.specs.Option.{option_map}
 use Rattle.std.proofs.lemmas.Bool.{and_parts, cases_Bool, leb-true, not-true}
 use Rattle.ktm_base.specs.declared.limits.TheConstants.{MOST_NAME_BYTES}
 use Rattle.ktm_base.specs.Names.{is_name_byte, last_byte}
-use Rattle.ktm_types.specs.declared.change.Change.TheVariants.{Make, Move}
-use Rattle.ktm_types.specs.declared.change.NodeKind.{NodeKind}
-use Rattle.ktm_types.specs.declared.recorded.Node.{Node}
+use Rattle.ktm_world.specs.declared.change.Change.TheVariants.{Make, Move}
+use Rattle.ktm_world.specs.declared.change.NodeKind.{NodeKind}
+use Rattle.ktm_world.specs.declared.recorded.Node.{Node}
 use Rattle.ktm_links.specs.declared.list.Key.{Key}
 use Rattle.ktm_links.specs.Mapped.{NamedItem, at, key_at}
 use Rattle.ktm_links.proofs.offered.Entries.{key_at-at}

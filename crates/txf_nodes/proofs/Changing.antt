@@ -2,7 +2,7 @@
 use Rattle.std.proofs.Common.{◌≡◌, ℕ, ◌+◌, ◌<◌, ◌≤◌, true, false, eqb, cond, nat_lt, List, [], ◌∷◌, Some, None, refl, sym, ap, ap₂, ◌∙◌, inl, inr, arith, if◌then◌else◌}
 use Rattle.std.proofs.lemmas.Bool.{cases_Bool, cases_lt, eqb-true, eqb-false, eq-eqb, ne_eqb, lt-ltb, le-ltb}
 use Rattle.std.proofs.lemmas.Option.{same_Some}
-use Rattle.ktm_types.specs.declared.recorded.Node.{Node}
+use Rattle.ktm_world.specs.declared.recorded.Node.{Node}
 use Rattle.ktm_world.specs.Committed.{Version, raised_version, without_version}
 use Rattle.ktm_world.specs.Tree.{with_changed, with_node, without_node}
 use Rattle.txf_nodes.specs.Indexes.{AreAbove, AreRising, replaced, with_now, without_now}

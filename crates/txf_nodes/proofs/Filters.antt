@@ -7,7 +7,7 @@ use Rattle.std.specs.declared.cmp.Ordering.TheVariants.{Less, Equal, Greater}
 use Rattle.std.proofs.lemmas.Bool.{cases_Bool, false_from_ne_true}
 use Rattle.std.proofs.lemmas.Cmp.{alike_right, nat_list_cmp_total}
 use Rattle.ktm_base.specs.Names.{folded, matches}
-use Rattle.ktm_types.specs.declared.recorded.Node.{Node}
+use Rattle.ktm_world.specs.declared.recorded.Node.{Node}
 use Rattle.ktm_keyed.specs.Keyed.{comes_before}
 use Rattle.ktm_world.specs.FileCalls.{entries as matching, in_order, listed, with_entry}
 use Rattle.ktm_world.specs.Tree.{Tree}

@@ -4,7 +4,7 @@ use Rattle.std.specs.Prelude.{IfSome, OnSome}
 use Rattle.std.specs.Borrow.{MutBor}
 use Rattle.std.specs.Option.{option_copied_mut, option_map}
 use Rattle.std.proofs.lemmas.Bool.{cases_eq}
-use Rattle.ktm_types.specs.declared.recorded.Node.{Node}
+use Rattle.ktm_world.specs.declared.recorded.Node.{Node}
 use Rattle.ktm_links.specs.Mapped.{NamedItem}
 use Rattle.ktm_world.specs.Committed.{version_of, without_version}
 use Rattle.ktm_world.specs.Tree.{content_of, is_file, node_at, with_changed}

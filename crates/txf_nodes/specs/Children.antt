@@ -1,7 +1,7 @@
 -- What a contract sees of the entries of a directory.
 use Rattle.std.specs.Prelude.{ℕ, ◌==◌, not, Bool, List, map, filter, is_some}
 use Rattle.ktm_base.specs.Names.{matches}
-use Rattle.ktm_types.specs.declared.recorded.Node.{Node}
+use Rattle.ktm_world.specs.declared.recorded.Node.{Node}
 use Rattle.ktm_world.specs.FileCalls.{in_order}
 use Rattle.ktm_world.specs.Tree.{Tree}
 use Rattle.txf_nodes.specs.declared.entry.Entry.{Entry}

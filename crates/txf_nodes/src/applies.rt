@@ -1,7 +1,7 @@
 // When a change of the names applies.
 ghost use Rattle.std.specs.Prelude.{◌≡◌, ℕ, List};
-ghost use Rattle.ktm_types.specs.declared.change.Change.TheVariants.{Make, Move, Drop};
-ghost use Rattle.ktm_types.specs.declared.change.NodeKind.{NodeKind};
+ghost use Rattle.ktm_world.specs.declared.change.Change.TheVariants.{Make, Move, Drop};
+ghost use Rattle.ktm_world.specs.declared.change.NodeKind.{NodeKind};
 ghost use Rattle.ktm_world.specs.Changes.{applies, is_free, is_node_number};
 ghost use Rattle.ktm_world.specs.Paths.{is_name};
 ghost use Rattle.ktm_world.specs.Tree.{is_there};

@@ -3,8 +3,8 @@ ghost use Rattle.std.specs.Prelude.{◌≡◌, List as Seq, ◌+◌, ◌^◌, �
 ghost use Rattle.std.specs.Option.{option_copied_mut, option_map};
 ghost use Rattle.ktm_base.specs.declared.limits.TheConstants.{MOST_NAME_BYTES};
 ghost use Rattle.ktm_links.specs.Mapped.{Begins};
-ghost use Rattle.ktm_types.specs.declared.change.Change.TheVariants.{Make, Move};
-ghost use Rattle.ktm_types.specs.declared.change.NodeKind.{NodeKind};
+ghost use Rattle.ktm_world.specs.declared.change.Change.TheVariants.{Make, Move};
+ghost use Rattle.ktm_world.specs.declared.change.NodeKind.{NodeKind};
 ghost use Rattle.ktm_world.specs.Changes.{applies};
 ghost use Rattle.ktm_world.specs.Committed.{version_of, without_version};
 ghost use Rattle.ktm_world.specs.Tree.{bytes_of, child_of, content_of, has_entries, is_at_or_below, is_directory, is_file, node_at, numbers_rise, parent_of, with_changed, without_node};

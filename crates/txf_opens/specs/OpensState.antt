@@ -1,8 +1,8 @@
 -- What a contract sees of the open files.
 use Rattle.std.specs.Prelude.{ℕ, ◌==◌, ◌&&◌, not, Bool, List, Option, is_some}
 use Rattle.ktm_base.specs.declared.id.Id.{Id}
-use Rattle.ktm_types.specs.declared.options.Access.{Access}
-use Rattle.ktm_types.specs.declared.options.ShareMode.{ShareMode}
+use Rattle.ktm_world.specs.declared.options.Access.{Access}
+use Rattle.ktm_world.specs.declared.options.ShareMode.{ShareMode}
 use Rattle.ktm_world.specs.Conflicts.{same_group, writes}
 use Rattle.ktm_world.specs.Files.{OpenFile}
 use Rattle.ktm_world.specs.Transactions.{is_of}

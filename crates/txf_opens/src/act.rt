@@ -1,5 +1,5 @@
 // What a call does to files and names.
-use ktm_types::{Access, ShareMode};
+use ktm_world::{Access, ShareMode};
 
 /// A name in a directory; names are compared without case.
 #[derive(Clone, Copy)]

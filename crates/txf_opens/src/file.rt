@@ -3,7 +3,7 @@ ghost use Rattle.std.specs.Prelude.{◌≡◌, ◌||◌};
 ghost use Rattle.ktm_world.specs.Conflicts.{lets_read, lets_write, reads, same_group, writes};
 
 use ktm_base::Id;
-use ktm_types::{Access, ShareMode};
+use ktm_world::{Access, ShareMode};
 
 /// An open file; a plain one has no transaction.
 #[derive(Clone, Copy)]

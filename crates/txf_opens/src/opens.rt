@@ -16,7 +16,7 @@ use crate::name::{
 use crate::uses::{Uses, first_writer_from, first_writer_under};
 use ktm_base::{Id, NoMemory};
 use ktm_links::{Chains, Key, List, first_under, key_under, number_bytes};
-use ktm_types::{Access, ShareMode};
+use ktm_world::{Access, ShareMode};
 use std::alloc::Global;
 use std::marker::Model;
 

@@ -14,12 +14,12 @@ use Rattle.ktm_base.specs.Names.{folded}
 use Rattle.ktm_keyed.specs.Keyed.{comes_before}
 use Rattle.ktm_links.specs.Mapped.{name_cmp, Begins, IsNotBelow}
 use Rattle.ktm_links.proofs.offered.Names.{name_equal, name_same, turned}
-use Rattle.ktm_types.specs.declared.recorded.Node.{Node}
+use Rattle.ktm_world.specs.declared.recorded.Node.{Node}
 use Rattle.ktm_world.specs.FileCalls.{in_order, with_entry}
 use Rattle.ktm_world.specs.Holds.{each_change}
 use Rattle.ktm_world.specs.Tree.{IsWellFormed, Tree, has_entries, node_at}
 use Rattle.txf_tree.specs.Children.{Shown, shown, children, entries_in, entry_seen}
-use Rattle.txf_nodes.specs.declared.entry.Entry.{Entry}
+use Rattle.txf_tree.specs.Entry.{Entry}
 use Rattle.txf_tree.specs.Places.{after_child, child_name, entries_from, number_bytes}
 use Rattle.txf_tree.proofs.Digits.{number_begins}
 use Rattle.txf_tree.proofs.Listing.{AreDistinct, in_order-ascends, in_order-from, in_order-in}

@@ -11,9 +11,9 @@ use Rattle.txf_overlay.proofs.Options.{or_none, or-assoc, or-nothing}
 use Rattle.txf_tree.proofs.Digits.{number_bytes-one}
 use Rattle.std.specs.List.{list_any, slice_get}
 use Rattle.std.proofs.lemmas.Bool.{cases_Bool, cases_eq, eqb-true, eqb-false, eq-eqb, ne_eqb, or_right, and_right}
-use Rattle.ktm_types.specs.declared.change.Change.{Change}
-use Rattle.ktm_types.specs.declared.change.Change.TheVariants.{Make, Put, Cut, Move, Drop}
-use Rattle.ktm_types.specs.declared.change.NodeKind.{NodeKind}
+use Rattle.ktm_world.specs.declared.change.Change.{Change}
+use Rattle.ktm_world.specs.declared.change.Change.TheVariants.{Make, Put, Cut, Move, Drop}
+use Rattle.ktm_world.specs.declared.change.NodeKind.{NodeKind}
 use Rattle.ktm_world.specs.Changes.{has_made, is_make, is_drop, node_of, nodes_made}
 use Rattle.txf_overlay.specs.Views.{or_before}
 use Rattle.txf_overlay.specs.Nodes.{if_of, kind_if, last_of, made_kind, drop_it, one_if, times_made, was_made, was_counted, AreSeen, IsSeen, WasSeen}

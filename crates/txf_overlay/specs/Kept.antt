@@ -2,7 +2,7 @@
 use Rattle.std.specs.Prelude.{◌≡◌, ℕ, true, List, map, Option}
 use Rattle.std.specs.List.{list_all}
 use Rattle.ktm_links.specs.Mapped.{NamedItem}
-use Rattle.ktm_types.specs.declared.change.Change.{Change}
+use Rattle.ktm_world.specs.declared.change.Change.{Change}
 use Rattle.ktm_world.specs.Changes.{nodes_made}
 use Rattle.txf_overlay.specs.declared.node.NodeSeen.{NodeSeen}
 use Rattle.txf_overlay.specs.Nodes.{AreSeen}

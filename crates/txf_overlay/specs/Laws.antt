@@ -1,8 +1,8 @@
 -- Laws of what a transaction changed, for those who hold it beside a tree and a model.
 use Rattle.std.specs.Prelude.{◌≡◌, ℕ, true, List, [], ◌∷◌, ◌++◌, map, filter}
 use Rattle.std.specs.List.{list_all}
-use Rattle.ktm_types.specs.declared.change.Change.{Change}
-use Rattle.ktm_types.specs.declared.change.Change.TheVariants.{Make, Put, Cut, Move, Drop}
+use Rattle.ktm_world.specs.declared.change.Change.{Change}
+use Rattle.ktm_world.specs.declared.change.Change.TheVariants.{Make, Put, Cut, Move, Drop}
 use Rattle.ktm_world.specs.Changes.{changes_apply, bytes_in, is_make, node_of}
 use Rattle.ktm_world.specs.Committed.{changes_to_commit, written_files}
 use Rattle.ktm_world.specs.Files.{bytes_after}

@@ -1,6 +1,6 @@
 -- The names under which places are sorted.
 use Rattle.std.specs.Prelude.{ℕ, List, ◌++◌}
-use Rattle.ktm_types.specs.declared.recorded.Node.{Node}
+use Rattle.ktm_world.specs.declared.recorded.Node.{Node}
 use Rattle.ktm_world.specs.Holds.{Place, place}
 use Rattle.txf_tree.specs.Places.{number_bytes}
 

@@ -1,7 +1,7 @@
 -- What a contract sees of what a transaction changed of the files.
 use Rattle.std.specs.Prelude.{ℕ, not, Bool, List, ◌++◌, Option}
 use Rattle.std.specs.List.{flat_map}
-use Rattle.ktm_types.specs.declared.change.Change.{Change}
+use Rattle.ktm_world.specs.declared.change.Change.{Change}
 use Rattle.ktm_world.specs.Changes.{changed_all, changes_bytes}
 use Rattle.ktm_world.specs.Committed.{final_bytes}
 use Rattle.ktm_world.specs.Tree.{Tree}

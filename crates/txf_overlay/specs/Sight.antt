@@ -1,6 +1,6 @@
 -- A node as it is seen.
 use Rattle.std.specs.Prelude.{is_some}
-use Rattle.ktm_types.specs.declared.recorded.Node.{Node}
+use Rattle.ktm_world.specs.declared.recorded.Node.{Node}
 use Rattle.txf_overlay.specs.declared.view.Seen.{Seen}
 
 -- what is seen of the node

@@ -1,7 +1,7 @@
 -- The files that a transaction wrote.
 use Rattle.std.specs.Prelude.{ℕ, ◌<◌, ◌≤◌, ◌==◌, not, List, [], ◌∷◌, length, Option, Some, None, IsSomeAnd, filter, find, sum_by, nat_lt, if◌then◌else◌}
-use Rattle.ktm_types.specs.declared.change.NodeKind.{NodeKind}
-use Rattle.ktm_types.specs.declared.change.NodeKind.TheVariants.{File, Directory}
+use Rattle.ktm_world.specs.declared.change.NodeKind.{NodeKind}
+use Rattle.ktm_world.specs.declared.change.NodeKind.TheVariants.{File, Directory}
 use Rattle.ktm_world.specs.Tree.{units_of}
 use Rattle.txf_overlay.specs.OverlayState.{Written}
 

@@ -1,7 +1,7 @@
 // When a change applies over what a transaction changed.
 ghost use Rattle.std.specs.Prelude.{◌≡◌, true};
-ghost use Rattle.ktm_types.specs.declared.change.Change.TheVariants.{Make, Move, Drop};
-ghost use Rattle.ktm_types.specs.declared.change.NodeKind.{NodeKind};
+ghost use Rattle.ktm_world.specs.declared.change.Change.TheVariants.{Make, Move, Drop};
+ghost use Rattle.ktm_world.specs.declared.change.NodeKind.{NodeKind};
 ghost use Rattle.ktm_world.specs.Changes.{applies, is_free};
 ghost use Rattle.ktm_world.specs.Tree.{is_directory, is_file, is_there};
 ghost use Rattle.txf_tree.specs.TreeState.{tree_of};
@@ -10,7 +10,7 @@ ghost use Rattle.txf_overlay.specs.Views.{StandsOver};
 
 use crate::overlay::Overlay;
 use ktm_names::ROOT;
-use ktm_types::Change;
+use ktm_world::Change;
 use txf_tree::{Tree, is_name, is_node_number, is_whole};
 
 impl Overlay {

@@ -10,7 +10,7 @@ use crate::written::{Edit, WrittenFile};
 use ktm_base::NoMemory;
 use ktm_content::PlacedRef;
 use ktm_links::Chains;
-use ktm_types::NodeKind;
+use ktm_world::NodeKind;
 use std::alloc::Global;
 use std::marker::Model;
 use txf_tree::{NumberName, number_bytes};

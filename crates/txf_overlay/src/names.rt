@@ -3,7 +3,7 @@ ghost use Rattle.std.specs.Prelude.{◌≡◌, ◌+◌, ◌<◌, ◌≤◌, ◌+
 ghost use Rattle.std.specs.List.{list_all, slice_get};
 ghost use Rattle.std.specs.Option.{option_copied, option_map};
 ghost use Rattle.txf_overlay.specs.OverlayState.{is_of_names, seen};
-ghost use Rattle.ktm_types.specs.declared.change.Change.TheVariants.{Make, Move, Drop};
+ghost use Rattle.ktm_world.specs.declared.change.Change.TheVariants.{Make, Move, Drop};
 ghost use Rattle.ktm_world.specs.Changes.{applies, changed};
 ghost use Rattle.ktm_world.specs.Tree.{Tree as Nodes, IsWellFormed, node_at};
 ghost use Rattle.txf_tree.specs.TreeState.{tree_of};
@@ -16,7 +16,7 @@ use crate::maps::set;
 use crate::node::{NodeSeen, dropped, given, less, moved, one_more, seen};
 use crate::overlay::Overlay;
 use ktm_base::Text;
-use ktm_types::{Change, NodeKind};
+use ktm_world::{Change, NodeKind};
 use txf_tree::{ChildName, Tree, child_name, number_bytes};
 
 // One change more, for which there is room.

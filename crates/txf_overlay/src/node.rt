@@ -8,7 +8,7 @@ ghost use Rattle.txf_overlay.specs.Nodes.{given, given_name, given_parent, one_i
 
 use crate::maps::get;
 use ktm_links::Chains;
-use ktm_types::{Change, NodeKind};
+use ktm_world::{Change, NodeKind};
 use txf_tree::{ChildName, NumberName, child_name, number_bytes};
 
 /// What became of a node that the transaction made, moved or dropped.

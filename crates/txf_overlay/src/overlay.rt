@@ -15,7 +15,7 @@ use crate::written::{Edit, WrittenFile};
 use ktm_base::NoMemory;
 use ktm_content::PlacedRef;
 use ktm_links::Chains;
-use ktm_types::Change;
+use ktm_world::Change;
 use std::alloc::Global;
 use std::marker::Model;
 use std::mem::replace;

@@ -2,7 +2,7 @@
 ghost use Rattle.std.specs.Prelude.{◌≡◌, ◌≤◌, ℕ, true, length, is_some, Some};
 ghost use Rattle.std.specs.List.{list_all};
 ghost use Rattle.std.specs.Option.{option_map};
-ghost use Rattle.ktm_types.specs.declared.recorded.Node.{Node};
+ghost use Rattle.ktm_world.specs.declared.recorded.Node.{Node};
 ghost use Rattle.ktm_world.specs.Changes.{new_content};
 ghost use Rattle.ktm_world.specs.Holds.{place};
 ghost use Rattle.ktm_world.specs.Tree.{child_of, is_at_or_below, is_there, node_at, parent_of};
@@ -19,7 +19,7 @@ use crate::overlay::Overlay;
 use ktm_base::MOST_NAME_BYTES;
 use ktm_links::Name;
 use ktm_names::ROOT;
-use ktm_types::NodeKind;
+use ktm_world::NodeKind;
 use txf_tree::{Tree, child_name};
 
 /// A node as a transaction sees it.

@@ -6,7 +6,7 @@ use Rattle.std.proofs.lemmas.Bool.{cases_Bool, and_from, and_parts, or_from, or_
 use Rattle.std.proofs.lemmas.List.{append-nil}
 use Rattle.std.proofs.lemmas.List.Folds.{list_any-append}
 use Rattle.ktm_base.specs.declared.id.Id.{Id}
-use Rattle.ktm_types.specs.declared.change.Change.{Change}
+use Rattle.ktm_world.specs.declared.change.Change.{Change}
 use Rattle.ktm_world.specs.Changes.{node_of}
 use Rattle.ktm_world.specs.Conflicts.{changes_outdated, conflicts, holds_now, meets_other, opener, overwrites_opened, same_group, touches_plain_writer, users, writes, written_by}
 use Rattle.ktm_world.specs.Files.{FilesNow, OpenFile, OwnChanges, own_changes}

@@ -6,7 +6,7 @@ ghost use Rattle.txf_opens.specs.Acts.{act_of};
 ghost use Rattle.txf_reserve.specs.Acts.{listed, listed_place};
 ghost use Rattle.txf_reserve.specs.Parts.{ArePartsOf};
 
-use ktm_types::Access;
+use ktm_world::Access;
 use txf_opens::{Act, Place, asks_write};
 
 /// What a transaction holds by one change.

@@ -3,7 +3,7 @@ use Rattle.std.proofs.Common.{◌≡◌, ℕ, ◌<◌, ◌≤◌, ◌^◌, ◌==
 use Rattle.std.proofs.lemmas.Bool.{cases_Bool, eq-eqb, eqb-true, and_parts, and_from, not-true, not_from_false, true≢false, false_from_ne_true, lt-ltb, le-leb}
 use Rattle.std.proofs.lemmas.Option.{none-some}
 use Rattle.ktm_base.specs.Names.{IsName}
-use Rattle.ktm_types.specs.declared.recorded.Node.{Node}
+use Rattle.ktm_world.specs.declared.recorded.Node.{Node}
 use Rattle.ktm_world.specs.Changes.{applies}
 use Rattle.ktm_world.specs.Paths.{is_name}
 use Rattle.ktm_world.specs.Tree.{Tree, content_of, is_file, is_there, node_at, numbers_rise, root, same_name, with_node}

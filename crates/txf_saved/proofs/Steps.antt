@@ -7,7 +7,7 @@ use Rattle.ktm_base.specs.Names.{IsName}
 use Rattle.ktm_snapshot.specs.declared.node.ReadNode.{ReadNode}
 use Rattle.ktm_snapshot.specs.declared.node.ShownNode.{ShownNode}
 use Rattle.ktm_snapshot.specs.Shown.{node_of}
-use Rattle.ktm_types.specs.declared.recorded.Node.{Node}
+use Rattle.ktm_world.specs.declared.recorded.Node.{Node}
 use Rattle.ktm_world.specs.Changes.{applies}
 use Rattle.ktm_world.specs.Paths.{is_name}
 use Rattle.ktm_world.specs.Tree.{Tree, IsWellFormed, is_there, node_at, numbers_rise, root, with_node}

@@ -7,7 +7,7 @@ use Rattle.std.proofs.lemmas.Bool.{ne_eqb, and_parts, or_parts, true≢false}
 use Rattle.std.proofs.lemmas.Option.{same_Some}
 use Rattle.ktm_snapshot.specs.declared.node.ShownNode.{ShownNode}
 use Rattle.ktm_snapshot.specs.Shown.{node_of}
-use Rattle.ktm_types.specs.declared.recorded.Node.{Node}
+use Rattle.ktm_world.specs.declared.recorded.Node.{Node}
 use Rattle.ktm_world.specs.Tree.{Tree, is_at_or_below, is_file, is_there, node_at, root, way_up, with_node}
 use Rattle.txf_laws.proofs.offered.ChangeTests.{Good-from, at-All, is_there-none, number-at}
 use Rattle.txf_saved.proofs.Parts.{there-with_node}

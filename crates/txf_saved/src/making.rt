@@ -1,6 +1,6 @@
 // Nodes are made, each behind the directory that it is in.
 ghost use Rattle.std.specs.Prelude.{◌≡◌, ◌+◌, ℕ, [], Ok, Some, IfOk, IfSome, MatchOption, false, max, true};
-ghost use Rattle.ktm_types.specs.declared.recorded.Node.{Node};
+ghost use Rattle.ktm_world.specs.declared.recorded.Node.{Node};
 ghost use Rattle.ktm_snapshot.specs.Shown.{node_of};
 ghost use Rattle.ktm_world.specs.Changes.{applies};
 ghost use Rattle.ktm_world.specs.Tree.{Tree, is_there, node_at, numbers_rise, with_node};
@@ -13,8 +13,7 @@ use ktm_base::{NoMemory, Text};
 use ktm_content::Placed;
 use ktm_names::ROOT;
 use ktm_snapshot::{ReadNode, ShownNode};
-use ktm_types::{Change, Contents, NodeKind};
-use ktm_world::law_of_paths;
+use ktm_world::{Change, Contents, NodeKind, law_of_paths};
 use std::alloc::Global;
 use txf_durable::DurableFiles;
 

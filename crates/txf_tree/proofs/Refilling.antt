@@ -5,7 +5,7 @@ use Rattle.std.specs.Option.{option_map}
 use Rattle.std.proofs.lemmas.Bool.{cases_Bool, cases_eq, eqb-false, leb-true, le-leb}
 use Rattle.std.proofs.lemmas.List.{append-nil, drop_all}
 use Rattle.ktm_content.specs.Places.{ContentState}
-use Rattle.ktm_types.specs.declared.recorded.Node.{Node}
+use Rattle.ktm_world.specs.declared.recorded.Node.{Node}
 use Rattle.ktm_world.specs.Changes.{changed_all}
 use Rattle.ktm_world.specs.Committed.{Version, final_bytes, versions_after}
 use Rattle.ktm_world.specs.Tree.{Tree, bytes_or_none, cut_to, is_file, put_over, with_changed}

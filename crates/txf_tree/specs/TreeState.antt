@@ -1,9 +1,9 @@
 -- What a contract sees of the committed files and directories.
 use Rattle.std.specs.Prelude.{◌≡◌, ℕ, ◌+◌, ◌≤◌, ◌==◌, ◌&&◌, ◌||◌, not, Bool, true, false, List, length, nat_lt, nat_le, Option, Some, None, if◌then◌else◌}
 use Rattle.ktm_content.specs.Places.{ContentState}
-use Rattle.ktm_types.specs.declared.change.Change.{Change}
-use Rattle.ktm_types.specs.declared.change.Change.TheVariants.{Make, Put, Cut, Move, Drop}
-use Rattle.ktm_types.specs.declared.recorded.Node.{Node}
+use Rattle.ktm_world.specs.declared.change.Change.{Change}
+use Rattle.ktm_world.specs.declared.change.Change.TheVariants.{Make, Put, Cut, Move, Drop}
+use Rattle.ktm_world.specs.declared.recorded.Node.{Node}
 use Rattle.ktm_world.specs.Changes.{bytes_in, changed, is_drop, is_make, is_move, node_of}
 use Rattle.ktm_world.specs.Committed.{Version, versions_after}
 use Rattle.ktm_world.specs.Tree.{Tree, content_of, is_file, node_at}

@@ -1,7 +1,7 @@
 -- Changes of contents unit by unit.
 use Rattle.std.specs.Prelude.{ℕ, ◌≤◌, List, [], ◌∷◌, length}
-use Rattle.ktm_types.specs.declared.change.Change.{Change}
-use Rattle.ktm_types.specs.declared.change.Change.TheVariants.{Put, Cut}
+use Rattle.ktm_world.specs.declared.change.Change.{Change}
+use Rattle.ktm_world.specs.declared.change.Change.TheVariants.{Put, Cut}
 use Rattle.ktm_content.specs.Places.{CanBePut}
 use Rattle.ktm_world.specs.Changes.{bytes_in, changed}
 use Rattle.ktm_world.specs.Tree.{Tree, bytes_of}

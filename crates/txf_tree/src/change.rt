@@ -3,7 +3,7 @@ ghost use Rattle.std.specs.Prelude.{◌≡◌, ◌<◌, ◌^◌, true};
 ghost use Rattle.ktm_world.specs.Changes.{bytes_in, changes_bytes, is_drop, is_make, is_whole, next_after, node_of};
 
 use ktm_content::PlacedRef;
-use ktm_types::{Change, Contents};
+use ktm_world::{Change, Contents};
 
 /// The number of the node that a change makes or changes.
 pub fn node_of(change: &Change) -> u64

@@ -17,7 +17,7 @@ pub struct Nodes<'a> {
 
 impl<'a> Model for Nodes<'a> {
     ghost use Rattle.std.specs.Prelude.{List, map};
-    ghost use Rattle.ktm_types.specs.declared.recorded.Node.{Node};
+    ghost use Rattle.ktm_world.specs.declared.recorded.Node.{Node};
     ghost use Rattle.txf_tree.specs.TreeState.{plain};
 
     ghost Value = { List Node };

@@ -2,7 +2,7 @@
 ghost use Rattle.std.specs.Prelude.{◌≡◌, ◌+◌, ◌-◌, ◌^◌, ◌<◌, ◌≤◌, ℕ, [], None, true, length, OnOk, IsOk, IfOk, fold, ◌≢◌};
 ghost use Rattle.std.specs.Option.{option_map};
 ghost use Rattle.ktm_content.specs.Places.{CanBePut};
-ghost use Rattle.ktm_types.specs.declared.change.Change.TheVariants.{Make, Put, Cut, Move, Drop};
+ghost use Rattle.ktm_world.specs.declared.change.Change.TheVariants.{Make, Put, Cut, Move, Drop};
 ghost use Rattle.ktm_links.specs.Mapped.{Begins};
 ghost use Rattle.ktm_world.specs.Changes.{applies, bytes_in, changed, changed_all, new_content, node_of};
 ghost use Rattle.ktm_world.specs.Committed.{final_bytes, version_of, versions_after, without_version};
@@ -18,7 +18,7 @@ use crate::nodes::Nodes;
 use ktm_base::{NoMemory, Text};
 use ktm_content::{Content, Placed, PlacedRef};
 use ktm_names::Pattern;
-use ktm_types::{Change, Contents, NodeKind};
+use ktm_world::{Change, Contents, NodeKind};
 use std::alloc::Global;
 use std::marker::Model;
 use txf_nodes::{Entries, NodeTable};

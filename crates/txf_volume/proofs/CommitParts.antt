@@ -12,9 +12,9 @@ use Rattle.txf_laws.proofs.offered.CommittedUnits.{cut-empty, suits-applies}
 use Rattle.ktm_world.proofs.offered.Lookups.{Rises-changed, Rises-from as Rises-of, numbers_rise-from}
 use Rattle.txf_laws.proofs.offered.NormalForms.{changes_apply-second}
 use Rattle.txf_laws.proofs.offered.CommitsOfOthers.{changes_apply-first, All-by, All-in}
-use Rattle.ktm_types.specs.declared.change.Change.{Change}
-use Rattle.ktm_types.specs.declared.change.Change.TheVariants.{Make, Put, Cut, Move, Drop}
-use Rattle.ktm_types.specs.declared.change.Contents.TheVariants.{Whole}
+use Rattle.ktm_world.specs.declared.change.Change.{Change}
+use Rattle.ktm_world.specs.declared.change.Change.TheVariants.{Make, Put, Cut, Move, Drop}
+use Rattle.ktm_world.specs.declared.change.Contents.TheVariants.{Whole}
 use Rattle.ktm_world.specs.Changes.{applies, changes_apply, changed, changed_all, is_drop, is_make, node_of}
 use Rattle.ktm_world.specs.Committed.{Version, final_bytes, version_of, versions_after, without_version}
 use Rattle.ktm_world.specs.Files.{FirstOpen}

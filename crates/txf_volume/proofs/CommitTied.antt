@@ -10,8 +10,8 @@ use Rattle.txf_laws.proofs.offered.Sums.{sum-filter-less}
 use Rattle.std.proofs.Math.Bool.{and-false, and-true}
 use Rattle.txf_laws.specs.Formed.{FormedLaw}
 use Rattle.txf_laws.specs.Reservations.{files_committed, IsLeft}
-use Rattle.ktm_types.specs.declared.change.Change.{Change}
-use Rattle.ktm_types.specs.declared.change.Change.TheVariants.{Make, Put, Cut, Move, Drop}
+use Rattle.ktm_world.specs.declared.change.Change.{Change}
+use Rattle.ktm_world.specs.declared.change.Change.TheVariants.{Make, Put, Cut, Move, Drop}
 use Rattle.ktm_world.specs.Changes.{changes_apply, changed, changed_all, changes_bytes, has_made, is_make, node_of}
 use Rattle.ktm_world.specs.Committed.{Committed, versions_after, with_change}
 use Rattle.ktm_world.specs.Files.{FilesNow, FirstOpen, OwnChanges, own_changes}

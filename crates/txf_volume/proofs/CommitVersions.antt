@@ -3,10 +3,10 @@ use Rattle.std.proofs.Common.{◌≡◌, ℕ, ◌+◌, ◌<◌, ◌≤◌, ◌==
 use Rattle.std.proofs.lemmas.Bool.{cases_Bool, and_parts, eqb-false, eqb-true, false_from_ne_true, not_from_false, true≢false}
 use Rattle.txf_laws.proofs.offered.ChangeTests.{Applies-from, Fits-from}
 use Rattle.txf_laws.proofs.offered.CommittedUnits.{suits-applies, older-like, Fresh, is_older}
-use Rattle.ktm_types.specs.declared.change.Change.{Change}
-use Rattle.ktm_types.specs.declared.change.Change.TheVariants.{Make, Put, Cut, Move, Drop}
-use Rattle.ktm_types.specs.declared.change.Contents.TheVariants.{Whole}
-use Rattle.ktm_types.specs.declared.recorded.Node.{Node}
+use Rattle.ktm_world.specs.declared.change.Change.{Change}
+use Rattle.ktm_world.specs.declared.change.Change.TheVariants.{Make, Put, Cut, Move, Drop}
+use Rattle.ktm_world.specs.declared.change.Contents.TheVariants.{Whole}
+use Rattle.ktm_world.specs.declared.recorded.Node.{Node}
 use Rattle.ktm_world.specs.Changes.{applies, changes_apply, changed, changed_all, is_make, node_of}
 use Rattle.ktm_world.specs.Committed.{Version, final_bytes, version_of, versions_after}
 use Rattle.ktm_world.specs.Files.{FirstOpen}

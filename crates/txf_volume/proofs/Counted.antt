@@ -3,7 +3,7 @@ use Rattle.std.proofs.Common.{◌≡◌, ℕ, ◌+◌, ◌-◌, ◌≤◌, ◌==
 use Rattle.std.proofs.lemmas.Bool.{cases_Bool}
 use Rattle.std.specs.List.{list_any}
 use Rattle.ktm_base.specs.declared.id.Id.{Id}
-use Rattle.ktm_types.specs.declared.change.Change.{Change}
+use Rattle.ktm_world.specs.declared.change.Change.{Change}
 use Rattle.ktm_world.specs.Changes.{has_made}
 use Rattle.ktm_world.specs.Committed.{version_of, written_files}
 use Rattle.ktm_world.specs.Files.{bytes_seen}

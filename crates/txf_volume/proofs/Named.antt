@@ -6,8 +6,8 @@ use Rattle.std.specs.List.{flat_map, list_all}
 use Rattle.std.specs.Option.{option_map}
 use Rattle.std.specs.Prelude.{◌⊎◌, Contains}
 use Rattle.ktm_store.proofs.offered.HoldingContents.{AreAmong}
-use Rattle.ktm_types.specs.declared.change.Change.{Change}
-use Rattle.ktm_types.specs.declared.change.Change.TheVariants.{Make, Put, Cut, Move, Drop}
+use Rattle.ktm_world.specs.declared.change.Change.{Change}
+use Rattle.ktm_world.specs.declared.change.Change.TheVariants.{Make, Put, Cut, Move, Drop}
 use Rattle.ktm_world.specs.Committed.{final_bytes}
 use Rattle.ktm_world.specs.Files.{FirstOpen, OwnChanges}
 use Rattle.ktm_world.specs.Tree.{Tree, bytes_of, bytes_or_none, has_number}

@@ -6,7 +6,7 @@ use Rattle.std.proofs.lemmas.Option.{same_Some, none-some}
 use Rattle.std.specs.List.{flat_map, list_all}
 use Rattle.std.specs.Option.{option_map}
 use Rattle.ktm_base.specs.declared.id.Id.{Id}
-use Rattle.ktm_types.specs.declared.change.Change.{Change}
+use Rattle.ktm_world.specs.declared.change.Change.{Change}
 use Rattle.ktm_world.specs.Changes.{changed_all, changes_bytes, has_made, is_make, node_of}
 use Rattle.ktm_world.specs.Files.{own_changes, bytes_after, bytes_seen, first_bytes, first_open_of, fixed_bytes}
 use Rattle.ktm_world.specs.Committed.{final_bytes, version_of}

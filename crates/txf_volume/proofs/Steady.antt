@@ -7,7 +7,7 @@ use Rattle.std.proofs.lemmas.List.Sums.{sum_by-cons}
 use Rattle.std.specs.List.{flat_map, list_all}
 use Rattle.std.specs.Option.{option_map}
 use Rattle.std.specs.Prelude.{nat_lt}
-use Rattle.ktm_types.specs.declared.change.Change.{Change}
+use Rattle.ktm_world.specs.declared.change.Change.{Change}
 use Rattle.ktm_world.specs.Changes.{nodes_made}
 use Rattle.ktm_world.specs.Committed.{Version, version_of, final_bytes, changes_to_commit}
 use Rattle.ktm_world.specs.Files.{FirstOpen, OwnChanges, bytes_seen, is_last_version}

@@ -8,10 +8,10 @@ use Rattle.std.specs.Prelude.{nat_lt}
 use Rattle.ktm_base.specs.declared.id.Id.{Id}
 use Rattle.txf_laws.specs.OwnChange.{owned}
 use Rattle.txf_laws.proofs.offered.NormalForms.{Silent, each_change-append, silent-dropped, silent-moved, silent-places}
-use Rattle.ktm_types.specs.declared.change.Change.{Change}
-use Rattle.ktm_types.specs.declared.change.Change.TheVariants.{Make, Put, Cut, Move, Drop}
-use Rattle.ktm_types.specs.declared.change.Contents.TheVariants.{Whole}
-use Rattle.ktm_types.specs.declared.change.NodeKind.TheVariants.{File, Directory}
+use Rattle.ktm_world.specs.declared.change.Change.{Change}
+use Rattle.ktm_world.specs.declared.change.Change.TheVariants.{Make, Put, Cut, Move, Drop}
+use Rattle.ktm_world.specs.declared.change.Contents.TheVariants.{Whole}
+use Rattle.ktm_world.specs.declared.change.NodeKind.TheVariants.{File, Directory}
 use Rattle.ktm_world.specs.Changes.{bytes_in, changed, changed_all, changes_bytes, has_made, is_make, next_after, node_of}
 use Rattle.ktm_world.specs.Committed.{changes_to_commit, final_bytes, written_files}
 use Rattle.ktm_world.specs.Files.{bytes_after, bytes_seen, bytes_with, changes_with, first_bytes, first_open_of, fixed_bytes, own_changes, tree_seen, with_own_changes}

@@ -3,8 +3,8 @@ use Rattle.std.proofs.Common.{◌≡◌, ℕ, ◌+◌, ◌==◌, not, true, List
 use Rattle.std.proofs.lemmas.Bool.{cases_Bool, eqb-true, eqb-false, ltb-true, ltb-false, lt-ltb, and_parts, and_from}
 use Rattle.std.specs.List.{list_all}
 use Rattle.std.specs.Prelude.{nat_lt}
-use Rattle.ktm_types.specs.declared.change.Change.{Change}
-use Rattle.ktm_types.specs.declared.change.Change.TheVariants.{Make, Put, Cut, Move, Drop}
+use Rattle.ktm_world.specs.declared.change.Change.{Change}
+use Rattle.ktm_world.specs.declared.change.Change.TheVariants.{Make, Put, Cut, Move, Drop}
 use Rattle.ktm_world.specs.Committed.{Version, version_of, raised_version, versions_after}
 use Rattle.txf_laws.specs.SoundFiles.{files_rise}
 use Rattle.txf_laws.specs.Elements.{IsIn, each_pair}

@@ -5,7 +5,7 @@ use Rattle.ktm_base.specs.declared.id.Id.{Id}
 use Rattle.ktm_world.specs.Files.{FilesNow, FirstOpen, OwnChanges}
 use Rattle.ktm_world.specs.Transactions.{same_id}
 use Rattle.ktm_world.specs.Tree.{Tree, bytes_of, bytes_or_none, units_of}
-use Rattle.ktm_types.specs.declared.recorded.Node.{Node}
+use Rattle.ktm_world.specs.declared.recorded.Node.{Node}
 use Rattle.txf_opens.specs.OpensState.{OpensState}
 use Rattle.txf_overlay.specs.OverlayState.{OverlayState, own_of}
 use Rattle.txf_overlay.specs.Written.{bytes_or}

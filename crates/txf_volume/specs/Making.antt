@@ -1,7 +1,7 @@
 -- How what a transaction changed comes to be committed. No public clause cites this module.
 use Rattle.std.specs.Prelude.{◌≡◌, ℕ, ◌+◌, ◌-◌, ◌<◌, ◌≤◌, ◌^◌, ◌==◌, ◌&&◌, not, Bool, true, List, [], find, fold, length, map, sum_by, Some, All, if◌then◌else◌}
 use Rattle.std.specs.List.{flat_map, list_all, list_any}
-use Rattle.ktm_types.specs.declared.change.Change.{Change}
+use Rattle.ktm_world.specs.declared.change.Change.{Change}
 use Rattle.ktm_world.specs.Changes.{changes_apply, changed_all, is_make, node_of}
 use Rattle.ktm_world.specs.Committed.{Version, version_of, versions_after}
 use Rattle.ktm_world.specs.Files.{FilesNow, FirstOpen}

@@ -1,8 +1,8 @@
 -- The contents that the files in memory name.
 use Rattle.std.specs.Prelude.{ℕ, List, [], ◌∷◌, ◌++◌, map}
 use Rattle.std.specs.List.{flat_map}
-use Rattle.ktm_types.specs.declared.change.Change.{Change}
-use Rattle.ktm_types.specs.declared.change.Change.TheVariants.{Put}
+use Rattle.ktm_world.specs.declared.change.Change.{Change}
+use Rattle.ktm_world.specs.declared.change.Change.TheVariants.{Put}
 use Rattle.ktm_world.specs.Changes.{bytes_in}
 use Rattle.ktm_world.specs.Files.{FilesNow, FirstOpen, OwnChanges}
 use Rattle.ktm_world.specs.Tree.{Tree, bytes_or_none}

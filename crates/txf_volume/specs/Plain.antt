@@ -1,6 +1,6 @@
 -- What a plain call needs, and what it makes of the parts of the files in memory.
 use Rattle.std.specs.Prelude.{◌≡◌, ℕ, ◌+◌, ◌<◌, ◌≤◌, ◌^◌, ◌==◌, ◌&&◌, Bool, true, List, [], find, Option, Some, None, is_some, sum_by, All, IfSome, if◌then◌else◌}
-use Rattle.ktm_types.specs.declared.change.Change.{Change}
+use Rattle.ktm_world.specs.declared.change.Change.{Change}
 use Rattle.ktm_world.specs.Changes.{changes_apply, changed, changes_bytes, node_of}
 use Rattle.ktm_world.specs.Committed.{version_of}
 use Rattle.ktm_world.specs.FileOutcome.{FileOutcome}

@@ -2,8 +2,8 @@
 use Rattle.std.specs.Prelude.{◌≡◌, ℕ, ◌+◌, ◌≤◌, false, List, [], ◌∷◌, ◌++◌, length, sum_by, Option, Some, None}
 use Rattle.ktm_base.specs.declared.id.Id.{Id}
 use Rattle.txf_laws.specs.OwnChange.{owned}
-use Rattle.ktm_types.specs.declared.change.Change.{Change}
-use Rattle.ktm_types.specs.declared.change.Change.TheVariants.{Put, Cut}
+use Rattle.ktm_world.specs.declared.change.Change.{Change}
+use Rattle.ktm_world.specs.declared.change.Change.TheVariants.{Put, Cut}
 use Rattle.ktm_world.specs.Changes.{bytes_in, changes_bytes}
 use Rattle.ktm_world.specs.FileOutcome.{with_open}
 use Rattle.ktm_world.specs.Files.{FilesNow, OpenFile, committed_files, first_open}

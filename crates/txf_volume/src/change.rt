@@ -2,7 +2,7 @@
 ghost use Rattle.std.specs.Prelude.{◌≡◌, ◌<◌, ◌+◌, ◌/◌, ◌^◌, ℕ, List, length};
 ghost use Rattle.txf_volume.specs.Uses.{ends, gain, loss};
 
-use ktm_types::Change;
+use ktm_world::Change;
 use txf_tree::{bytes_in, changes_bytes, is_drop};
 
 // Does a change end what its file was.

@@ -12,7 +12,7 @@ use crate::change::units_in;
 use crate::files::{Files, end_version, law_of_older};
 use ktm_base::Id;
 use ktm_content::Placed;
-use ktm_types::Change;
+use ktm_world::Change;
 use txf_laws::law_of_forms;
 use txf_overlay::{Overlay, WrittenFile, law_of_other_trees};
 use txf_tree::{Tree, node_of};

@@ -13,7 +13,7 @@ ghost use Rattle.txf_volume.specs.Uses.{kept, one_if, own_bytes, IsSteady};
 use crate::change::{gain, loss};
 use crate::files::Files;
 use ktm_base::{END_OF_NODES, Id, MOST_NUMBER};
-use ktm_types::Change;
+use ktm_world::Change;
 use txf_calls::{Plan, Room};
 use txf_tree::{Tree, changes_bytes, is_drop, is_make, node_of};
 

@@ -1,7 +1,7 @@
 // One change more of a transaction, in what it changed and in what it holds.
 ghost use Rattle.std.specs.Prelude.{◌≡◌, ℕ, ◌<◌, ◌+◌, ◌^◌, ◌≤◌, List, [], ◌∷◌, All, IfOk, IsOk, None, Some, OnOk, OnErr, is_some, length, map, true, if◌then◌else◌};
-ghost use Rattle.ktm_types.specs.declared.recorded.Node.{Node};
-ghost use Rattle.ktm_types.specs.declared.change.Change.TheVariants.{Make, Put, Cut, Move, Drop};
+ghost use Rattle.ktm_world.specs.declared.recorded.Node.{Node};
+ghost use Rattle.ktm_world.specs.declared.change.Change.TheVariants.{Make, Put, Cut, Move, Drop};
 ghost use Rattle.ktm_world.specs.Changes.{applies, bytes_in, changed};
 ghost use Rattle.ktm_world.specs.Tree.{Tree as Nodes, IsWellFormed, node_at};
 ghost use Rattle.txf_overlay.specs.OverlayState.{seen};
@@ -19,7 +19,7 @@ use crate::holding::{hold_dropped, hold_file, hold_made, hold_moved};
 use crate::own::{Overlays, Own};
 use ktm_base::{Id, NoMemory, Text};
 use ktm_content::PlacedRef;
-use ktm_types::{Change, Contents, NodeKind};
+use ktm_world::{Change, Contents, NodeKind};
 use txf_durable::{is_file_seen, place_seen};
 use txf_laws::law_of_forms;
 use txf_opens::Place;

@@ -19,7 +19,7 @@ use crate::change::{gain, loss};
 use crate::files::{Files, end_version, law_of_older};
 use ktm_base::NoMemory;
 use ktm_content::Placed;
-use ktm_types::Change;
+use ktm_world::Change;
 use std::alloc::Global;
 use std::marker::Model;
 use txf_calls::Plan;

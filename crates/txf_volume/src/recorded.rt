@@ -12,7 +12,7 @@ ghost use Rattle.txf_volume.specs.Shown.{shown};
 use crate::files::Files;
 use crate::written::Written;
 use ktm_base::Id;
-use ktm_types::Change;
+use ktm_world::Change;
 use txf_tree::next_after;
 
 // The number of the next node, once changes of names have made theirs.

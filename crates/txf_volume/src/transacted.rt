@@ -2,7 +2,7 @@
 ghost use Rattle.std.specs.Prelude.{◌≡◌, ℕ, ◌<◌, Some, None, IsOk, OnOk, OnErr, true};
 ghost use Rattle.std.specs.Option.{option_map};
 ghost use Rattle.txf_laws.specs.OwnChange.{owned};
-ghost use Rattle.ktm_types.specs.declared.change.Change.{Change as Made};
+ghost use Rattle.ktm_world.specs.declared.change.Change.{Change as Made};
 ghost use Rattle.ktm_world.specs.Changes.{applies};
 ghost use Rattle.ktm_world.specs.FileOutcome.{files_after};
 ghost use Rattle.ktm_world.specs.Files.{bytes_seen, tree_seen};
@@ -17,7 +17,7 @@ ghost use Rattle.txf_volume.specs.Uses.{IsSteady};
 
 use crate::files::{Files, fixed_bytes};
 use ktm_base::{Id, NoMemory};
-use ktm_types::Change;
+use ktm_world::Change;
 use txf_calls::Plan;
 use txf_opens::OpenFile;
 use txf_overlay::law_of_own_forms;

@@ -7,9 +7,9 @@ use Rattle.ktm_forms.specs.Tells.{IsTold, RepliesLaw, Telling, tells}
 use Rattle.ktm_kernel.specs.Answers.{CallLeaves, IsAsItWas}
 use Rattle.ktm_kernel.specs.Stands.{IsReady, KernelState}
 use Rattle.ktm_log.specs.OnDisk.{OnDisk}
-use Rattle.ktm_types.specs.declared.command.Command.{Command}
-use Rattle.ktm_types.specs.declared.reply.Reply.{Reply}
-use Rattle.ktm_types.specs.declared.reply.Reply.TheVariants.{Refused}
+use Rattle.ktm_world.specs.declared.command.Command.{Command}
+use Rattle.ktm_world.specs.declared.reply.Reply.{Reply}
+use Rattle.ktm_world.specs.declared.reply.Reply.TheVariants.{Refused}
 use Rattle.wattorju.specs.Calls.{own}
 
 -- a reply that is the outcome's, or says that the machine is down, is told where the outcome's is

@@ -12,8 +12,8 @@ use Rattle.ktm_kernel.specs.Answers.{IfUnwrittenBy, IsAsBefore, StartAgainLeaves
 use Rattle.ktm_kernel.specs.Stands.{FoundAt, HasFallen, KernelAt, KernelState, LeavesStates, PowerLaw, StandsBy}
 use Rattle.ktm_log.specs.OnDisk.{on}
 use Rattle.ktm_restart.specs.Logs.{StandsFor}
-use Rattle.ktm_types.specs.declared.reply.Reply.{Reply}
-use Rattle.ktm_types.specs.declared.reply.Reply.TheVariants.{BadImage, Refused}
+use Rattle.ktm_world.specs.declared.reply.Reply.{Reply}
+use Rattle.ktm_world.specs.declared.reply.Reply.TheVariants.{BadImage, Refused}
 use Rattle.ktm_world.specs.Durable.{stand}
 use Rattle.ktm_world.specs.Logs.{is_up}
 use Rattle.ktm_world.specs.Present.{Present}

@@ -7,11 +7,11 @@ use Rattle.ktm_kernel.specs.Answers.{CallLeaves, IsAsItWas, IsLineAnswered}
 use Rattle.ktm_kernel.specs.Stands.{KernelState}
 use Rattle.ktm_laws.specs.Running.{HasEventsLeft}
 use Rattle.ktm_log.specs.OnDisk.{OnDisk}
-use Rattle.ktm_route.specs.Takes.{takes_memory}
-use Rattle.ktm_types.specs.declared.command.Command.{Command}
-use Rattle.ktm_types.specs.declared.command.Line.TheVariants.{Tick}
-use Rattle.ktm_types.specs.declared.reply.Reply.{Reply}
-use Rattle.ktm_types.specs.Values.{IsLabel}
+use Rattle.ktm_kernel.specs.Takes.{takes_memory}
+use Rattle.ktm_world.specs.declared.command.Command.{Command}
+use Rattle.ktm_world.specs.declared.command.Line.TheVariants.{Tick}
+use Rattle.ktm_world.specs.declared.reply.Reply.{Reply}
+use Rattle.ktm_world.specs.Values.{IsLabel}
 use Rattle.ktm_world.specs.Labels.{is_bound}
 use Rattle.ktm_world.specs.Present.{Present}
 use Rattle.ktm_world.specs.World.{decide_tick}

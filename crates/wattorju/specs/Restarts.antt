@@ -8,11 +8,11 @@ use Rattle.ktm_base.specs.Told.{Goes}
 use Rattle.ktm_kernel.specs.Answers.{IfUnwrittenBy, says_started}
 use Rattle.ktm_kernel.specs.Stands.{DoesLine, KernelAt, KernelState}
 use Rattle.ktm_log.specs.OnDisk.{OnDisk}
-use Rattle.ktm_open.specs.declared.fault.OpenFault.{OpenFault}
-use Rattle.ktm_open.specs.declared.fault.OpenFault.TheVariants as opening
-use Rattle.ktm_types.specs.declared.command.Line.TheVariants.{Restart}
-use Rattle.ktm_types.specs.declared.reply.Reply.{Reply}
-use Rattle.ktm_types.specs.declared.reply.Reply.TheVariants.{BadImage, Refused, Restarted}
+use Rattle.ktm_kernel.specs.declared.fault.OpenFault.{OpenFault}
+use Rattle.ktm_kernel.specs.declared.fault.OpenFault.TheVariants as opening
+use Rattle.ktm_world.specs.declared.command.Line.TheVariants.{Restart}
+use Rattle.ktm_world.specs.declared.reply.Reply.{Reply}
+use Rattle.ktm_world.specs.declared.reply.Reply.TheVariants.{BadImage, Refused, Restarted}
 use Rattle.ktm_world.specs.World.{World}
 use Rattle.wattorju.specs.declared.restart.Found.{Found}
 

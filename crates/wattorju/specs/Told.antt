@@ -1,8 +1,8 @@
 -- Which reply stands for what a call tells.
 use Rattle.std.specs.Prelude.{Option, Some, None}
 use Rattle.ktm_base.specs.declared.refusal.Refusal.TheVariants.{WaitTimeout}
-use Rattle.ktm_types.specs.declared.reply.Reply.{Reply}
-use Rattle.ktm_types.specs.declared.reply.Reply.TheVariants as reply
+use Rattle.ktm_world.specs.declared.reply.Reply.{Reply}
+use Rattle.ktm_world.specs.declared.reply.Reply.TheVariants as reply
 use Rattle.wattorju.specs.declared.told.CommitState.{CommitState}
 use Rattle.wattorju.specs.declared.told.CommitState.TheVariants.{Committed, Pending}
 use Rattle.wattorju.specs.declared.told.Notification.{Notification}

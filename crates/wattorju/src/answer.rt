@@ -1,7 +1,7 @@
 // What the machine's replies say, by what a call tells. No other reply comes.
 ghost use Rattle.std.specs.Prelude.{◌≡◌, IfSome};
 ghost use Rattle.ktm_forms.specs.Tells.{IsTold, a_guid, a_notification, a_size, a_transaction, bytes, keys, names, nothing, progress};
-ghost use Rattle.ktm_types.specs.declared.reply.Reply.TheVariants.{Contents, Done, Guid, Keys, Names, Size};
+ghost use Rattle.ktm_world.specs.declared.reply.Reply.TheVariants.{Contents, Done, Guid, Keys, Names, Size};
 ghost use Rattle.ktm_world.specs.KeyCalls.{reply_of_value};
 ghost use Rattle.wattorju.specs.Calls.{IfReplied, answer_of, reply_of};
 ghost use Rattle.wattorju.specs.Told.{reply_of_information, reply_of_notification, reply_of_state};
@@ -9,7 +9,7 @@ ghost use Rattle.wattorju.specs.Told.{reply_of_information, reply_of_notificatio
 use crate::told::{CommitState, Notification, TransactionInformation};
 use crate::{CompletionFault, Failure};
 use ktm_base::{Bytes, NoMemory, Refusal, TextList};
-use ktm_types::Reply;
+use ktm_world::Reply;
 use uuid::Uuid;
 
 // The reply; or that it is out of memory, or that the machine was not asked.

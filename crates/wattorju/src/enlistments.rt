@@ -1,14 +1,14 @@
 // Enlistments of resource managers in transactions.
 ghost use Rattle.std.specs.Prelude.{◌≡◌, IfOk};
-ghost use Rattle.ktm_types.specs.declared.command.Command.TheVariants.{CloseHandle, CommitComplete, CommitEnlistment, CreateEnlistment, DuplicateHandle, GetEnlistmentRecoveryInformation, OpenEnlistment, PrePrepareComplete, PrePrepareEnlistment, PrepareComplete, PrepareEnlistment, ReadOnlyEnlistment, RecoverEnlistment, RollbackComplete, RollbackEnlistment, SetEnlistmentRecoveryInformation, SinglePhaseReject};
-ghost use Rattle.ktm_types.specs.declared.reply.Reply.TheVariants.{Contents, Done, Guid};
+ghost use Rattle.ktm_world.specs.declared.command.Command.TheVariants.{CloseHandle, CommitComplete, CommitEnlistment, CreateEnlistment, DuplicateHandle, GetEnlistmentRecoveryInformation, OpenEnlistment, PrePrepareComplete, PrePrepareEnlistment, PrepareComplete, PrepareEnlistment, ReadOnlyEnlistment, RecoverEnlistment, RollbackComplete, RollbackEnlistment, SetEnlistmentRecoveryInformation, SinglePhaseReject};
+ghost use Rattle.ktm_world.specs.declared.reply.Reply.TheVariants.{Contents, Done, Guid};
 ghost use Rattle.wattorju.specs.Calls.{IsBinding, IsCalled, IsCompleted, answer_of, own, reply_of};
 
 use crate::law::{law_of_bytes, law_of_guid};
 use crate::machine::OWN;
 use crate::{CompletionFault, Enlistment, Failure, Machine, ResourceManager, Transaction};
 use ktm_base::{Bytes, Disk};
-use ktm_types::{Command, Completion, EnlistmentKind};
+use ktm_world::{Command, Completion, EnlistmentKind};
 use uuid::Uuid;
 
 impl<D: Disk> Machine<D> {

@@ -1,14 +1,14 @@
 // Files and directories.
 ghost use Rattle.std.specs.Prelude.{◌≡◌, IfOk};
-ghost use Rattle.ktm_types.specs.declared.command.Command.TheVariants.{CloseHandle, CreateDirectory, CreateDirectoryTransacted, CreateFile, CreateFileTransacted, DeleteFile, DeleteFileTransacted, DuplicateHandle, FindFiles, FindFilesTransacted, FlushFileBuffers, GetFileSizeEx, MoveFile, MoveFileTransacted, ReadFile, RemoveDirectory, RemoveDirectoryTransacted, SetEndOfFile, WriteFile};
-ghost use Rattle.ktm_types.specs.declared.reply.Reply.TheVariants.{Contents, Done, Names, Size};
+ghost use Rattle.ktm_world.specs.declared.command.Command.TheVariants.{CloseHandle, CreateDirectory, CreateDirectoryTransacted, CreateFile, CreateFileTransacted, DeleteFile, DeleteFileTransacted, DuplicateHandle, FindFiles, FindFilesTransacted, FlushFileBuffers, GetFileSizeEx, MoveFile, MoveFileTransacted, ReadFile, RemoveDirectory, RemoveDirectoryTransacted, SetEndOfFile, WriteFile};
+ghost use Rattle.ktm_world.specs.declared.reply.Reply.TheVariants.{Contents, Done, Names, Size};
 ghost use Rattle.wattorju.specs.Calls.{IsBinding, IsCalled, IsCompleted, answer_of, own, reply_of};
 
 use crate::law::law_of_bytes;
 use crate::machine::OWN;
 use crate::{CompletionFault, Failure, Machine, OpenFile, Text, Transaction};
 use ktm_base::{Bytes, Disk, TextList};
-use ktm_types::{Access, Command, Completion, Disposition, ShareMode};
+use ktm_world::{Access, Command, Completion, Disposition, ShareMode};
 
 impl<D: Disk> Machine<D> {
     /// Opens a file, or makes it, as its disposition says. What is then written is committed by each call.

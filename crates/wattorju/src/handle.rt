@@ -1,5 +1,5 @@
 // What stands for an object that is open: the label of a handle.
-ghost use Rattle.ktm_types.specs.Values.{IsLabel};
+ghost use Rattle.ktm_world.specs.Values.{IsLabel};
 
 use ktm_base::Label;
 

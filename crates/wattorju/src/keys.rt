@@ -1,15 +1,15 @@
 // Keys and their values.
 ghost use Rattle.std.specs.Prelude.{◌≡◌, IfOk};
-ghost use Rattle.ktm_types.specs.declared.command.Command.TheVariants.{KvGet, KvList, KvSet, KvUnset};
-ghost use Rattle.ktm_types.specs.declared.command.View.TheVariants.{Plain, Transaction as Through};
-ghost use Rattle.ktm_types.specs.declared.reply.Reply.TheVariants.{Done, Keys};
+ghost use Rattle.ktm_world.specs.declared.command.Command.TheVariants.{KvGet, KvList, KvSet, KvUnset};
+ghost use Rattle.ktm_world.specs.declared.command.View.TheVariants.{Plain, Transaction as Through};
+ghost use Rattle.ktm_world.specs.declared.reply.Reply.TheVariants.{Done, Keys};
 ghost use Rattle.ktm_world.specs.KeyCalls.{reply_of_value};
 ghost use Rattle.wattorju.specs.Calls.{IsCalled, answer_of};
 
 use crate::law::law_of_bytes;
 use crate::{Failure, Machine, Text, Transaction};
 use ktm_base::{Bytes, Disk, TextList};
-use ktm_types::{Command, View};
+use ktm_world::{Command, View};
 
 impl<D: Disk> Machine<D> {
     /// Gives a key a value, in a transaction. A key has 1 to 64 characters, a value at most 960 bytes.

@@ -1,6 +1,6 @@
 // What is so of every value of a type.
 ghost use Rattle.ktm_base.specs.Bytes.{AreBytes};
-ghost use Rattle.ktm_types.specs.Values.{IsGuid};
+ghost use Rattle.ktm_world.specs.Values.{IsGuid};
 
 use ktm_base::Bytes;
 use uuid::Uuid;

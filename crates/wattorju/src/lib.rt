@@ -20,9 +20,9 @@ pub use failure::{CompletionFault, Failure};
 pub use handle::{Enlistment, OpenFile, ResourceManager, Transaction};
 pub use ktm_base::{Bytes, Disk, Items, NoMemory, Notify, PowerDisk, Refusal, TextList, Texts};
 pub use ktm_cut::CutDisk;
-pub use ktm_open::OpenFault;
+pub use ktm_kernel::OpenFault;
 pub use ktm_os::{FileBlock, FileDisk, LateFile, open_disk};
-pub use ktm_types::{
+pub use ktm_world::{
     Access, Disposition, Durability, EnlistmentKind, ShareMode, TransactionOutcome,
     TransactionState,
 };

@@ -1,7 +1,7 @@
 // Resource managers.
 ghost use Rattle.std.specs.Prelude.{◌≡◌, IfOk};
-ghost use Rattle.ktm_types.specs.declared.command.Command.TheVariants.{CloseHandle, CreateResourceManager, DuplicateHandle, Exit, GetNotificationResourceManager, OpenResourceManager, RecoverResourceManager};
-ghost use Rattle.ktm_types.specs.declared.reply.Reply.TheVariants.{Done, Guid};
+ghost use Rattle.ktm_world.specs.declared.command.Command.TheVariants.{CloseHandle, CreateResourceManager, DuplicateHandle, Exit, GetNotificationResourceManager, OpenResourceManager, RecoverResourceManager};
+ghost use Rattle.ktm_world.specs.declared.reply.Reply.TheVariants.{Done, Guid};
 ghost use Rattle.wattorju.specs.Calls.{IsBinding, IsCalled, IsCompleted, answer_of, own, reply_of};
 ghost use Rattle.wattorju.specs.Told.{reply_of_notification};
 
@@ -9,7 +9,7 @@ use crate::law::law_of_guid;
 use crate::machine::OWN;
 use crate::{CompletionFault, Failure, Machine, Notification, ResourceManager};
 use ktm_base::Disk;
-use ktm_types::{Command, Completion, Durability};
+use ktm_world::{Command, Completion, Durability};
 use uuid::Uuid;
 
 impl<D: Disk> Machine<D> {

@@ -5,9 +5,8 @@ ghost use Rattle.wattorju.specs.Restarts.{IsRestarted, answer_of_restart};
 
 use crate::Machine;
 use ktm_base::{Down, NoMemory, PowerDisk, Refusal};
-use ktm_kernel::law_of_power;
-use ktm_open::OpenFault;
-use ktm_types::Reply;
+use ktm_kernel::{OpenFault, law_of_power};
+use ktm_world::Reply;
 
 /// What a machine found that started again.
 #[derive(Clone, Copy, Debug, PartialEq, Eq)]

@@ -1,6 +1,6 @@
 // Texts that a call takes.
 ghost use Rattle.std.specs.Prelude.{◌≡◌, ◌↔◌, IfOk, IsErrOf, IsTrue};
-ghost use Rattle.ktm_types.specs.Values.{IsText, IsTextByte};
+ghost use Rattle.ktm_world.specs.Values.{IsText, IsTextByte};
 ghost use Rattle.std.specs.List.{AllByRecursion-prop};
 ghost use Rattle.std.proofs.Props.{props};
 

@@ -1,6 +1,6 @@
 // What calls tell.
 use ktm_base::Notify;
-use ktm_types::{TransactionOutcome, TransactionState};
+use ktm_world::{TransactionOutcome, TransactionState};
 use uuid::Uuid;
 
 /// What became of a transaction that was asked to commit.

@@ -1,7 +1,7 @@
 // Transactions.
 ghost use Rattle.std.specs.Prelude.{◌≡◌, IfOk};
-ghost use Rattle.ktm_types.specs.declared.command.Command.TheVariants.{CloseHandle, CommitTransaction, CreateTransaction, DuplicateHandle, GetTransactionInformation, OpenTransaction, RollbackTransaction};
-ghost use Rattle.ktm_types.specs.declared.reply.Reply.TheVariants.{Done, Guid};
+ghost use Rattle.ktm_world.specs.declared.command.Command.TheVariants.{CloseHandle, CommitTransaction, CreateTransaction, DuplicateHandle, GetTransactionInformation, OpenTransaction, RollbackTransaction};
+ghost use Rattle.ktm_world.specs.declared.reply.Reply.TheVariants.{Done, Guid};
 ghost use Rattle.wattorju.specs.Calls.{IsBinding, IsCompleted, answer_of, own, reply_of};
 ghost use Rattle.wattorju.specs.Told.{reply_of_information, reply_of_state};
 
@@ -9,7 +9,7 @@ use crate::law::law_of_guid;
 use crate::machine::OWN;
 use crate::{CommitState, CompletionFault, Failure, Machine, Transaction, TransactionInformation};
 use ktm_base::Disk;
-use ktm_types::{Command, Completion};
+use ktm_world::{Command, Completion};
 use uuid::Uuid;
 
 impl<D: Disk> Machine<D> {

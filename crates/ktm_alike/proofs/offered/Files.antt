@@ -4,7 +4,7 @@ use Rattle.std.specs.Prelude.{option_map, if◌then◌else◌}
 use Rattle.std.specs.List.{flat_map}
 use Rattle.std.proofs.lemmas.List.{map-append}
 use Rattle.ktm_base.specs.declared.id.Id.{Id}
-use Rattle.ktm_types.specs.declared.change.Change.{Change}
+use Rattle.ktm_world.specs.declared.change.Change.{Change}
 use Rattle.ktm_world.specs.Changes.{changed_all, node_of, changes_bytes, has_made}
 use Rattle.ktm_world.specs.Committed.{Committed, Version, Work, version_of, versions_after, with_change, with_work, committed_with, final_bytes, changes_to_commit, written_files, raised_version, without_version}
 use Rattle.ktm_world.specs.Files.{OwnChanges, FirstOpen, FilesNow, FileTable, Opening, first_open, own_changes, with_own_changes, without_transaction, first_open_of, is_last_version, tree_of, tree_seen, fixed_bytes, first_bytes, bytes_after, bytes_with, bytes_seen, changes_with}

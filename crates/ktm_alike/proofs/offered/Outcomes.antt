@@ -6,7 +6,7 @@ use Rattle.std.proofs.lemmas.List.{length-map, map-append}
 use Rattle.ktm_base.specs.declared.limits.TheConstants.{MOST_NUMBER, END_OF_NODES}
 use Rattle.ktm_base.specs.declared.id.Id.{Id}
 use Rattle.ktm_base.specs.declared.refusal.Refusal.TheVariants.{TransactionalConflict}
-use Rattle.ktm_types.specs.declared.change.Change.{Change}
+use Rattle.ktm_world.specs.declared.change.Change.{Change}
 use Rattle.ktm_world.specs.Changes.{changes_bytes, nodes_made}
 use Rattle.ktm_world.specs.Committed.{Committed, written_files, committed_with}
 use Rattle.ktm_world.specs.Conflicts.{holds_now, users, opener, written_by, meets_other, is_outdated, changes_outdated, touches_plain_writer, overwrites_opened, conflicts}

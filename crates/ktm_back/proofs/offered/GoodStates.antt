@@ -3,14 +3,14 @@ use Rattle.std.proofs.Common.{◌≡◌, ◌+◌, not, Bool, true, nat_le, refl,
 use Rattle.std.specs.List.{list_all, flat_map}
 use Rattle.std.proofs.lemmas.Bool.{and_parts, leb-true, lt-ltb}
 use Rattle.ktm_base.specs.declared.id.Id.{Id}
-use Rattle.ktm_types.specs.declared.recorded.Superior.{Superior}
+use Rattle.ktm_world.specs.declared.recorded.Superior.{Superior}
 use Rattle.ktm_world.specs.Durable.{Durable, Recorded, enlistments_of, is_manager}
 use Rattle.ktm_world.specs.Enlistments.{Enlistment}
 use Rattle.ktm_world.specs.Transactions.{same_id}
 use Rattle.ktm_world.specs.World.{back, enlistments_back, is_brought_back}
 use Rattle.txf_laws.specs.Elements.{each_pair}
 use Rattle.txf_laws.proofs.offered.Elements.{IsIn-filter, IsIn-flat_map, IsIn-unflat, each_pair-flat_kept, list_all-at, list_all-from}
-use Rattle.ktm_states.specs.GoodState.{IsGoodState, enlisted, is_drawn, is_of_object}
+use Rattle.txf_laws.specs.GoodState.{IsGoodState, enlisted, is_drawn, is_of_object}
 use Rattle.ktm_courses.proofs.offered.EnlistmentOrder.{differ_in_id, ids-back, map-flat}
 use Rattle.ktm_courses.proofs.offered.SoundRestarts.{is-back, recorded_as}
 use Rattle.ktm_courses.proofs.offered.Views.{each_pair-map}

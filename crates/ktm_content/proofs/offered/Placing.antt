@@ -4,7 +4,7 @@ use Rattle.std.specs.Prelude.{flat_map}
 use Rattle.std.proofs.lemmas.Bool.{cases_lt}
 use Rattle.std.proofs.lemmas.List.{drop_all, drop_at, drop-take, get_or-append_right, get_or-take, get_or_append_left, take-append-drop, take-take, take_all, take_at}
 use Rattle.std.proofs.lemmas.List.Concat.{flat_map-append}
-use Rattle.ktm_base.specs.declared.limits.TheConstants.{UNIT_BYTES}
+use Rattle.ktm_page.specs.TheConstants.{UNIT_BYTES}
 use Rattle.ktm_content.specs.Places.{numbers_from, places_of, places_on}
 
 -- ---- the places of a page

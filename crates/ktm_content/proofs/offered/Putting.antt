@@ -4,7 +4,7 @@ use Rattle.std.specs.Prelude.{flat_map}
 use Rattle.std.proofs.lemmas.Bool.{cases_lt}
 use Rattle.std.proofs.lemmas.List.{append-nil, drop_all, length-replicate, take-append-le, take_all}
 use Rattle.std.proofs.lemmas.List.Concat.{flat_map-append}
-use Rattle.ktm_base.specs.Bytes.{written}
+use Rattle.ktm_page.specs.Bytes.{written}
 use Rattle.ktm_content.specs.Contents.{cut_to, put_over}
 use Rattle.ktm_content.specs.Places.{CanBePut, places_of, places_on}
 use Rattle.ktm_content.proofs.offered.Placing.{drop-places_on, length-all, length-places_on, places_on-append, places_on-take, places_on-units, take-places_on}

@@ -6,14 +6,14 @@ use Rattle.std.proofs.lemmas.List.Elements.{All-cons, All-head, All-nil, All-tai
 use Rattle.ktm_base.specs.declared.id.Id.{Id}
 use Rattle.ktm_each.specs.Each.{EachFrom, EachOfChange, EachOfChanges, EachOfDurable, EachOfEvent, EachOfFiles, EachOfFirst, EachOfGroup, EachOfNode, EachOfOwn, EachOfPart, EachOfRecorded}
 use Rattle.ktm_memory.specs.Memory.{LayersNow, recorded_of}
-use Rattle.ktm_states.specs.Grammatical.{changes_of_event}
+use Rattle.txf_laws.specs.Grammatical.{changes_of_event}
 use Rattle.ktm_trace.specs.Contents.{contents_of, expanded}
 use Rattle.ktm_trace.specs.Traces.{Traced, TracedPart}
-use Rattle.ktm_types.specs.declared.change.Change.{Change}
-use Rattle.ktm_types.specs.declared.change.Change.TheVariants.{Make, Put, Cut, Move, Drop}
-use Rattle.ktm_types.specs.declared.event.DonePart.{DonePart}
-use Rattle.ktm_types.specs.declared.recorded.Node.{Node}
-use Rattle.ktm_types.specs.declared.recorded.RecordedPart.{RecordedPart}
+use Rattle.ktm_world.specs.declared.change.Change.{Change}
+use Rattle.ktm_world.specs.declared.change.Change.TheVariants.{Make, Put, Cut, Move, Drop}
+use Rattle.ktm_world.specs.declared.event.DonePart.{DonePart}
+use Rattle.ktm_world.specs.declared.recorded.Node.{Node}
+use Rattle.ktm_world.specs.declared.recorded.RecordedPart.{RecordedPart}
 use Rattle.ktm_world.specs.Changes.{bytes_in}
 use Rattle.ktm_world.specs.Durable.{Durable, Recorded, changes_in, is_decided}
 use Rattle.ktm_world.specs.Enlistments.{Enlistment}

@@ -6,13 +6,13 @@ use Rattle.std.proofs.lemmas.List.Sums.{length-filter}
 use Rattle.std.specs.List.{list_any, list_all}
 use Rattle.ktm_base.specs.declared.limits.TheConstants.{MOST_NUMBER, MOST_INFORMATION_BYTES}
 use Rattle.ktm_base.specs.declared.id.Id.{Id}
-use Rattle.ktm_types.specs.declared.object.Handle.{Handle}
-use Rattle.ktm_types.specs.declared.object.Object.{Object}
-use Rattle.ktm_types.specs.declared.object.Object.TheVariants.{Transaction as TransactionObject, Manager as ManagerObject, Enlistment as EnlistmentObject, File as FileObject}
-use Rattle.ktm_types.specs.declared.object.Phase.{Phase}
-use Rattle.ktm_types.specs.declared.object.Phase.TheVariants.{Active, Requested, PrePreparing, PrePrepared, Preparing, SinglePhase, Held, InDoubt, Committing, Aborting, Ended}
-use Rattle.ktm_types.specs.declared.object.Transaction.{Transaction}
-use Rattle.ktm_types.specs.declared.options.EnlistmentKind.{EnlistmentKind}
+use Rattle.ktm_world.specs.declared.object.Handle.{Handle}
+use Rattle.ktm_world.specs.declared.object.Object.{Object}
+use Rattle.ktm_world.specs.declared.object.Object.TheVariants.{Transaction as TransactionObject, Manager as ManagerObject, Enlistment as EnlistmentObject, File as FileObject}
+use Rattle.ktm_world.specs.declared.object.Phase.{Phase}
+use Rattle.ktm_world.specs.declared.object.Phase.TheVariants.{Active, Requested, PrePreparing, PrePrepared, Preparing, SinglePhase, Held, InDoubt, Committing, Aborting, Ended}
+use Rattle.ktm_world.specs.declared.object.Transaction.{Transaction}
+use Rattle.ktm_world.specs.declared.options.EnlistmentKind.{EnlistmentKind}
 use Rattle.ktm_world.specs.Durable.{is_before}
 use Rattle.ktm_world.specs.Enlistments.{Enlistment, Manager, Note, is_superior, takes_part, is_unfinished, superior_of, is_durable_at}
 use Rattle.ktm_world.specs.Present.{Present}
@@ -27,7 +27,7 @@ use Rattle.ktm_courses.proofs.offered.Moves.{same-by_id}
 use Rattle.ktm_courses.proofs.offered.Endings.{superior-found}
 use Rattle.ktm_courses.proofs.offered.NewObjects.{list_all-push, list_any-push, list_any-silent, filter-silent, superior-silent, each_pair-push, next_id, counted-before, counted-more, counted-next, next-other}
 use Rattle.ktm_world.specs.TransactionCalls.{later}
-use Rattle.ktm_types.specs.declared.object.TransactionOutcome.TheVariants.{Undetermined}
+use Rattle.ktm_world.specs.declared.object.TransactionOutcome.TheVariants.{Undetermined}
 use Rattle.ktm_world.specs.Enlistments.{has_id, with_enlistments}
 use Rattle.ktm_steps.proofs.offered.Ways.{if_cases}
 

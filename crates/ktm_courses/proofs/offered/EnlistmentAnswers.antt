@@ -4,14 +4,14 @@ use Rattle.std.proofs.Common.{◌≡◌, ℕ, ◌==◌, ◌&&◌, ◌||◌, not,
 use Rattle.std.proofs.lemmas.Bool.{cases_Bool, and_parts, and_from, and_cases, and_left, and_right, or_cases, or_left, or_right, eqb-true, not-true, not_from_false, true≢false, false_from_ne_true}
 use Rattle.std.proofs.lemmas.List.Sums.{length-filter}
 use Rattle.ktm_base.specs.declared.notify.Notify.{Notify}
-use Rattle.ktm_types.specs.declared.event.DonePart.{DonePart}
-use Rattle.ktm_types.specs.declared.event.Event.{Event}
-use Rattle.ktm_types.specs.declared.input.PhaseInput.{PhaseInput}
-use Rattle.ktm_types.specs.declared.object.Phase.{Phase}
-use Rattle.ktm_types.specs.declared.object.Phase.TheVariants.{Active, Requested, PrePreparing, PrePrepared, Preparing, SinglePhase, Held, InDoubt, Committing, Aborting, Ended}
-use Rattle.ktm_types.specs.declared.object.Transaction.{Transaction}
-use Rattle.ktm_types.specs.declared.object.TransactionOutcome.{TransactionOutcome}
-use Rattle.ktm_types.specs.declared.step.Owed.{Owed}
+use Rattle.ktm_world.specs.declared.event.DonePart.{DonePart}
+use Rattle.ktm_world.specs.declared.event.Event.{Event}
+use Rattle.ktm_world.specs.declared.input.PhaseInput.{PhaseInput}
+use Rattle.ktm_world.specs.declared.object.Phase.{Phase}
+use Rattle.ktm_world.specs.declared.object.Phase.TheVariants.{Active, Requested, PrePreparing, PrePrepared, Preparing, SinglePhase, Held, InDoubt, Committing, Aborting, Ended}
+use Rattle.ktm_world.specs.declared.object.Transaction.{Transaction}
+use Rattle.ktm_world.specs.declared.object.TransactionOutcome.{TransactionOutcome}
+use Rattle.ktm_world.specs.declared.step.Owed.{Owed}
 use Rattle.ktm_world.specs.Enlistments.{has_id, Sent, Enlistment, Manager, is_superior, is_open_for_votes, asks_pre_prepare, allows_one_phase, owes_pre_prepare, owes_prepare, owes_commit, owes_rollback, takes_part, is_unfinished, is_durable_at, with_enlistments, superior_of}
 use Rattle.ktm_world.specs.Phases.{Course, changing_one, is_single_phase, in_phase, recording, telling, owing, unchanged, superior, ended, ended_if_finished, event_if}
 use Rattle.ktm_world.specs.Transactions.{same_id, is_undecided}
@@ -30,10 +30,10 @@ use Rattle.ktm_courses.proofs.offered.CommitsBegun.{Fresh, arrives-pre_prepared}
 use Rattle.ktm_steps.specs.Laws.{IsPart, by, someone_owes, when_none_owes}
 use Rattle.ktm_steps.proofs.offered.Table.{rows_law}
 use Rattle.ktm_world.specs.Rows.{all_readies, proceeds, proceeds_without, row, tells_in}
-use Rattle.ktm_types.specs.declared.step.Answered.{Answered}
-use Rattle.ktm_types.specs.declared.step.Fact.{Fact}
-use Rattle.ktm_types.specs.declared.step.Step.{Step}
-use Rattle.ktm_types.specs.declared.step.Step.TheVariants.{Record}
+use Rattle.ktm_world.specs.declared.step.Answered.{Answered}
+use Rattle.ktm_world.specs.declared.step.Fact.{Fact}
+use Rattle.ktm_world.specs.declared.step.Step.{Step}
+use Rattle.ktm_world.specs.declared.step.Step.TheVariants.{Record}
 use Rattle.ktm_base.specs.declared.id.Id.{Id}
 use Rattle.std.specs.List.{list_all}
 use Rattle.ktm_steps.proofs.offered.Ways.{if_cases}

@@ -3,9 +3,9 @@ use Rattle.std.proofs.Common.{◌≡◌, ℕ, true, List, [], ◌∷◌, Option,
 use Rattle.std.proofs.lemmas.Bool.{and_parts}
 use Rattle.ktm_base.specs.declared.id.Label.{Label}
 use Rattle.ktm_base.specs.declared.id.Pid.{Pid}
-use Rattle.ktm_types.specs.declared.object.Object.{Object}
-use Rattle.ktm_types.specs.declared.object.Transaction.{Transaction}
-use Rattle.ktm_types.specs.declared.reply.Reply.TheVariants.{Done}
+use Rattle.ktm_world.specs.declared.object.Object.{Object}
+use Rattle.ktm_world.specs.declared.object.Transaction.{Transaction}
+use Rattle.ktm_world.specs.declared.reply.Reply.TheVariants.{Done}
 use Rattle.ktm_world.specs.HandleCalls.{abort_active, close_handle, closed_file, closed_in_turn, exit, handle_gone, has_handle, labels_of, last_handle_gone, without_handle}
 use Rattle.ktm_world.specs.Handles.{object_at}
 use Rattle.ktm_world.specs.Outcome.{Outcome, and_then, apply, only_reply}

@@ -2,19 +2,19 @@
 use Rattle.std.proofs.Common.{◌≡◌, ◌&&◌, ◌||◌, not, true, false, List, [], ◌∷◌, ◌++◌, map, filter, drop, Option, Some, None, refl, sym, ◌∙◌, ap, subst, inl, inr, append_assoc, ℕ, Bool}
 use Rattle.std.proofs.lemmas.Bool.{cases_Bool, or_left, not_from_false, true≢false, and_from, not-true}
 use Rattle.std.proofs.lemmas.List.{append-nil}
-use Rattle.ktm_states.specs.GoodState.{is_of_object}
-use Rattle.ktm_states.specs.Grammatical.{names_objects}
+use Rattle.txf_laws.specs.GoodState.{is_of_object}
+use Rattle.txf_laws.specs.Grammatical.{names_objects}
 use Rattle.ktm_courses.proofs.offered.NewObjects.{counted-parts}
 use Rattle.std.specs.List.{list_all}
 use Rattle.ktm_base.specs.declared.id.Id.{Id}
-use Rattle.ktm_types.specs.declared.event.Event.{Event}
-use Rattle.ktm_types.specs.declared.event.Event.TheVariants.{Boot, MadeRm, Plain, Ready, Single, Held, Decide, Undo, Done}
-use Rattle.ktm_types.specs.declared.event.DonePart.{DonePart}
-use Rattle.ktm_types.specs.declared.object.Transaction.{Transaction}
-use Rattle.ktm_types.specs.declared.object.Phase.{Phase}
-use Rattle.ktm_types.specs.declared.object.Phase.TheVariants.{SinglePhase}
-use Rattle.ktm_types.specs.declared.input.PhaseInput.{PhaseInput}
-use Rattle.ktm_types.specs.declared.reply.Reply.{Reply}
+use Rattle.ktm_world.specs.declared.event.Event.{Event}
+use Rattle.ktm_world.specs.declared.event.Event.TheVariants.{Boot, MadeRm, Plain, Ready, Single, Held, Decide, Undo, Done}
+use Rattle.ktm_world.specs.declared.event.DonePart.{DonePart}
+use Rattle.ktm_world.specs.declared.object.Transaction.{Transaction}
+use Rattle.ktm_world.specs.declared.object.Phase.{Phase}
+use Rattle.ktm_world.specs.declared.object.Phase.TheVariants.{SinglePhase}
+use Rattle.ktm_world.specs.declared.input.PhaseInput.{PhaseInput}
+use Rattle.ktm_world.specs.declared.reply.Reply.{Reply}
 use Rattle.ktm_world.specs.Durable.{Durable, Recorded, after_event, after_events, decide_recorded, finish_recorded, recorded_at}
 use Rattle.ktm_world.specs.Enlistments.{Manager, Sent, notes_for, taken_count, Enlistment}
 use Rattle.ktm_world.specs.Files.{FileTable, OwnChanges, own_changes, without_transaction}

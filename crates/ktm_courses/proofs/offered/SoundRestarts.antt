@@ -6,16 +6,16 @@ use Rattle.std.proofs.lemmas.Option.{same_Some}
 use Rattle.std.specs.List.{list_any, list_all, flat_map}
 use Rattle.ktm_base.specs.declared.limits.TheConstants.{MOST_NUMBER, MOST_INFORMATION_BYTES}
 use Rattle.ktm_base.specs.declared.id.Id.{Id}
-use Rattle.ktm_types.specs.declared.recorded.RecordedPart.{RecordedPart}
-use Rattle.ktm_types.specs.declared.recorded.Superior.{Superior}
-use Rattle.ktm_types.specs.declared.event.DonePart.{DonePart}
-use Rattle.ktm_types.specs.declared.event.Event.TheVariants.{Boot, Done}
-use Rattle.ktm_types.specs.declared.event.Part.{Part}
-use Rattle.ktm_types.specs.declared.event.Part.TheVariants.{Enlistment as EnlistmentPart, Changes, Settings}
-use Rattle.ktm_types.specs.declared.object.Phase.TheVariants.{InDoubt, Committing}
-use Rattle.ktm_types.specs.declared.object.Transaction.{Transaction}
-use Rattle.ktm_types.specs.declared.object.TransactionOutcome.{TransactionOutcome}
-use Rattle.ktm_types.specs.declared.options.EnlistmentKind.{EnlistmentKind}
+use Rattle.ktm_world.specs.declared.recorded.RecordedPart.{RecordedPart}
+use Rattle.ktm_world.specs.declared.recorded.Superior.{Superior}
+use Rattle.ktm_world.specs.declared.event.DonePart.{DonePart}
+use Rattle.ktm_world.specs.declared.event.Event.TheVariants.{Boot, Done}
+use Rattle.ktm_world.specs.declared.event.Part.{Part}
+use Rattle.ktm_world.specs.declared.event.Part.TheVariants.{Enlistment as EnlistmentPart, Changes, Settings}
+use Rattle.ktm_world.specs.declared.object.Phase.TheVariants.{InDoubt, Committing}
+use Rattle.ktm_world.specs.declared.object.Transaction.{Transaction}
+use Rattle.ktm_world.specs.declared.object.TransactionOutcome.{TransactionOutcome}
+use Rattle.ktm_world.specs.declared.options.EnlistmentKind.{EnlistmentKind}
 use Rattle.ktm_world.specs.Durable.{Durable, Recorded, after_event, after_events, enlistments_of, has_undone, is_before, is_decided, is_held, is_manager, stand}
 use Rattle.ktm_world.specs.Enlistments.{Enlistment, Manager, is_superior, is_unfinished, is_durable_at, superior_of}
 use Rattle.ktm_world.specs.Logs.{Group}
@@ -23,7 +23,7 @@ use Rattle.ktm_world.specs.Present.{Present}
 use Rattle.ktm_world.specs.Transactions.{same_id}
 use Rattle.ktm_world.specs.World.{ManagerPast, manager_now, present, opened, own_events, own_group, done_if, enlistment_back, superior_back, enlistments_back, by_rising_id, is_enlistment_part, is_brought_back, transaction_back, back}
 use Rattle.txf_laws.specs.Elements.{IsIn, each_pair}
-use Rattle.ktm_states.specs.GoodState.{is_of_object, is_drawn, enlisted_in, superiors_in, enlisted, is_held_well, IsGoodState}
+use Rattle.txf_laws.specs.GoodState.{is_of_object, is_drawn, enlisted_in, superiors_in, enlisted, is_held_well, IsGoodState}
 use Rattle.ktm_courses.specs.SoundCourse.{IsSoundCourse, is_note_of, is_idle, is_waiting, is_part_as, is_counted, is_made_with_it, has_transaction, has_manager, are_not_both_superiors, is_superior_durable, is_unrecovered_well, is_outcome_of, is_of_its_boot, has_superior_as_asked, is_enlistment_as, are_enlistments_as_asked, is_awaited, is_recorded_as_asked, is_alone_in_one_phase}
 use Rattle.txf_laws.proofs.offered.Diamonds.{IsIn-right}
 use Rattle.txf_laws.proofs.offered.Lists.{IsIn-left, IsIn-cases, IsIn-unmap}

@@ -5,12 +5,12 @@ use Rattle.std.specs.Prelude.{nat_lt, if◌then◌else◌}
 use Rattle.std.proofs.lemmas.Bool.{cases_Bool, eqb-true}
 use Rattle.std.proofs.lemmas.List.{length-replicate}
 use Rattle.std.proofs.lemmas.List.Elements.{All-append, All-cons, All-filter, All-head, All-map, All-nil, All-tail, All-weaker}
-use Rattle.ktm_types.specs.declared.change.Change.{Change}
-use Rattle.ktm_types.specs.declared.change.Change.TheVariants.{Make, Put, Cut, Move, Drop}
-use Rattle.ktm_types.specs.declared.change.Contents.TheVariants.{Whole}
-use Rattle.ktm_types.specs.declared.change.NodeKind.{NodeKind}
-use Rattle.ktm_types.specs.declared.change.NodeKind.TheVariants.{File, Directory}
-use Rattle.ktm_types.specs.declared.recorded.Node.{Node}
+use Rattle.ktm_world.specs.declared.change.Change.{Change}
+use Rattle.ktm_world.specs.declared.change.Change.TheVariants.{Make, Put, Cut, Move, Drop}
+use Rattle.ktm_world.specs.declared.change.Contents.TheVariants.{Whole}
+use Rattle.ktm_world.specs.declared.change.NodeKind.{NodeKind}
+use Rattle.ktm_world.specs.declared.change.NodeKind.TheVariants.{File, Directory}
+use Rattle.ktm_world.specs.declared.recorded.Node.{Node}
 use Rattle.ktm_world.specs.Changes.{bytes_in, changed, changed_all, changes_bytes, new_content}
 use Rattle.ktm_world.specs.Committed.{changes_to_commit, final_bytes, written_files}
 use Rattle.ktm_world.specs.Tree.{Tree, bytes_of, bytes_or_none, cut_to, has_number, put_over, with_changed, with_node}

@@ -2,8 +2,8 @@
 use Rattle.std.proofs.Common.{◌≡◌, ℕ, List, [], ◌∷◌, arith}
 use Rattle.std.proofs.lemmas.List.Sums.{sum_by-cons}
 use Rattle.ktm_log.specs.Log.{end_of}
-use Rattle.ktm_types.specs.Groups.{Group}
-use Rattle.ktm_types.specs.Sizes.{frame_size, log_size}
+use Rattle.ktm_world.specs.Groups.{Group}
+use Rattle.ktm_world.specs.Sizes.{frame_size, log_size}
 use Rattle.ktm_event.proofs.GroupSizes.{length-group}
 use Rattle.ktm_journal.specs.Image.{HoldGroups}
 

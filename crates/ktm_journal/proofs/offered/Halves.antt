@@ -3,7 +3,7 @@ use Rattle.std.proofs.Common.{◌≡◌, ◌≢◌, ◌⊎◌, inl, inr, ℕ, �
 use Rattle.std.specs.Int.{from_le_bytes, w16, w32, w64}
 use Rattle.ktm_log.specs.Log.{IsLog, area_bytes}
 use Rattle.ktm_log.proofs.Parts.{same_part}
-use Rattle.ktm_types.specs.Sizes.{area_len}
+use Rattle.ktm_world.specs.Sizes.{area_len}
 use Rattle.ktm_journal.specs.declared.half.Half.{Half}
 use Rattle.ktm_journal.specs.declared.half.Half.TheVariants.{A, B}
 use Rattle.ktm_journal.specs.Image.{HasSnapshot, IsHeaded, half_at, log_area, pages_at}

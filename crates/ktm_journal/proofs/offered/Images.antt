@@ -8,9 +8,9 @@ use Rattle.ktm_base.proofs.offered.ToldSteps.{Goes-map}
 use Rattle.ktm_log.specs.declared.area.Area.{Area}
 use Rattle.ktm_log.specs.Log.{LogState, IsLog, Rests, LeavesEither, SameElsewhere, area_bytes}
 use Rattle.ktm_log.proofs.Parts.{not_covered}
-use Rattle.ktm_types.specs.Groups.{Group}
-use Rattle.ktm_types.specs.Sizes.{area_len}
-use Rattle.ktm_types.specs.EventGrammar.{IsGroupOf}
+use Rattle.ktm_world.specs.Groups.{Group}
+use Rattle.ktm_world.specs.Sizes.{area_len}
+use Rattle.ktm_world.specs.EventGrammar.{IsGroupOf}
 use Rattle.ktm_journal.specs.Image.{IsFormatted, IsHeaded, HoldGroups, IsImage, JournalState, JournalAt, LeavesGroupOrNot, half_at, half_of, log_area, row_of}
 use Rattle.ktm_journal.specs.Pages.{KeepsPages, LeavesPages}
 use Rattle.ktm_journal.proofs.offered.Halves.{half_high, half_low, headed_same, snapshot_same}

@@ -3,7 +3,7 @@ use Rattle.std.proofs.Common.{◌≡◌, ℕ, ◌+◌, List, [], ◌∷◌, leng
 use Rattle.ktm_log.specs.Log.{IsLog, area_bytes}
 use Rattle.ktm_log.proofs.GoodOrBad.{one_log}
 use Rattle.ktm_event.proofs.OneEvent.{one_group}
-use Rattle.ktm_types.specs.Groups.{Group}
+use Rattle.ktm_world.specs.Groups.{Group}
 use Rattle.ktm_journal.specs.declared.half.Half.{Half}
 use Rattle.ktm_journal.specs.Image.{HasSnapshot, HoldGroups, IsHeaded, IsImage, half_of, log_area, snapshot_area}
 

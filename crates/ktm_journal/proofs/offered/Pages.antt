@@ -12,7 +12,7 @@ use Rattle.ktm_base.proofs.offered.ToldSteps.{Goes-map, IfSome-step, IsSomeAnd-s
 use Rattle.ktm_log.specs.declared.area.Area.{Area}
 use Rattle.ktm_log.specs.Log.{IsLog, Rests, area_bytes}
 use Rattle.ktm_log.proofs.Parts.{not_covered}
-use Rattle.ktm_types.specs.Groups.{Group}
+use Rattle.ktm_world.specs.Groups.{Group}
 use Rattle.ktm_journal.specs.Image.{IsHeaded, IsImage, JournalAt, JournalState, half_of, image_len, page_count, pages_at, row_of}
 use Rattle.ktm_journal.specs.Pages.{IsSafeBut, JournalBut, JournalIn, PageTorn, PageWritten, PagesLaw, StaysWithin, page_at, page_ranges}
 use Rattle.ktm_journal.proofs.Laying.{dirties, none_written, one_refused, stays_same}

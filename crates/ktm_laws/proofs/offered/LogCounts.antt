@@ -2,18 +2,18 @@
 use Rattle.std.proofs.Common.{◌≡◌, ℕ, ◌+◌, ◌-◌, ◌<◌, ◌^◌, Bool, true, false, List, [], ◌∷◌, ◌++◌, length, nat_le, Option, refl, arith}
 use Rattle.std.proofs.lemmas.Bool.{and_from, and_parts, leb-false, lt-ltb, or_parts}
 use Rattle.std.specs.List.{list_all, flat_map}
-use Rattle.ktm_types.specs.declared.command.Line.{Line}
-use Rattle.ktm_types.specs.declared.event.DonePart.{DonePart}
-use Rattle.ktm_types.specs.declared.event.Event.{Event}
+use Rattle.ktm_world.specs.declared.command.Line.{Line}
+use Rattle.ktm_world.specs.declared.event.DonePart.{DonePart}
+use Rattle.ktm_world.specs.declared.event.Event.{Event}
 use Rattle.ktm_world.specs.Durable.{Durable, Recorded, after_event, after_events, events_apply, fact_applies, fact_of, has_undone, is_within_limits, is_worn}
 use Rattle.ktm_world.specs.World.{World, done_if, own_events, own_group, present}
 use Rattle.ktm_world.proofs.offered.Durables.{after_events-events}
 use Rattle.ktm_records.specs.Kept.{facts_apply, limits_hold}
 use Rattle.ktm_records.specs.Spelling.{SpellingLaw, most_at_once}
 use Rattle.ktm_laws.specs.Running.{HasEventsLeft, LastsFor}
-use Rattle.ktm_states.specs.GoodState.{IsGoodState, is_drawn, is_of_object}
-use Rattle.ktm_states.specs.Grammatical.{is_grammatical}
-use Rattle.ktm_states.specs.OwnGroup.{OwnGroupLaw}
+use Rattle.txf_laws.specs.GoodState.{IsGoodState, is_drawn, is_of_object}
+use Rattle.txf_laws.specs.Grammatical.{is_grammatical}
+use Rattle.txf_laws.specs.OwnGroup.{OwnGroupLaw}
 use Rattle.txf_laws.proofs.offered.Elements.{list_all-at, list_all-from, IsIn-unflat}
 
 -- ---- what applies

@@ -5,7 +5,7 @@ use Rattle.std.proofs.lemmas.Bool.{and_from, and_parts, cases_Bool}
 use Rattle.std.proofs.lemmas.List.{append-nil, drop-map}
 use Rattle.std.proofs.lemmas.List.Folds.{list_all-append, list_all-map}
 use Rattle.std.specs.List.{list_all}
-use Rattle.ktm_types.specs.declared.event.Event.{Event}
+use Rattle.ktm_world.specs.declared.event.Event.{Event}
 use Rattle.ktm_world.specs.Logs.{Group, Power, up, down, as_groups, kept_after, prefixes, prefixes_from, possible_by}
 use Rattle.ktm_world.specs.Outcome.{Outcome}
 use Rattle.ktm_world.specs.World.{World, extend, is_worn_log, possible_logs, with_own}

@@ -10,10 +10,10 @@ use Rattle.ktm_world.proofs.offered.Durables.{stand-append, log_applies-append}
 use Rattle.ktm_records.specs.Agreement.{AgreeingLaw}
 use Rattle.ktm_records.specs.SoundWorlds.{SoundWorldsLaw}
 use Rattle.ktm_records.specs.Spelling.{SpellingLaw}
-use Rattle.ktm_states.specs.GoodState.{IsGoodState}
-use Rattle.ktm_states.specs.GoodStates.{GoodStatesLaw}
-use Rattle.ktm_states.specs.Grammatical.{is_grammatical}
-use Rattle.ktm_states.specs.OwnGroup.{OwnGroupLaw}
+use Rattle.txf_laws.specs.GoodState.{IsGoodState}
+use Rattle.txf_laws.specs.GoodStates.{GoodStatesLaw}
+use Rattle.txf_laws.specs.Grammatical.{is_grammatical}
+use Rattle.txf_laws.specs.OwnGroup.{OwnGroupLaw}
 use Rattle.ktm_limits.specs.LimitsKept.{LimitsLaw}
 use Rattle.ktm_laws.specs.Notes.{NotesLaw}
 use Rattle.ktm_laws.specs.Running.{IsRunning, is_good_log, is_log_grammatical}

@@ -4,12 +4,12 @@ use Rattle.std.specs.List.{list_any, list_all, flat_map}
 use Rattle.std.proofs.lemmas.List.{length-map, map-append}
 use Rattle.ktm_base.specs.declared.limits.TheConstants.{MOST_LIVE, MOST_INFORMATION_BYTES}
 use Rattle.ktm_base.specs.declared.id.Id.{Id}
-use Rattle.ktm_types.specs.declared.change.Change.{Change}
-use Rattle.ktm_types.specs.declared.event.DonePart.{DonePart}
-use Rattle.ktm_types.specs.declared.event.Event.{Event}
-use Rattle.ktm_types.specs.declared.event.Event.TheVariants.{Boot, MadeRm, Plain, Ready, Single, Held, Decide, Undo, Done}
-use Rattle.ktm_types.specs.declared.event.Part.{Part}
-use Rattle.ktm_types.specs.declared.event.Part.TheVariants.{Enlistment, Changes, Settings}
+use Rattle.ktm_world.specs.declared.change.Change.{Change}
+use Rattle.ktm_world.specs.declared.event.DonePart.{DonePart}
+use Rattle.ktm_world.specs.declared.event.Event.{Event}
+use Rattle.ktm_world.specs.declared.event.Event.TheVariants.{Boot, MadeRm, Plain, Ready, Single, Held, Decide, Undo, Done}
+use Rattle.ktm_world.specs.declared.event.Part.{Part}
+use Rattle.ktm_world.specs.declared.event.Part.TheVariants.{Enlistment, Changes, Settings}
 use Rattle.ktm_keyed.specs.Keyed.{value_at}
 use Rattle.ktm_world.specs.Changes.{changed_all, is_make, node_of, has_made, changes_bytes, nodes_made}
 use Rattle.ktm_world.specs.Committed.{written_files}
@@ -21,8 +21,8 @@ use Rattle.ktm_world.specs.Transactions.{same_id}
 use Rattle.ktm_world.specs.Tree.{bytes_or_none, units_of, bytes_of}
 use Rattle.ktm_world.specs.World.{done_if, own_events, own_group}
 use Rattle.txf_laws.specs.Contents.{puts_some}
-use Rattle.ktm_states.specs.GoodState.{is_of_object}
-use Rattle.ktm_states.specs.Grammatical.{ids_in, ids_of, changes_of_event, is_grammatical}
+use Rattle.txf_laws.specs.GoodState.{is_of_object}
+use Rattle.txf_laws.specs.Grammatical.{ids_in, ids_of, changes_of_event, is_grammatical}
 use Rattle.ktm_mapped.specs.Mapped.{IsBlank, mapped_node, mapped_tree, mapped_change, mapped_part, mapped_event, mapped_group, mapped_log, mapped_recorded_part, mapped_recorded, mapped_durable}
 use Rattle.ktm_mapped.proofs.offered.Lists.{is_some-mapped, list_any-mapped, list_all-mapped, filter-mapped, count_by-mapped, sum_by-mapped, flat_map-same}
 use Rattle.ktm_mapped.proofs.offered.Trees.{units-content, units-there, changed_all-mapped, changes_apply-mapped}

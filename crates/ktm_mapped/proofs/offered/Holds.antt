@@ -2,10 +2,10 @@
 use Rattle.std.proofs.Common.{◌≡◌, ℕ, ◌+◌, ◌==◌, ◌&&◌, ◌||◌, not, true, List, [], ◌∷◌, ◌++◌, map, filter, Option, Some, None, nat_le, is_none, refl, ◌∙◌, ap}
 use Rattle.std.specs.Prelude.{option_map, if◌then◌else◌}
 use Rattle.std.specs.List.{list_any, list_all}
-use Rattle.ktm_types.specs.declared.change.Change.{Change}
-use Rattle.ktm_types.specs.declared.change.Change.TheVariants.{Make, Put, Cut, Move, Drop}
-use Rattle.ktm_types.specs.declared.change.Contents.TheVariants.{Whole, Paged}
-use Rattle.ktm_types.specs.declared.recorded.Node.{Node}
+use Rattle.ktm_world.specs.declared.change.Change.{Change}
+use Rattle.ktm_world.specs.declared.change.Change.TheVariants.{Make, Put, Cut, Move, Drop}
+use Rattle.ktm_world.specs.declared.change.Contents.TheVariants.{Whole, Paged}
+use Rattle.ktm_world.specs.declared.recorded.Node.{Node}
 use Rattle.ktm_world.specs.Changes.{changed, changes_bytes, has_changes, has_made, is_drop, is_make, is_move, next_after, node_of, nodes_made}
 use Rattle.ktm_world.specs.Committed.{written_after, written_files}
 use Rattle.ktm_world.specs.Durable.{act_of_node, acts_of, acts_of_all, are_final_bytes, are_recorded_changes, ends_in_bytes, gives_bytes, is_new_in, made_files, next_after_all, was_cut}

@@ -3,13 +3,13 @@ use Rattle.std.proofs.Common.{◌≡◌, ℕ, zero, suc, ◌+◌, ◌-◌, ◌/�
 use Rattle.std.specs.Prelude.{option_map, if◌then◌else◌}
 use Rattle.std.specs.List.{list_any}
 use Rattle.std.proofs.lemmas.List.{length-map, map-append, take-map, drop-map}
-use Rattle.ktm_types.specs.declared.change.Change.{Change}
-use Rattle.ktm_types.specs.declared.change.Change.TheVariants.{Make, Put, Cut, Move, Drop}
-use Rattle.ktm_types.specs.declared.change.Contents.{Contents}
-use Rattle.ktm_types.specs.declared.change.Contents.TheVariants.{Whole, Paged}
-use Rattle.ktm_types.specs.declared.change.NodeKind.{NodeKind}
-use Rattle.ktm_types.specs.declared.change.NodeKind.TheVariants.{File, Directory}
-use Rattle.ktm_types.specs.declared.recorded.Node.{Node}
+use Rattle.ktm_world.specs.declared.change.Change.{Change}
+use Rattle.ktm_world.specs.declared.change.Change.TheVariants.{Make, Put, Cut, Move, Drop}
+use Rattle.ktm_world.specs.declared.change.Contents.{Contents}
+use Rattle.ktm_world.specs.declared.change.Contents.TheVariants.{Whole, Paged}
+use Rattle.ktm_world.specs.declared.change.NodeKind.{NodeKind}
+use Rattle.ktm_world.specs.declared.change.NodeKind.TheVariants.{File, Directory}
+use Rattle.ktm_world.specs.declared.recorded.Node.{Node}
 use Rattle.ktm_world.specs.Changes.{new_content, bytes_in, is_whole, is_empty_list, changed, changed_all, applies, changes_apply, is_free, is_node_number}
 use Rattle.ktm_world.specs.Paths.{is_name}
 use Rattle.ktm_world.specs.Tree.{Tree, root, has_number, node_at, is_there, content_of, is_file, is_directory, bytes_or_none, units_of, bytes_of, child_of, has_entries, parent_of, way_up, is_at_or_below, with_node, with_changed, without_node, cut_to, put_over}

@@ -4,8 +4,8 @@ use Rattle.std.proofs.lemmas.List.Elements.{All-nil}
 use Rattle.ktm_base.specs.declared.refusal.Refusal.{Refusal}
 use Rattle.ktm_each.specs.Each.{EachOfEvent, EachOfGroup}
 use Rattle.ktm_event.specs.Kept.{EventsState, Holds}
-use Rattle.ktm_types.specs.declared.reply.Reply.{Reply}
-use Rattle.ktm_types.specs.declared.reply.Reply.TheVariants.{Refused}
+use Rattle.ktm_world.specs.declared.reply.Reply.{Reply}
+use Rattle.ktm_world.specs.declared.reply.Reply.TheVariants.{Refused}
 use Rattle.ktm_world.specs.Outcome.{Outcome, apply, only_reply}
 use Rattle.ktm_world.specs.Present.{Present}
 use Rattle.ktm_memory.specs.declared.settlement.Settlement.{Settlement}

@@ -8,18 +8,18 @@ use Rattle.ktm_base.specs.declared.id.Id.{Id}
 use Rattle.ktm_course.specs.Moved.{is_of_changes, records_changes, records_files}
 use Rattle.ktm_each.specs.Each.{AreZerosSuch, EachOfChange, EachOfChanges, EachOfDurable, EachOfEvent, EachOfFiles, EachOfGroup, EachOfOwn, EachOfPart, EachOfRecorded}
 use Rattle.ktm_each.proofs.offered.Files.{files_committed-each, forgotten-each}
-use Rattle.ktm_states.specs.Grammatical.{changes_of_event}
+use Rattle.txf_laws.specs.Grammatical.{changes_of_event}
 use Rattle.ktm_trace.specs.Contents.{contents_of, expanded, expanded_parts}
 use Rattle.ktm_trace.specs.Traces.{Traced, TracedPart}
-use Rattle.ktm_types.specs.declared.change.Change.{Change}
-use Rattle.ktm_types.specs.declared.event.DonePart.{DonePart}
-use Rattle.ktm_types.specs.declared.event.Event.{Event}
-use Rattle.ktm_types.specs.declared.event.Event.TheVariants.{Ready, Single, Held, Decide, Undo, Done}
-use Rattle.ktm_types.specs.declared.event.Part.{Part}
-use Rattle.ktm_types.specs.declared.event.Part.TheVariants.{Changes, Settings}
-use Rattle.ktm_types.specs.declared.step.Fact.{Fact}
-use Rattle.ktm_types.specs.declared.step.Step.{Step}
-use Rattle.ktm_types.specs.declared.step.Step.TheVariants.{Record, Tell, Ask, Enter, Decide as DecideIt, End, EndWhereFinished}
+use Rattle.ktm_world.specs.declared.change.Change.{Change}
+use Rattle.ktm_world.specs.declared.event.DonePart.{DonePart}
+use Rattle.ktm_world.specs.declared.event.Event.{Event}
+use Rattle.ktm_world.specs.declared.event.Event.TheVariants.{Ready, Single, Held, Decide, Undo, Done}
+use Rattle.ktm_world.specs.declared.event.Part.{Part}
+use Rattle.ktm_world.specs.declared.event.Part.TheVariants.{Changes, Settings}
+use Rattle.ktm_world.specs.declared.step.Fact.{Fact}
+use Rattle.ktm_world.specs.declared.step.Step.{Step}
+use Rattle.ktm_world.specs.declared.step.Step.TheVariants.{Record, Tell, Ask, Enter, Decide as DecideIt, End, EndWhereFinished}
 use Rattle.ktm_world.specs.Changes.{has_changes}
 use Rattle.ktm_world.specs.Durable.{Recorded, is_decided}
 use Rattle.ktm_world.specs.Enlistments.{Enlistment, Manager, is_durable_at}
@@ -29,8 +29,8 @@ use Rattle.ktm_world.specs.Logs.{Group}
 use Rattle.ktm_world.specs.Phases.{enlistment_part, event_if, has_settings}
 use Rattle.ktm_steps.specs.Laws.{EventsAheadLaw}
 use Rattle.ktm_tm.specs.Courses.{caller_of}
-use Rattle.ktm_types.specs.declared.input.PhaseInput.{PhaseInput}
-use Rattle.ktm_types.specs.declared.object.Transaction.{Transaction}
+use Rattle.ktm_world.specs.declared.input.PhaseInput.{PhaseInput}
+use Rattle.ktm_world.specs.declared.object.Transaction.{Transaction}
 use Rattle.ktm_world.specs.Present.{Present}
 use Rattle.ktm_world.specs.Rows.{row}
 use Rattle.ktm_world.specs.Steps.{Basis, basis, event_of_caller, events_ahead, events_of, held_event, is_recorded_by, led, seen}

@@ -3,7 +3,7 @@ use Rattle.std.proofs.Common.{◌≡◌, [], All, refl, sym, subst}
 use Rattle.std.proofs.lemmas.List.Elements.{All-nil}
 use Rattle.ktm_event.specs.Kept.{EventsState, Holds}
 use Rattle.ktm_paged.proofs.offered.Recording.{bare-recorded}
-use Rattle.ktm_states.specs.Grammatical.{changes_of_event}
+use Rattle.txf_laws.specs.Grammatical.{changes_of_event}
 use Rattle.ktm_world.specs.Durable.{Durable}
 use Rattle.ktm_world.specs.Logs.{Group}
 use Rattle.ktm_memory.specs.Decided.{HoldsRecordOf}

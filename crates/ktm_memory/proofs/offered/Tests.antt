@@ -1,7 +1,7 @@
 -- Tests, one after another.
 use Rattle.std.proofs.Common.{◌≡◌, cond, Bool, true, false, List, ◌∷◌, Some, ap}
 use Rattle.ktm_base.specs.declared.refusal.Refusal.{Refusal}
-use Rattle.ktm_types.specs.declared.reply.Reply.TheVariants.{Refused}
+use Rattle.ktm_world.specs.declared.reply.Reply.TheVariants.{Refused}
 use Rattle.ktm_world.specs.Outcome.{Outcome, first_refusal, only_reply, refuse_or}
 use Rattle.ktm_world.specs.Present.{Present}
 

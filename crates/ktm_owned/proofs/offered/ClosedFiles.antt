@@ -8,12 +8,12 @@ use Rattle.std.specs.Prelude.{nat_le}
 use Rattle.ktm_base.specs.declared.id.Id.{Id}
 use Rattle.ktm_base.specs.declared.id.Label.{Label}
 use Rattle.ktm_base.specs.declared.id.Pid.{Pid}
-use Rattle.ktm_types.specs.declared.input.PhaseInput.{PhaseInput}
-use Rattle.ktm_types.specs.declared.object.Handle.{Handle}
-use Rattle.ktm_types.specs.declared.object.Object.{Object}
-use Rattle.ktm_types.specs.declared.object.Object.TheVariants.{Transaction as TransactionObject, Manager as ManagerObject, Enlistment as EnlistmentObject, File as FileObject}
-use Rattle.ktm_types.specs.declared.object.Transaction.{Transaction}
-use Rattle.ktm_types.specs.declared.reply.Reply.TheVariants.{Done}
+use Rattle.ktm_world.specs.declared.input.PhaseInput.{PhaseInput}
+use Rattle.ktm_world.specs.declared.object.Handle.{Handle}
+use Rattle.ktm_world.specs.declared.object.Object.{Object}
+use Rattle.ktm_world.specs.declared.object.Object.TheVariants.{Transaction as TransactionObject, Manager as ManagerObject, Enlistment as EnlistmentObject, File as FileObject}
+use Rattle.ktm_world.specs.declared.object.Transaction.{Transaction}
+use Rattle.ktm_world.specs.declared.reply.Reply.TheVariants.{Done}
 use Rattle.ktm_world.specs.Changes.{changes_bytes, node_of}
 use Rattle.ktm_world.specs.Conflicts.{holds_now, written_by, writes}
 use Rattle.ktm_world.specs.Files.{FirstOpen, OpenFile, OwnChanges, own_changes, is_last_version, tree_seen, tree_of}

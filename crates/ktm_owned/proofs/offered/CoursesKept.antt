@@ -3,12 +3,12 @@ use Rattle.std.specs.Prelude.{if◌then◌else◌}
 use Rattle.std.proofs.Common.{◌≡◌, ◌||◌, ◌&&◌, Bool, true, false, List, [], ◌∷◌, ◌++◌, Option, Some, None, refl, sym, ◌∙◌, ap, subst, inl, inr, ◌⊎◌}
 use Rattle.std.proofs.lemmas.Bool.{and_parts, cases_Bool, true≢false}
 use Rattle.std.specs.List.{list_any}
-use Rattle.ktm_types.specs.declared.change.Change.{Change}
-use Rattle.ktm_types.specs.declared.input.PhaseInput.{PhaseInput}
-use Rattle.ktm_types.specs.declared.object.Transaction.{Transaction}
-use Rattle.ktm_types.specs.declared.object.TransactionOutcome.{TransactionOutcome}
-use Rattle.ktm_types.specs.declared.object.TransactionOutcome.TheVariants.{Undetermined, Committed, Aborted}
-use Rattle.ktm_types.specs.declared.step.Step.{Step}
+use Rattle.ktm_world.specs.declared.change.Change.{Change}
+use Rattle.ktm_world.specs.declared.input.PhaseInput.{PhaseInput}
+use Rattle.ktm_world.specs.declared.object.Transaction.{Transaction}
+use Rattle.ktm_world.specs.declared.object.TransactionOutcome.{TransactionOutcome}
+use Rattle.ktm_world.specs.declared.object.TransactionOutcome.TheVariants.{Undetermined, Committed, Aborted}
+use Rattle.ktm_world.specs.declared.step.Step.{Step}
 use Rattle.ktm_world.specs.Changes.{has_changes}
 use Rattle.ktm_world.specs.Committed.{Work}
 use Rattle.ktm_world.specs.Enlistments.{Enlistment, is_unfinished}
@@ -17,11 +17,11 @@ use Rattle.ktm_world.specs.Phases.{Course, ended, has_settings, work_of}
 use Rattle.ktm_world.specs.Rows.{row}
 use Rattle.ktm_world.specs.Steps.{carried, changing, led, run, seen}
 use Rattle.ktm_world.specs.Transactions.{is_undecided}
-use Rattle.ktm_steps.proofs.offered.Lists.{each-row-passes}
-use Rattle.ktm_steps.proofs.offered.Staying.{stays-led, stays-step}
+use Rattle.ktm_courses.specs.Lists.{each-row-passes}
+use Rattle.ktm_courses.specs.Staying.{stays-led, stays-step}
 use Rattle.ktm_courses.proofs.offered.Moves.{NoBoots}
 use Rattle.ktm_courses.proofs.offered.OutcomesMade.{led-no_boots}
-use Rattle.ktm_steps.proofs.offered.Ways.{if_cases}
+use Rattle.ktm_courses.specs.Ways.{if_cases}
 
 -- at most one work, which commits what the transaction has to commit
 abbrev pub OneWork : List Change → OwnSettings → List Work → Type 0

@@ -13,7 +13,7 @@ use Rattle.txf_laws.specs.Elements.{IsIn, each_pair}
 use Rattle.txf_laws.specs.SoundFiles.{set_by_two, set_no_key}
 use Rattle.txf_laws.proofs.offered.Diamonds.{none-from, no_test}
 use Rattle.txf_laws.proofs.offered.Elements.{list_all-at, list_all-from, each_pair-either}
-use Rattle.ktm_states.proofs.offered.Settings.{set_both-sym}
+use Rattle.txf_laws.proofs.offered.Settings.{set_both-sym}
 use Rattle.txf_laws.proofs.offered.Tables.{same_id-equal, same_id-from, same_id-sym}
 
 -- the entry of a transaction with one setting more

@@ -4,7 +4,7 @@ use Rattle.std.proofs.lemmas.Bool.{cases_Bool, eq-eqb, ne_eqb, eqb-true, and_par
 use Rattle.std.proofs.lemmas.Option.{none-some, same_Some}
 use Rattle.std.specs.List.{list_all}
 use Rattle.std.specs.Prelude.{length, nat_le}
-use Rattle.ktm_types.specs.declared.recorded.Node.{Node}
+use Rattle.ktm_world.specs.declared.recorded.Node.{Node}
 use Rattle.ktm_world.specs.Changes.{is_free}
 use Rattle.ktm_world.specs.FileCalls.{Whereabouts, free, at_node, reached, entered, walk, whereabouts_of, find_path}
 use Rattle.ktm_world.specs.Paths.{is_name, path_of, parts_of, names_in}

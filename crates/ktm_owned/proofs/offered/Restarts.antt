@@ -3,11 +3,11 @@ use Rattle.std.proofs.Common.{◌≡◌, ℕ, ◌≤◌, ◌^◌, ◌==◌, ◌&
 use Rattle.std.proofs.lemmas.Bool.{cases_Bool, ne_eqb, leb-true, le-leb, and_parts, and_from, or_cases, or_left, or_right, not-true, not_from_false, true≢false, false_from_ne_true}
 use Rattle.std.proofs.lemmas.List.Elements.{All-nil}
 use Rattle.std.specs.List.{list_all}
-use Rattle.ktm_types.specs.declared.change.Change.{Change}
-use Rattle.ktm_types.specs.declared.change.Change.TheVariants.{Make, Put, Cut, Move, Drop}
-use Rattle.ktm_types.specs.declared.recorded.Node.{Node}
-use Rattle.ktm_types.specs.declared.recorded.Stage.{Stage}
-use Rattle.ktm_types.specs.declared.object.Transaction.{Transaction}
+use Rattle.ktm_world.specs.declared.change.Change.{Change}
+use Rattle.ktm_world.specs.declared.change.Change.TheVariants.{Make, Put, Cut, Move, Drop}
+use Rattle.ktm_world.specs.declared.recorded.Node.{Node}
+use Rattle.ktm_world.specs.declared.recorded.Stage.{Stage}
+use Rattle.ktm_world.specs.declared.object.Transaction.{Transaction}
 use Rattle.ktm_world.specs.Changes.{applies, changes_apply, changes_bytes, is_make, node_of, has_changes}
 use Rattle.ktm_world.specs.Committed.{changes_to_commit}
 use Rattle.ktm_world.specs.Conflicts.{holds_now}
@@ -24,12 +24,12 @@ use Rattle.ktm_world.specs.World.{present, opened, transaction_back, back, in_do
 use Rattle.txf_laws.specs.Elements.{IsIn, each_pair}
 use Rattle.txf_laws.specs.Footprint.{footprint, AreFootprintsApart}
 use Rattle.txf_laws.specs.Contents.{is_made_below, puts_some}
-use Rattle.ktm_states.specs.GoodState.{is_of_object, IsGoodState}
+use Rattle.txf_laws.specs.GoodState.{is_of_object, IsGoodState}
 use Rattle.txf_laws.specs.SoundFiles.{IsSoundKeys, IsSoundFiles, is_undecided_in, set_by_two, set_no_key, changed_by_two, make_apart, numbers_made, is_drawn_node, is_change_of_opened, files_apart, is_gone}
 use Rattle.txf_laws.proofs.offered.ChangeTests.{Applies-from}
 use Rattle.txf_laws.proofs.offered.Diamonds.{IsIn-map, none-from}
 use Rattle.txf_laws.proofs.offered.Elements.{IsIn-filter, IsIn-kept, list_all-at, list_all-from, each_pair-either, each_pair-from, each_pair-filter}
-use Rattle.ktm_states.proofs.offered.GoodTransactions.{Core, TableOf, table-of}
+use Rattle.txf_laws.proofs.offered.GoodTransactions.{Core, TableOf, table-of}
 use Rattle.txf_laws.proofs.offered.Lists.{IsIn-unmap}
 use Rattle.txf_laws.proofs.offered.Holds.{are_apart-from}
 use Rattle.ktm_owned.proofs.offered.OwnSettings.{own_settings-found, own_settings-of}
@@ -40,7 +40,7 @@ use Rattle.ktm_owned.proofs.offered.RestoredChanges.{applied-in, restored}
 use Rattle.ktm_courses.proofs.offered.SoundRestarts.{booted}
 use Rattle.txf_laws.proofs.offered.Tables.{is_earlier, before_other, same_id-equal, same_id-from}
 use Rattle.ktm_courses.proofs.offered.Views.{each_pair-map}
-use Rattle.ktm_states.proofs.offered.WaitingChanges.{no_changes_part, no_settings_part}
+use Rattle.txf_laws.proofs.offered.WaitingChanges.{no_changes_part, no_settings_part}
 
 module _ (base : Durable) (log : List Group) (good : IsGoodState (stand base log)) where
   abbrev s : Durable

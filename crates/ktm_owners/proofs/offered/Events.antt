@@ -19,16 +19,16 @@ use Rattle.ktm_paged.specs.Meaning.{has_event_its_pages, has_its_pages, has_work
 use Rattle.ktm_paged.specs.Paged.{IsApart, LieBelow, PutLiesBelow}
 use Rattle.ktm_paged.proofs.offered.LyingStates.{recorded-form}
 use Rattle.ktm_paged.proofs.offered.Meanings.{work-paged}
-use Rattle.ktm_states.specs.GoodState.{IsGoodState}
-use Rattle.ktm_states.specs.Grammatical.{changes_of_event}
-use Rattle.ktm_states.proofs.offered.WaitingChanges.{recorded_changes_apply-all}
-use Rattle.ktm_types.specs.declared.change.Change.{Change}
-use Rattle.ktm_types.specs.declared.change.Change.TheVariants.{Make, Put, Cut, Move, Drop}
-use Rattle.ktm_types.specs.declared.change.Contents.TheVariants.{Whole, Paged}
-use Rattle.ktm_types.specs.declared.event.Event.{Event}
-use Rattle.ktm_types.specs.declared.event.Event.TheVariants.{Boot, MadeRm, Plain, Ready, Single, Held, Decide, Undo, Done}
-use Rattle.ktm_types.specs.declared.event.Part.{Part}
-use Rattle.ktm_types.specs.declared.event.Part.TheVariants.{Changes, Enlistment, Settings}
+use Rattle.txf_laws.specs.GoodState.{IsGoodState}
+use Rattle.txf_laws.specs.Grammatical.{changes_of_event}
+use Rattle.txf_laws.proofs.offered.WaitingChanges.{recorded_changes_apply-all}
+use Rattle.ktm_world.specs.declared.change.Change.{Change}
+use Rattle.ktm_world.specs.declared.change.Change.TheVariants.{Make, Put, Cut, Move, Drop}
+use Rattle.ktm_world.specs.declared.change.Contents.TheVariants.{Whole, Paged}
+use Rattle.ktm_world.specs.declared.event.Event.{Event}
+use Rattle.ktm_world.specs.declared.event.Event.TheVariants.{Boot, MadeRm, Plain, Ready, Single, Held, Decide, Undo, Done}
+use Rattle.ktm_world.specs.declared.event.Part.{Part}
+use Rattle.ktm_world.specs.declared.event.Part.TheVariants.{Changes, Enlistment, Settings}
 use Rattle.ktm_world.specs.Changes.{applies, changes_apply}
 use Rattle.ktm_world.specs.Durable.{Durable, after_event, are_recorded_changes, changes_in, ends_in_bytes, event_applies, fact_applies, fact_of, has_changes_part, is_sole, is_within_limits, may_get_ready, part_applies, recorded_at, recorded_changes_apply, recorded_or_new}
 use Rattle.ktm_world.specs.Tree.{Tree}

@@ -15,11 +15,11 @@ use Rattle.ktm_owners.proofs.Sharing.{refused-shared}
 use Rattle.ktm_owners.proofs.Singles.{unit-first}
 use Rattle.ktm_owners.proofs.offered.Events.{changes-there, named-there}
 use Rattle.ktm_paged.specs.Paged.{IsApart, LieBelow, LiesBelow, PutLiesBelow, RecordedLiesBelow}
-use Rattle.ktm_states.specs.GoodState.{IsGoodState}
-use Rattle.ktm_types.specs.declared.change.Change.{Change}
-use Rattle.ktm_types.specs.declared.change.Change.TheVariants.{Make, Put, Cut, Move, Drop}
-use Rattle.ktm_types.specs.declared.recorded.Node.{Node}
-use Rattle.ktm_types.specs.declared.recorded.RecordedPart.{RecordedPart}
+use Rattle.txf_laws.specs.GoodState.{IsGoodState}
+use Rattle.ktm_world.specs.declared.change.Change.{Change}
+use Rattle.ktm_world.specs.declared.change.Change.TheVariants.{Make, Put, Cut, Move, Drop}
+use Rattle.ktm_world.specs.declared.recorded.Node.{Node}
+use Rattle.ktm_world.specs.declared.recorded.RecordedPart.{RecordedPart}
 use Rattle.ktm_world.specs.Durable.{Durable, Recorded, changes_in}
 use Rattle.ktm_world.specs.Tree.{bytes_or_none}
 use Rattle.ktm_world.proofs.offered.Lookups.{Rises, Rises-from}

@@ -6,17 +6,17 @@ use Rattle.std.proofs.lemmas.Bool.{cases_Bool, and_parts, ltb-true, true≢false
 use Rattle.std.proofs.lemmas.List.{append-nil}
 use Rattle.std.proofs.lemmas.List.Elements.{All-cons, All-filter, All-head, All-map, All-nil, All-push, All-tail}
 use Rattle.ktm_base.specs.declared.id.Id.{Id}
-use Rattle.ktm_types.specs.declared.change.Change.{Change}
-use Rattle.ktm_types.specs.declared.change.Change.TheVariants.{Make, Put, Cut, Move, Drop}
-use Rattle.ktm_types.specs.declared.change.Contents.TheVariants.{Whole, Paged}
-use Rattle.ktm_types.specs.declared.event.DonePart.{DonePart}
-use Rattle.ktm_types.specs.declared.event.Event.{Event}
-use Rattle.ktm_types.specs.declared.event.Event.TheVariants.{Boot, MadeRm, Plain, Ready, Single, Held, Decide, Undo, Done}
-use Rattle.ktm_types.specs.declared.event.Part.{Part}
-use Rattle.ktm_types.specs.declared.event.Part.TheVariants.{Enlistment, Changes, Settings}
-use Rattle.ktm_types.specs.declared.recorded.RecordedPart.{RecordedPart}
-use Rattle.ktm_types.specs.declared.recorded.Stage.{Stage}
-use Rattle.ktm_types.specs.declared.recorded.Superior.{Superior}
+use Rattle.ktm_world.specs.declared.change.Change.{Change}
+use Rattle.ktm_world.specs.declared.change.Change.TheVariants.{Make, Put, Cut, Move, Drop}
+use Rattle.ktm_world.specs.declared.change.Contents.TheVariants.{Whole, Paged}
+use Rattle.ktm_world.specs.declared.event.DonePart.{DonePart}
+use Rattle.ktm_world.specs.declared.event.Event.{Event}
+use Rattle.ktm_world.specs.declared.event.Event.TheVariants.{Boot, MadeRm, Plain, Ready, Single, Held, Decide, Undo, Done}
+use Rattle.ktm_world.specs.declared.event.Part.{Part}
+use Rattle.ktm_world.specs.declared.event.Part.TheVariants.{Enlistment, Changes, Settings}
+use Rattle.ktm_world.specs.declared.recorded.RecordedPart.{RecordedPart}
+use Rattle.ktm_world.specs.declared.recorded.Stage.{Stage}
+use Rattle.ktm_world.specs.declared.recorded.Superior.{Superior}
 use Rattle.ktm_world.specs.Changes.{changed_all, changes_apply, has_changes}
 use Rattle.ktm_world.specs.Durable.{Durable, Recorded, after_event, are_recorded_changes, changes_in, changes_of, decide_recorded, emptied, emptied_part, ends_in_bytes, event_applies, fact_applies, fact_of, finish_recorded, gives_bytes, has_changes_part, hold_recorded, is_before, is_decided, is_of_enlistment, is_part_of, is_ready, is_within_limits, made_files, parts_done, part_applies, recorded_at, recorded_changes_apply, recorded_or_new, while_not_done, with_part, with_recorded}
 use Rattle.ktm_world.specs.Logs.{Group}
@@ -26,9 +26,9 @@ use Rattle.ktm_world.proofs.offered.Lookups.{Rises, Rises-from}
 use Rattle.txf_laws.specs.Elements.{IsIn}
 use Rattle.txf_laws.proofs.offered.CommitsOfOthers.{All-in}
 use Rattle.txf_laws.proofs.offered.Elements.{find-in, list_all-at}
-use Rattle.ktm_states.specs.GoodState.{IsGoodState, are_kept_changes}
-use Rattle.ktm_states.specs.Grammatical.{changes_of_event, is_grammatical}
-use Rattle.ktm_states.proofs.offered.WaitingChanges.{no_changes-left, no_changes_part, recorded_changes_apply-all}
+use Rattle.txf_laws.specs.GoodState.{IsGoodState, are_kept_changes}
+use Rattle.txf_laws.specs.Grammatical.{changes_of_event, is_grammatical}
+use Rattle.txf_laws.proofs.offered.WaitingChanges.{no_changes-left, no_changes_part, recorded_changes_apply-all}
 use Rattle.ktm_each.proofs.offered.Trees.{All-flat_map, All-one}
 use Rattle.ktm_paged.specs.Meaning.{first_unit, has_event_its_pages, has_its_pages, has_work_pages, meant, meant_event, meant_part, pages_in, pages_of_event, put_on, size_before, units_from}
 use Rattle.ktm_paged.specs.Paged.{CanAllBeMade, GroupApplies, IsPlainlyMade, LieBelow, LogApplies, PagedApplies, PutLiesBelow, RecordedLiesBelow, paged_after, paged_after_all, paged_stand}

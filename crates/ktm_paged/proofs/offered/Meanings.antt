@@ -4,14 +4,14 @@ use Rattle.std.specs.Prelude.{◌^◌, nat_le, nat_lt, ⊤}
 use Rattle.std.specs.List.{list_all}
 use Rattle.std.proofs.lemmas.Bool.{cases_Bool, and_parts, and_from, eq-eqb, eqb-true, eqb-false, lt-ltb, ltb-true, ltb-false, not-true, true≢false}
 use Rattle.std.proofs.lemmas.List.{length-map}
-use Rattle.ktm_types.specs.declared.change.Change.{Change}
-use Rattle.ktm_types.specs.declared.change.Change.TheVariants.{Make, Put, Cut, Move, Drop}
-use Rattle.ktm_types.specs.declared.change.Contents.TheVariants.{Whole, Paged}
-use Rattle.ktm_types.specs.declared.event.Event.{Event}
-use Rattle.ktm_types.specs.declared.event.Event.TheVariants.{Boot, MadeRm, Plain, Ready, Single, Held, Decide, Undo, Done}
-use Rattle.ktm_types.specs.declared.event.Part.{Part}
-use Rattle.ktm_types.specs.declared.event.Part.TheVariants.{Enlistment, Changes, Settings}
-use Rattle.ktm_types.specs.declared.recorded.Node.{Node}
+use Rattle.ktm_world.specs.declared.change.Change.{Change}
+use Rattle.ktm_world.specs.declared.change.Change.TheVariants.{Make, Put, Cut, Move, Drop}
+use Rattle.ktm_world.specs.declared.change.Contents.TheVariants.{Whole, Paged}
+use Rattle.ktm_world.specs.declared.event.Event.{Event}
+use Rattle.ktm_world.specs.declared.event.Event.TheVariants.{Boot, MadeRm, Plain, Ready, Single, Held, Decide, Undo, Done}
+use Rattle.ktm_world.specs.declared.event.Part.{Part}
+use Rattle.ktm_world.specs.declared.event.Part.TheVariants.{Enlistment, Changes, Settings}
+use Rattle.ktm_world.specs.declared.recorded.Node.{Node}
 use Rattle.ktm_content.specs.Places.{CanBePut, LieOn, byte_at, places_on}
 use Rattle.ktm_content.proofs.offered.Placing.{length-places_on}
 use Rattle.ktm_world.specs.Changes.{bytes_in, changed, is_empty_list, node_of}
@@ -20,8 +20,8 @@ use Rattle.ktm_world.specs.Logs.{Group}
 use Rattle.ktm_world.specs.Tree.{Tree, bytes_of, bytes_or_none, content_of, cut_to, node_at, numbers_rise, put_over}
 use Rattle.ktm_world.proofs.offered.Lookups.{map_node, node_at-there}
 use Rattle.txf_laws.specs.Contents.{puts_some}
-use Rattle.ktm_states.specs.GoodState.{is_of_object}
-use Rattle.ktm_states.specs.Grammatical.{ids_in, is_grammatical}
+use Rattle.txf_laws.specs.GoodState.{is_of_object}
+use Rattle.txf_laws.specs.Grammatical.{ids_in, is_grammatical}
 use Rattle.ktm_mapped.specs.Mapped.{mapped_durable}
 use Rattle.ktm_replaced.specs.Replaced.{AreAlike, takes_no_pages}
 use Rattle.ktm_replaced.proofs.offered.Replacing.{after_event-alike, event_applies-alike}

@@ -2,7 +2,7 @@
 use Rattle.std.proofs.Common.{◌≡◌, ℕ, ◌+◌, ◌≤◌, ◌&&◌, ◌||◌, not, Bool, true, List, [], filter, length, sum_by, count_by, Option, Some, sym, ◌∙◌, ap, subst, arith, inl, inr}
 use Rattle.std.proofs.lemmas.Bool.{and_parts, and_from, eq-eqb, leb-true, or_cases, not-true, true≢false}
 use Rattle.ktm_base.specs.declared.id.Id.{Id}
-use Rattle.ktm_types.specs.declared.change.Change.{Change}
+use Rattle.ktm_world.specs.declared.change.Change.{Change}
 use Rattle.ktm_world.specs.Changes.{changes_apply, changes_bytes, is_make, node_of, nodes_made}
 use Rattle.ktm_world.specs.Committed.{Version, version_of, written_files, changes_to_commit}
 use Rattle.ktm_world.specs.Files.{FilesNow, FirstOpen, OwnChanges, own_changes, is_last_version, bytes_seen, bytes_after, first_bytes, committed_files}

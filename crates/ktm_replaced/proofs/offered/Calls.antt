@@ -5,8 +5,8 @@ use Rattle.std.proofs.lemmas.Bool.{cases_Bool, eq-eqb, eqb-true, true≢false}
 use Rattle.std.proofs.lemmas.List.{append-nil, map-append}
 use Rattle.std.proofs.lemmas.List.Sums.{fold-append}
 use Rattle.ktm_base.specs.declared.id.Id.{Id}
-use Rattle.ktm_types.specs.declared.change.Change.{Change}
-use Rattle.ktm_types.specs.declared.change.Change.TheVariants.{Make, Put, Cut, Move, Drop}
+use Rattle.ktm_world.specs.declared.change.Change.{Change}
+use Rattle.ktm_world.specs.declared.change.Change.TheVariants.{Make, Put, Cut, Move, Drop}
 use Rattle.ktm_world.specs.Changes.{changed, changed_all, changes_bytes, has_made, is_drop, is_make, next_after, node_of}
 use Rattle.ktm_world.specs.Committed.{Committed, Version, Work, changes_to_commit, committed_with, versions_after, with_number, written_after, written_files, raised_version, without_version}
 use Rattle.ktm_world.specs.FileOutcome.{FileOutcome, files_after, next_node_after, openings_of, own_after, table_after, with_open, works_of}

@@ -4,10 +4,10 @@ use Rattle.std.specs.Prelude.{option_map}
 use Rattle.std.specs.List.{list_any, list_all}
 use Rattle.std.proofs.lemmas.Bool.{cases_Bool, eqb-true}
 use Rattle.std.proofs.lemmas.Option.{none-some}
-use Rattle.ktm_types.specs.declared.change.Change.{Change}
-use Rattle.ktm_types.specs.declared.change.Change.TheVariants.{Make, Put, Cut, Move, Drop}
-use Rattle.ktm_types.specs.declared.event.Event.TheVariants.{Plain}
-use Rattle.ktm_types.specs.declared.recorded.Node.{Node}
+use Rattle.ktm_world.specs.declared.change.Change.{Change}
+use Rattle.ktm_world.specs.declared.change.Change.TheVariants.{Make, Put, Cut, Move, Drop}
+use Rattle.ktm_world.specs.declared.event.Event.TheVariants.{Plain}
+use Rattle.ktm_world.specs.declared.recorded.Node.{Node}
 use Rattle.ktm_world.specs.Changes.{changed, applies, changes_bytes, node_of, is_make, next_after, has_made}
 use Rattle.ktm_world.specs.Durable.{Durable, Recorded, changes_of, act_of_node, acts_of, acts_of_all, holds_in, others_waiting, recorded_changes_apply, fact_of, after_event, is_within_limits, event_applies}
 use Rattle.ktm_world.specs.Holds.{Act, opens, meets}

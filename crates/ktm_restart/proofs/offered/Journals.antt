@@ -7,8 +7,8 @@ use Rattle.ktm_journal.specs.Image.{IsImage, JournalState, empty_snapshot}
 use Rattle.ktm_journal.proofs.offered.Images.{what_is_left}
 use Rattle.ktm_snapshot.specs.Examples.{empty_bytes}
 use Rattle.ktm_snapshot.specs.StateGrammar.{IsStateOf}
-use Rattle.ktm_states.specs.GoodState.{IsGoodState}
-use Rattle.ktm_states.specs.GoodStates.{GoodStatesLaw}
+use Rattle.txf_laws.specs.GoodState.{IsGoodState}
+use Rattle.txf_laws.specs.GoodStates.{GoodStatesLaw}
 use Rattle.ktm_world.specs.Durable.{Durable, empty_state}
 use Rattle.ktm_world.specs.Logs.{Group}
 use Rattle.ktm_paged.specs.Paged.{paged_after_all}

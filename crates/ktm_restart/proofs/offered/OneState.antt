@@ -7,8 +7,8 @@ use Rattle.ktm_snapshot.specs.Laws.{OneStateAtMost}
 use Rattle.ktm_snapshot.specs.StateGrammar.{IsStateOf}
 use Rattle.ktm_world.specs.Logs.{Group}
 use Rattle.ktm_world.specs.Durable.{Durable}
-use Rattle.ktm_types.specs.EventGrammar.{IsGroupOf}
-use Rattle.ktm_types.specs.Sizes.{log_size}
+use Rattle.ktm_world.specs.EventGrammar.{IsGroupOf}
+use Rattle.ktm_world.specs.Sizes.{log_size}
 use Rattle.ktm_journal.specs.Image.{HasSnapshot, HoldGroups, half_of, log_area, snapshot_area}
 use Rattle.ktm_journal.proofs.offered.OneImage.{one_groups, one_header, one_image, one_snapshot}
 use Rattle.ktm_paged.specs.Paged.{paged_stand}

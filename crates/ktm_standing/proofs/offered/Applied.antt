@@ -4,7 +4,7 @@ use Rattle.std.proofs.Math.Bool.{or-false}
 use Rattle.std.proofs.lemmas.Bool.{cases_Bool}
 use Rattle.std.proofs.lemmas.List.Sums.{fold-append}
 use Rattle.ktm_base.specs.declared.id.Id.{Id}
-use Rattle.ktm_types.specs.declared.reply.Reply.{Reply}
+use Rattle.ktm_world.specs.declared.reply.Reply.{Reply}
 use Rattle.ktm_world.specs.Committed.{committed_with, with_work}
 use Rattle.ktm_world.specs.Durable.{after_events, empty_state}
 use Rattle.ktm_world.specs.Enlistments.{Manager, Sent, notes_for, taken_count}
@@ -12,7 +12,7 @@ use Rattle.ktm_world.specs.Files.{FirstOpen, Opening, files_with, first_open}
 use Rattle.ktm_world.specs.Outcome.{Outcome, apply, committed_now, first_opens_after, only_reply, joined, and_then, served}
 use Rattle.ktm_world.specs.Present.{Present}
 use Rattle.ktm_world.specs.Transactions.{same_id}
-use Rattle.ktm_owned.proofs.offered.OwnedAfterCourses.{both-forgotten}
+use Rattle.ktm_laws.specs.OwnedAfterCourses.{both-forgotten}
 use Rattle.txf_laws.proofs.offered.Elements.{filter-true}
 use Rattle.ktm_standing.specs.Courses.{aside}
 use Rattle.ktm_standing.specs.Effects.{IsLater, IsSilent, opens_left, with_parts}

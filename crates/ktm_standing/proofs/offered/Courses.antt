@@ -2,10 +2,10 @@
 use Rattle.std.proofs.Common.{◌≡◌, ◌||◌, Bool, true, false, cond, map, List, [], ◌∷◌, ◌++◌, fold, Option, Some, None, append-nil, refl, sym, ap, subst, ◌∙◌}
 use Rattle.std.specs.List.{list_any}
 use Rattle.ktm_base.specs.declared.id.Id.{Id}
-use Rattle.ktm_types.specs.declared.change.Change.{Change}
-use Rattle.ktm_types.specs.declared.object.Transaction.{Transaction}
-use Rattle.ktm_types.specs.declared.reply.Reply.{Reply}
-use Rattle.ktm_types.specs.declared.step.Step.{Step}
+use Rattle.ktm_world.specs.declared.change.Change.{Change}
+use Rattle.ktm_world.specs.declared.object.Transaction.{Transaction}
+use Rattle.ktm_world.specs.declared.reply.Reply.{Reply}
+use Rattle.ktm_world.specs.declared.step.Step.{Step}
 use Rattle.ktm_course.specs.Moved.{is_commit}
 use Rattle.ktm_world.specs.Changes.{has_changes}
 use Rattle.ktm_world.specs.Committed.{Committed, Work, committed_with, with_change}
@@ -18,7 +18,7 @@ use Rattle.ktm_world.specs.Present.{Present}
 use Rattle.ktm_world.specs.Steps.{carried, run}
 use Rattle.ktm_world.specs.Transactions.{change_at, is_undecided}
 use Rattle.ktm_world.specs.TransactionCalls.{arrived, course_of, released}
-use Rattle.ktm_owned.proofs.offered.EndedTransactions.{tree-store, versions-store}
+use Rattle.ktm_laws.specs.EndedTransactions.{tree-store, versions-store}
 use Rattle.ktm_steps.proofs.offered.Staying.{run-keeps, stays, stays-step, stays-then, Stays}
 use Rattle.txf_laws.specs.FileEffects.{forgotten}
 use Rattle.txf_laws.specs.Reservations.{files_committed}

@@ -3,7 +3,7 @@ use Rattle.std.proofs.Common.{◌≡◌, ◌&&◌, true, false, List, [], ◌∷
 use Rattle.std.proofs.lemmas.Bool.{cases_Bool, and_parts, or_from, or_parts}
 use Rattle.std.specs.List.{AllByRecursion, list_all, list_any}
 use Rattle.ktm_base.specs.declared.id.Id.{Id}
-use Rattle.ktm_types.specs.declared.object.Transaction.{Transaction}
+use Rattle.ktm_world.specs.declared.object.Transaction.{Transaction}
 use Rattle.ktm_world.specs.Durable.{is_before}
 use Rattle.ktm_world.specs.Transactions.{same_id, transaction_at, change_at}
 use Rattle.txf_laws.specs.Elements.{each_pair}

@@ -3,8 +3,8 @@ use Rattle.std.proofs.Common.{◌≡◌, [], ◌++◌, map, Option, Some, None, 
 use Rattle.ktm_base.specs.declared.id.Id.{Id}
 use Rattle.ktm_base.specs.declared.id.Label.{Label}
 use Rattle.ktm_base.specs.declared.id.Pid.{Pid}
-use Rattle.ktm_types.specs.declared.change.Change.{Change}
-use Rattle.ktm_types.specs.declared.object.Object.TheVariants.{File as FileObject}
+use Rattle.ktm_world.specs.declared.change.Change.{Change}
+use Rattle.ktm_world.specs.declared.object.Object.TheVariants.{File as FileObject}
 use Rattle.ktm_world.specs.Decide.{of_files, opening}
 use Rattle.ktm_world.specs.FileOutcome.{FileOutcome, files_after, openings_of}
 use Rattle.ktm_world.specs.Files.{OpenFile, committed_files, first_open}

@@ -8,7 +8,7 @@ use Rattle.ktm_base.specs.declared.limits.TheConstants.{MOST_NUMBER}
 use Rattle.ktm_base.specs.declared.id.Id.{Id}
 use Rattle.ktm_base.specs.declared.id.ObjectKind.{ObjectKind}
 use Rattle.ktm_base.specs.Guid.{IsId, guid_of}
-use Rattle.ktm_types.specs.declared.object.Transaction.{Transaction}
+use Rattle.ktm_world.specs.declared.object.Transaction.{Transaction}
 use Rattle.ktm_world.specs.Enlistments.{Enlistment, Manager, is_live_enlistment}
 use Rattle.ktm_world.specs.Transactions.{same_id, is_of, is_live}
 use Rattle.ktm_courses.specs.SoundCourse.{is_counted}

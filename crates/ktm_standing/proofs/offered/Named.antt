@@ -7,7 +7,7 @@ use Rattle.ktm_base.specs.declared.id.Label.{Label}
 use Rattle.ktm_base.specs.declared.id.Pid.{Pid}
 use Rattle.ktm_courses.specs.SoundCourse.{has_manager, has_transaction}
 use Rattle.txf_laws.proofs.offered.Tables.{same_id-equal}
-use Rattle.ktm_types.specs.declared.object.Transaction.{Transaction}
+use Rattle.ktm_world.specs.declared.object.Transaction.{Transaction}
 use Rattle.ktm_world.specs.Enlistments.{Enlistment, Manager, enlistment_at, manager_at}
 use Rattle.ktm_world.specs.Handles.{object_at, transaction_id}
 use Rattle.ktm_world.specs.Labels.{enlistment_id, enlistment_named, manager_id, manager_named, transaction_named}

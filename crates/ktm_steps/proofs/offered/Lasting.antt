@@ -3,8 +3,8 @@ use Rattle.std.specs.Prelude.{if◌then◌else◌}
 use Rattle.std.proofs.Common.{◌≡◌, ◌&&◌, Bool, true, false, List, [], ◌∷◌, map, Option, Some, None, is_some, refl, sym, ◌∙◌, ap, inl, inr}
 use Rattle.std.proofs.lemmas.Bool.{cases_Bool}
 use Rattle.ktm_base.specs.declared.id.Id.{Id}
-use Rattle.ktm_types.specs.declared.step.Answered.{Answered}
-use Rattle.ktm_types.specs.declared.step.Answered.TheVariants.{PrePrepared, Prepared, ReadOnly, Finished, Recovered}
+use Rattle.ktm_world.specs.declared.step.Answered.{Answered}
+use Rattle.ktm_world.specs.declared.step.Answered.TheVariants.{PrePrepared, Prepared, ReadOnly, Finished, Recovered}
 use Rattle.ktm_world.specs.Enlistments.{Enlistment, is_superior, superior_of, with_enlistments}
 use Rattle.ktm_world.specs.Phases.{Course, superior}
 use Rattle.ktm_world.specs.Transactions.{same_id}

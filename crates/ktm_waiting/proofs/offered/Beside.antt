@@ -5,7 +5,7 @@ use Rattle.std.specs.List.{list_all, list_any}
 use Rattle.std.proofs.Math.Bool.{and-false, and-true}
 use Rattle.std.proofs.lemmas.Bool.{and_from, and_parts, cases_Bool, false_from_ne_true, not_from_false, true≢false}
 use Rattle.ktm_base.specs.declared.id.Id.{Id}
-use Rattle.ktm_types.specs.declared.change.Change.{Change}
+use Rattle.ktm_world.specs.declared.change.Change.{Change}
 use Rattle.ktm_world.specs.Changes.{changes_apply, has_made, is_make, node_of}
 use Rattle.ktm_world.specs.Durable.{Durable, Recorded, acts_of_all, changes_of, has_changes_part, holds_in, is_decided, is_new_in, others_waiting, recorded_changes_apply, settings_apply, settings_of}
 use Rattle.ktm_world.specs.Holds.{Act, holds_by, meets, opens, deletes, moves_file, makes, drops_directory, moves_directory}
@@ -19,7 +19,7 @@ use Rattle.txf_laws.proofs.offered.Diamonds.{no_test}
 use Rattle.txf_laws.proofs.offered.Elements.{IsIn-filter, list_all-from, list_any-at, list_any-from}
 use Rattle.txf_reserve.specs.ReserveState.{ReserveState}
 use Rattle.ktm_waiting.specs.Waiting.{AreHeld, others_change, others_set, waits_beside}
-use Rattle.ktm_states.proofs.offered.WaitingChanges.{no_changes-left, no_changes_part, recorded_changes_apply-all, recorded_changes_apply-new}
+use Rattle.txf_laws.proofs.offered.WaitingChanges.{no_changes-left, no_changes_part, recorded_changes_apply-all, recorded_changes_apply-new}
 use Rattle.ktm_waiting.proofs.Others.{free-is}
 
 -- ---- changes that no transaction refuses

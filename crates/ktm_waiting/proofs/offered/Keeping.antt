@@ -3,14 +3,14 @@ use Rattle.std.proofs.Common.{◌≡◌, ℕ, ◌+◌, ◌≤◌, ◌==◌, ◌&
 use Rattle.std.specs.List.{list_all, list_any}
 use Rattle.std.proofs.lemmas.Bool.{and_from, and_parts, cases_Bool, false_from_ne_true, le-leb, leb-true, not-true, true≢false}
 use Rattle.ktm_base.specs.declared.id.Id.{Id}
-use Rattle.ktm_types.specs.declared.change.Change.{Change}
-use Rattle.ktm_types.specs.declared.event.DonePart.{DonePart}
-use Rattle.ktm_types.specs.declared.event.Part.{Part}
-use Rattle.ktm_types.specs.declared.event.Part.TheVariants.{Enlistment, Changes, Settings}
-use Rattle.ktm_types.specs.declared.recorded.RecordedPart.{RecordedPart}
-use Rattle.ktm_types.specs.declared.recorded.Stage.{Stage}
-use Rattle.ktm_types.specs.declared.recorded.Superior.{Superior}
-use Rattle.ktm_states.specs.GoodState.{are_kept_changes, are_kept_settings, has_one_part_each}
+use Rattle.ktm_world.specs.declared.change.Change.{Change}
+use Rattle.ktm_world.specs.declared.event.DonePart.{DonePart}
+use Rattle.ktm_world.specs.declared.event.Part.{Part}
+use Rattle.ktm_world.specs.declared.event.Part.TheVariants.{Enlistment, Changes, Settings}
+use Rattle.ktm_world.specs.declared.recorded.RecordedPart.{RecordedPart}
+use Rattle.ktm_world.specs.declared.recorded.Stage.{Stage}
+use Rattle.ktm_world.specs.declared.recorded.Superior.{Superior}
+use Rattle.txf_laws.specs.GoodState.{are_kept_changes, are_kept_settings, has_one_part_each}
 use Rattle.ktm_world.specs.Changes.{changed_all, changes_apply, has_changes}
 use Rattle.ktm_world.specs.Durable.{Durable, Recorded, are_recorded_changes, changes_in, changes_of, emptied_part, empty_state, ends_in_bytes, has_changes_part, has_settings_part, is_decided, is_new_in, is_of_enlistment, is_part_of, is_ready, may_get_ready, others_waiting, part_applies, parts_done, recorded_at, recorded_changes_apply, recorded_or_new, settings_apply, settings_in, settings_of, while_not_done, with_recorded}
 use Rattle.ktm_keyed.specs.Keyed.{is_rising}
@@ -22,8 +22,8 @@ use Rattle.txf_laws.specs.Footprint.{footprint, AreFootprintsApart, ListsLaw}
 use Rattle.txf_laws.proofs.offered.Elements.{IsIn-filter, each_pair-filter}
 use Rattle.txf_laws.proofs.offered.Lists.{AreFootprintsApart-sym, apart-from-none}
 use Rattle.txf_laws.proofs.offered.Tables.{IsIn-with_recorded, KnownOrNew, Table, Table-with, is_earlier, other_id, recorded_at-found, recorded_at-there, recorded_or_new-cases, same_id-equal, same_id-from}
-use Rattle.ktm_states.proofs.offered.Parts.{count_among, count_among-filter, count_among-map, count_among-none, count_among-push, gathered, gathered-map, gathered-map_none, gathered-push, gathered-push_none, is_among, is_among-push}
-use Rattle.ktm_states.proofs.offered.WaitingChanges.{in_others, in_others-plain, no_changes-left, no_changes_part, no_settings-left, no_settings_part, recorded_changes_apply-all, recorded_changes_apply-apart, recorded_changes_apply-new, waiting-apply, waiting-new}
+use Rattle.txf_laws.proofs.offered.Parts.{count_among, count_among-filter, count_among-map, count_among-none, count_among-push, gathered, gathered-map, gathered-map_none, gathered-push, gathered-push_none, is_among, is_among-push}
+use Rattle.txf_laws.proofs.offered.WaitingChanges.{in_others, in_others-plain, no_changes-left, no_changes_part, no_settings-left, no_settings_part, recorded_changes_apply-all, recorded_changes_apply-apart, recorded_changes_apply-new, waiting-apply, waiting-new}
 use Rattle.ktm_waiting.specs.Table.{changes_at, decided_in, finished_in, held_for, with_one_part}
 use Rattle.ktm_waiting.specs.Waiting.{AreBeside, AreKept, AreSpared, IsWaitingKept}
 use Rattle.ktm_waiting.proofs.offered.TableSteps.{or-new-id}

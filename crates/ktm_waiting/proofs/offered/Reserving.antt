@@ -4,12 +4,12 @@ use Rattle.std.specs.Prelude.{if◌then◌else◌}
 use Rattle.std.specs.List.{list_all, list_any}
 use Rattle.std.proofs.lemmas.Bool.{and_parts, cases_Bool, false_from_ne_true, not-true, true≢false}
 use Rattle.ktm_base.specs.declared.id.Id.{Id}
-use Rattle.ktm_types.specs.declared.change.Change.{Change}
-use Rattle.ktm_types.specs.declared.event.DonePart.{DonePart}
-use Rattle.ktm_types.specs.declared.event.Part.{Part}
-use Rattle.ktm_types.specs.declared.event.Part.TheVariants.{Enlistment, Changes, Settings}
-use Rattle.ktm_types.specs.declared.recorded.RecordedPart.{RecordedPart}
-use Rattle.ktm_types.specs.declared.recorded.Superior.{Superior}
+use Rattle.ktm_world.specs.declared.change.Change.{Change}
+use Rattle.ktm_world.specs.declared.event.DonePart.{DonePart}
+use Rattle.ktm_world.specs.declared.event.Part.{Part}
+use Rattle.ktm_world.specs.declared.event.Part.TheVariants.{Enlistment, Changes, Settings}
+use Rattle.ktm_world.specs.declared.recorded.RecordedPart.{RecordedPart}
+use Rattle.ktm_world.specs.declared.recorded.Superior.{Superior}
 use Rattle.ktm_world.specs.Changes.{changed_all, changes_apply, has_changes, node_of}
 use Rattle.ktm_world.specs.Durable.{Durable, Recorded, are_recorded_changes, changes_in, changes_of, has_changes_part, has_undone, is_before, is_decided, is_new_in, is_ready, may_get_ready, part_applies, parts_done, recorded_changes_apply, recorded_at, recorded_or_new, while_not_done, with_recorded, without_recorded}
 use Rattle.ktm_world.specs.Holds.{Holds, directories_of, holds_by}
@@ -19,8 +19,8 @@ use Rattle.txf_laws.specs.Elements.{IsIn}
 use Rattle.txf_laws.specs.Footprint.{footprint, ListsLaw}
 use Rattle.txf_laws.proofs.offered.Tables.{Rises, before_other, recorded_at-found, rises-first, rises-rest, same_id-equal, same_id-from, same_id-sym}
 use Rattle.txf_reserve.specs.ReserveState.{IsSameHold, ReserveState, holds_in}
-use Rattle.ktm_states.proofs.offered.Parts.{gathered-push_none}
-use Rattle.ktm_states.proofs.offered.WaitingChanges.{no_changes-left, no_changes_part, recorded_changes_apply-all, recorded_changes_apply-new}
+use Rattle.txf_laws.proofs.offered.Parts.{gathered-push_none}
+use Rattle.txf_laws.proofs.offered.WaitingChanges.{no_changes-left, no_changes_part, recorded_changes_apply-all, recorded_changes_apply-new}
 use Rattle.ktm_waiting.specs.Table.{changes_at, decided_in, finished_in, held_for, with_one_part}
 use Rattle.ktm_waiting.specs.Waiting.{AreHeld, AreKept, AreSpared, Reserves}
 use Rattle.ktm_waiting.proofs.offered.Keeping.{decide-kept, decided, decided-changes, done-changes, finish-kept, found-kept, hold-kept, kept-commit, kept-filter, part-kept, recorded-some, with-changes-same}

@@ -6,16 +6,16 @@ use Rattle.std.proofs.lemmas.Bool.{cases_Bool, false_from_ne_true}
 use Rattle.std.proofs.lemmas.List.Folds.{list_any-append}
 use Rattle.std.proofs.lemmas.Option.{none-some}
 use Rattle.ktm_base.specs.declared.id.Id.{Id}
-use Rattle.ktm_types.specs.declared.event.DonePart.{DonePart}
-use Rattle.ktm_types.specs.declared.event.Part.{Part}
-use Rattle.ktm_types.specs.declared.event.Part.TheVariants.{Enlistment, Changes, Settings}
-use Rattle.ktm_types.specs.declared.recorded.RecordedPart.{RecordedPart}
-use Rattle.ktm_types.specs.declared.recorded.Superior.{Superior}
+use Rattle.ktm_world.specs.declared.event.DonePart.{DonePart}
+use Rattle.ktm_world.specs.declared.event.Part.{Part}
+use Rattle.ktm_world.specs.declared.event.Part.TheVariants.{Enlistment, Changes, Settings}
+use Rattle.ktm_world.specs.declared.recorded.RecordedPart.{RecordedPart}
+use Rattle.ktm_world.specs.declared.recorded.Superior.{Superior}
 use Rattle.ktm_world.specs.Durable.{Recorded, emptied_part, enlistments_in, is_before, recorded_at, recorded_or_new, settings_in, superior_ids, is_part_of, while_not_done, with_recorded, without_recorded}
 use Rattle.ktm_world.specs.Transactions.{same_id}
 use Rattle.txf_laws.specs.Elements.{IsIn}
 use Rattle.txf_laws.proofs.offered.Tables.{KnownOrNew, Rises, before_other, fresh, is_before-then, recorded_or_new-cases, rises-first, rises-rest, same_id-equal, same_id-from, same_id-sym}
-use Rattle.ktm_states.proofs.offered.Parts.{gathered, gathered-map}
+use Rattle.txf_laws.proofs.offered.Parts.{gathered, gathered-map}
 use Rattle.ktm_waiting.specs.Work.{without_changes, without_settings}
 
 -- the transaction, or a new one where there is none

@@ -16,10 +16,10 @@ use Rattle.ktm_laws.specs.Running.{HasEventsLeft, IsRunning, LawfulWorldsLaw}
 use Rattle.ktm_log.specs.OnDisk.{OnDisk}
 use Rattle.ktm_records.specs.Kept.{IsKept}
 use Rattle.ktm_standing.specs.Standing.{IsStanding}
-use Rattle.ktm_types.specs.declared.change.Change.{Change}
-use Rattle.ktm_types.specs.declared.command.Command.{Command}
-use Rattle.ktm_types.specs.declared.event.Event.{Event}
-use Rattle.ktm_types.specs.declared.reply.Reply.{Reply}
+use Rattle.ktm_world.specs.declared.change.Change.{Change}
+use Rattle.ktm_world.specs.declared.command.Command.{Command}
+use Rattle.ktm_world.specs.declared.event.Event.{Event}
+use Rattle.ktm_world.specs.declared.reply.Reply.{Reply}
 use Rattle.ktm_world.specs.Changes.{changed_all}
 use Rattle.ktm_world.specs.Committed.{Committed, Work, committed_with, with_change, with_work}
 use Rattle.ktm_world.specs.Decide.{command_effect, command_tests, decide, refusal_of}

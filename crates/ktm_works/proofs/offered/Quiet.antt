@@ -16,20 +16,20 @@ use Rattle.ktm_courses.proofs.offered.Calls.{Passes, passed}
 use Rattle.ktm_courses.proofs.offered.HandlesAndTime.{Closes, close_handle-so}
 use Rattle.ktm_records.proofs.offered.AgreementOfRollbacks.{rollback-undone}
 use Rattle.ktm_steps.proofs.offered.Ways.{if_cases}
-use Rattle.ktm_types.specs.declared.change.Change.{Change}
-use Rattle.ktm_types.specs.declared.change.Change.TheVariants.{Make}
-use Rattle.ktm_types.specs.declared.change.NodeKind.TheVariants.{File}
-use Rattle.ktm_types.specs.declared.command.Command.{Command}
-use Rattle.ktm_types.specs.declared.command.Command.TheVariants.{CloseHandle, CreateFileTransacted, CreateTransaction, KvSet, WriteFile}
-use Rattle.ktm_types.specs.declared.input.PhaseInput.{PhaseInput}
-use Rattle.ktm_types.specs.declared.object.Handle.{Handle}
-use Rattle.ktm_types.specs.declared.object.Object.{Object}
-use Rattle.ktm_types.specs.declared.object.Transaction.{Transaction}
-use Rattle.ktm_types.specs.declared.options.Access.{Access}
-use Rattle.ktm_types.specs.declared.options.Disposition.{Disposition}
-use Rattle.ktm_types.specs.declared.options.ShareMode.{ShareMode}
-use Rattle.ktm_types.specs.declared.reply.Reply.{Reply}
-use Rattle.ktm_types.specs.declared.reply.Reply.TheVariants.{Done}
+use Rattle.ktm_world.specs.declared.change.Change.{Change}
+use Rattle.ktm_world.specs.declared.change.Change.TheVariants.{Make}
+use Rattle.ktm_world.specs.declared.change.NodeKind.TheVariants.{File}
+use Rattle.ktm_world.specs.declared.command.Command.{Command}
+use Rattle.ktm_world.specs.declared.command.Command.TheVariants.{CloseHandle, CreateFileTransacted, CreateTransaction, KvSet, WriteFile}
+use Rattle.ktm_world.specs.declared.input.PhaseInput.{PhaseInput}
+use Rattle.ktm_world.specs.declared.object.Handle.{Handle}
+use Rattle.ktm_world.specs.declared.object.Object.{Object}
+use Rattle.ktm_world.specs.declared.object.Transaction.{Transaction}
+use Rattle.ktm_world.specs.declared.options.Access.{Access}
+use Rattle.ktm_world.specs.declared.options.Disposition.{Disposition}
+use Rattle.ktm_world.specs.declared.options.ShareMode.{ShareMode}
+use Rattle.ktm_world.specs.declared.reply.Reply.{Reply}
+use Rattle.ktm_world.specs.declared.reply.Reply.TheVariants.{Done}
 use Rattle.ktm_world.specs.Decide.{bound_file, caller, command_effect, command_tests, decide, of_files, on_file, opening, refusal_of}
 use Rattle.ktm_world.specs.FileCalls.{Whereabouts, at_node, at_root, create_at, create_file, emptying, find_path, first_opening, free, new_open, no_path, no_way, write_file}
 use Rattle.ktm_world.specs.FileOutcome.{FileOutcome, answering, works_of}

@@ -7,8 +7,8 @@ use Rattle.std.proofs.lemmas.List.Elements.{All-append, All-filter, All-head, Al
 use Rattle.std.proofs.lemmas.List.Sums.{fold-append}
 use Rattle.ktm_base.specs.declared.refusal.Refusal.{Refusal}
 use Rattle.ktm_base.specs.declared.refusal.Refusal.TheVariants.{MachineDown}
-use Rattle.ktm_types.specs.declared.reply.Reply.{Reply}
-use Rattle.ktm_types.specs.declared.reply.Reply.TheVariants.{Refused}
+use Rattle.ktm_world.specs.declared.reply.Reply.{Reply}
+use Rattle.ktm_world.specs.declared.reply.Reply.TheVariants.{Refused}
 use Rattle.ktm_world.specs.Outcome.{first_refusal, Outcome, apply, first_opens_after, is_forgotten, only_reply, refuse_or, served}
 use Rattle.ktm_world.specs.Logs.{is_up}
 use Rattle.ktm_world.specs.Committed.{committed_with, with_work}

@@ -4,7 +4,7 @@ use Rattle.std.proofs.lemmas.Bool.{and_right}
 use Rattle.std.proofs.lemmas.List.{append-nil}
 use Rattle.std.specs.List.{list_any}
 use Rattle.ktm_base.specs.declared.id.Id.{Id}
-use Rattle.ktm_types.specs.declared.change.Change.{Change}
+use Rattle.ktm_world.specs.declared.change.Change.{Change}
 use Rattle.ktm_world.specs.Changes.{is_make, node_of}
 use Rattle.ktm_world.specs.Durable.{acts_of_all}
 use Rattle.ktm_world.specs.Holds.{Act, Holds, deletes, drops_directory, holds_by, is_in, makes, meets, moves_directory, moves_file, opens}

@@ -4,11 +4,11 @@ use Rattle.std.proofs.lemmas.Bool.{cases_Bool, and_parts, and_from, eqb-true, eq
 use Rattle.std.proofs.lemmas.List.Sums.{sum_by-cons}
 use Rattle.std.specs.List.{list_any}
 use Rattle.std.specs.Prelude.{nat_lt}
-use Rattle.ktm_types.specs.declared.change.Change.{Change}
-use Rattle.ktm_types.specs.declared.change.Change.TheVariants.{Make, Put, Cut, Move, Drop}
-use Rattle.ktm_types.specs.declared.change.Contents.TheVariants.{Whole}
-use Rattle.ktm_types.specs.declared.change.NodeKind.TheVariants.{File, Directory}
-use Rattle.ktm_types.specs.declared.recorded.Node.{Node}
+use Rattle.ktm_world.specs.declared.change.Change.{Change}
+use Rattle.ktm_world.specs.declared.change.Change.TheVariants.{Make, Put, Cut, Move, Drop}
+use Rattle.ktm_world.specs.declared.change.Contents.TheVariants.{Whole}
+use Rattle.ktm_world.specs.declared.change.NodeKind.TheVariants.{File, Directory}
+use Rattle.ktm_world.specs.declared.recorded.Node.{Node}
 use Rattle.ktm_world.specs.Changes.{changed, changed_all, applies, changes_apply, bytes_in, changes_bytes, is_drop, is_make, new_content, node_of, nodes_made}
 use Rattle.ktm_world.specs.Committed.{Committed, Version, version_of, versions_after, with_change, final_bytes, written_files, changes_to_commit}
 use Rattle.ktm_world.specs.Files.{FirstOpen}

@@ -2,9 +2,9 @@
 use Rattle.std.proofs.Common.{◌≡◌, ℕ, ◌==◌, ◌&&◌, ◌||◌, not, Bool, true, false, cond, is_some, if◌then◌else◌, List, [], ◌∷◌, ◌++◌, map, Some, refl, sym, ◌∙◌, ap, subst, inl, inr, ◌⊎◌}
 use Rattle.std.proofs.lemmas.Bool.{cases_Bool, cases_eq, eq-eqb, ne_eqb, eqb-false, and_parts, and_from, or_parts, or_from, or_right, not-true, not_from_false, true≢false, false_from_ne_true}
 use Rattle.std.specs.List.{list_any}
-use Rattle.ktm_types.specs.declared.change.Change.{Change}
-use Rattle.ktm_types.specs.declared.change.Change.TheVariants.{Make, Put, Cut, Move, Drop}
-use Rattle.ktm_types.specs.declared.recorded.Node.{Node}
+use Rattle.ktm_world.specs.declared.change.Change.{Change}
+use Rattle.ktm_world.specs.declared.change.Change.TheVariants.{Make, Put, Cut, Move, Drop}
+use Rattle.ktm_world.specs.declared.recorded.Node.{Node}
 use Rattle.ktm_world.specs.Changes.{changed, applies, changes_apply, node_of, is_make, has_made}
 use Rattle.ktm_world.specs.Durable.{act_of_node, acts_of, acts_of_all}
 use Rattle.ktm_world.specs.Holds.{Place, Holds, holds_by, place, place_of, places_of, each_change, dropped_directory, moved_directory, directories_of, is_in, meet_in, is_place_in, same_place, Act, opens, deletes, moves_file, makes, drops_directory, moves_directory, nodes_changed, places_changed, directory_dropped, is_move_of_directory, changes_held, enters_dropped, drops_used, moves_too, meets}

@@ -2,7 +2,7 @@
 use Rattle.std.proofs.Common.{◌≡◌, ℕ, ◌==◌, true, false, List, [], ◌∷◌, ◌++◌, map, refl, sym, ◌∙◌, ap, subst, inl, inr, ◌⊎◌}
 use Rattle.std.proofs.lemmas.Bool.{ne_eqb, and_parts, and_from, true≢false, false_from_ne_true}
 use Rattle.std.specs.List.{list_any}
-use Rattle.ktm_types.specs.declared.change.Change.{Change}
+use Rattle.ktm_world.specs.declared.change.Change.{Change}
 use Rattle.ktm_world.specs.Changes.{changed, changed_all, applies, changes_apply, node_of}
 use Rattle.ktm_world.specs.Holds.{Place, each_change, same_place, places_of, meet_in, dropped_directory, moved_directory}
 use Rattle.ktm_world.specs.Tree.{Tree, IsWellFormed}

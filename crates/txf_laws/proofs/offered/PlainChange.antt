@@ -1,12 +1,12 @@
 -- A plain change that meets nothing keeps sound what undecided transactions own of the files.
 use Rattle.std.proofs.Common.{◌≡◌, ℕ, ◌≤◌, ◌^◌, ◌==◌, ◌&&◌, true, false, is_none, is_some, filter, map, List, [], ◌∷◌, ◌++◌, Option, Some, None, refl, sym, ◌∙◌, ap, subst, arith, inl, inr}
 use Rattle.std.proofs.lemmas.Bool.{or_parts, cases_Bool, ltb-true, and_parts, and_from, or_from, true≢false}
-use Rattle.ktm_types.specs.declared.change.Change.TheVariants.{Make, Put, Cut, Move, Drop}
+use Rattle.ktm_world.specs.declared.change.Change.TheVariants.{Make, Put, Cut, Move, Drop}
 use Rattle.std.proofs.lemmas.List.{append-nil}
 use Rattle.std.specs.List.{list_any, flat_map}
 use Rattle.std.specs.Prelude.{nat_le}
 use Rattle.ktm_base.specs.declared.id.Id.{Id}
-use Rattle.ktm_types.specs.declared.change.Change.{Change}
+use Rattle.ktm_world.specs.declared.change.Change.{Change}
 use Rattle.ktm_world.specs.Changes.{changes_bytes, changed, applies, is_drop, is_make, next_after, node_of}
 use Rattle.ktm_world.specs.Committed.{versions_after}
 use Rattle.ktm_world.specs.Conflicts.{conflicts, holds_now, opener, users, written_by, writes}

@@ -6,9 +6,9 @@ use Rattle.std.specs.List.{list_all, list_any}
 use Rattle.std.specs.Prelude.{nat_le}
 use Rattle.std.proofs.lemmas.Bool.{ltb-true}
 use Rattle.ktm_base.specs.declared.id.Id.{Id}
-use Rattle.ktm_types.specs.declared.change.Change.{Change}
-use Rattle.ktm_types.specs.declared.change.Change.TheVariants.{Make, Put, Cut, Move, Drop}
-use Rattle.ktm_types.specs.declared.object.Transaction.{Transaction}
+use Rattle.ktm_world.specs.declared.change.Change.{Change}
+use Rattle.ktm_world.specs.declared.change.Change.TheVariants.{Make, Put, Cut, Move, Drop}
+use Rattle.ktm_world.specs.declared.object.Transaction.{Transaction}
 use Rattle.ktm_world.specs.Changes.{changed_all, applies, changes_apply, changes_bytes, is_make, node_of, has_made}
 use Rattle.ktm_world.specs.Committed.{Committed, with_change}
 use Rattle.ktm_world.specs.Conflicts.{changes_outdated, touches_plain_writer, overwrites_opened, conflicts, meets_other, holds_now, written_by, users, writes}
@@ -30,7 +30,7 @@ use Rattle.txf_laws.proofs.offered.Elements.{IsIn-filter, IsIn-kept, IsIn-flat_m
 use Rattle.txf_laws.proofs.offered.Lists.{IsIn-left, IsIn-cases, AreFootprintsApart-sym, apart-from-none}
 use Rattle.txf_laws.proofs.offered.Holds.{meeting_law, are_apart-to}
 use Rattle.txf_laws.proofs.offered.Tables.{same_id-equal, same_id-sym}
-use Rattle.ktm_types.specs.declared.object.Object.{Object}
+use Rattle.ktm_world.specs.declared.object.Object.{Object}
 use Rattle.ktm_world.specs.HandleCalls.{has_handle}
 
 -- ---- entries

@@ -1,13 +1,13 @@
 use Rattle.std.proofs.Common.{◌≡◌, ◌≤◌, [], ◌∷◌, ◌++◌, List, append_assoc, ap, inl, refl, subst, sym, ◌∙◌}
 use Rattle.std.proofs.lemmas.List.{append-nil, nil_from_length}
 use Rattle.std.specs.Vec.Iter.{into_iter_items}
-use Rattle.ktm_types.specs.declared.change.Change.{Change}
-use Rattle.ktm_types.specs.declared.event.DonePart.{DonePart}
-use Rattle.ktm_types.specs.declared.recorded.RecordedPart.{RecordedPart}
+use Rattle.ktm_world.specs.declared.change.Change.{Change}
+use Rattle.ktm_world.specs.declared.event.DonePart.{DonePart}
+use Rattle.ktm_world.specs.declared.recorded.RecordedPart.{RecordedPart}
 use Rattle.ktm_world.specs.Durable.{changes_in, is_part_of, settings_in}
 use Rattle.ktm_world.specs.Files.{FilesNow}
 use Rattle.ktm_world.specs.Keys.{KeysNow, OwnSettings}
-use Rattle.ktm_states.proofs.offered.Parts.{count_among, gathered}
+use Rattle.txf_laws.proofs.offered.Parts.{count_among, gathered}
 use Rattle.txf_laws.specs.Elements.{IsIn}
 use Rattle.txf_laws.proofs.offered.Diamonds.{IsIn-right}
 use Rattle.txf_laws.proofs.offered.Elements.{list_any-from}

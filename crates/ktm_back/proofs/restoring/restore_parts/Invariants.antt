@@ -1,7 +1,7 @@
 use Rattle.std.proofs.Common.{◌≡◌, ◌++◌}
 use Rattle.std.specs.List.{flat_map}
 use Rattle.std.specs.Vec.Iter.{into_iter_items}
-use Rattle.ktm_types.specs.declared.recorded.RecordedPart.{RecordedPart}
+use Rattle.ktm_world.specs.declared.recorded.RecordedPart.{RecordedPart}
 use Rattle.ktm_world.specs.Durable.{changes_in, settings_in}
 use Rattle.txf_volume.specs.Held.{files_of}
 use Rattle.ktm_back.specs.Restoring.{files_with_own, keys_with_own, own_if_changed, own_if_set}

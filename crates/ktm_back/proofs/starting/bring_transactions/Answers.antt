@@ -1,5 +1,5 @@
 use Rattle.std.proofs.Common.{◌≡◌, ◌∙◌, ◌+◌, ◌++◌, ◌∷◌, List, ap, drop, filter, map, refl, sym}
-use Rattle.ktm_types.specs.declared.object.Transaction.{Transaction}
+use Rattle.ktm_world.specs.declared.object.Transaction.{Transaction}
 use Rattle.ktm_world.specs.Durable.{Recorded, is_before}
 use Rattle.ktm_world.specs.World.{is_brought_back, transaction_back}
 use Rattle.txf_laws.proofs.offered.Elements.{each_pair-filter}

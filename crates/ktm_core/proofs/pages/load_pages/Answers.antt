@@ -3,7 +3,7 @@ use Rattle.std.proofs.lemmas.List.{length-replicate}
 use Rattle.ktm_journal.specs.Image.{page_count}
 use Rattle.ktm_memory.specs.Rules.{Follows}
 use Rattle.ktm_memory.specs.Stored.{FilesLieBelow}
-use Rattle.txf_volume.specs.Held.{files_of}
+use Rattle.ktm_memory.specs.Held.{files_of}
 use Rattle.ktm_core.specs.Core.{is_sound}
 use Rattle.ktm_core.proofs.Lying.{is-sound, sound-below}
 use Rattle.ktm_core.proofs.offered.Places.{files-weaker}

@@ -1,7 +1,7 @@
 use Rattle.std.proofs.Common.{◌≡◌, ◌+◌, ◌∙◌, ap, map}
 use Rattle.ktm_world.specs.Durable.{Durable}
 use Rattle.ktm_world.specs.Files.{FilesNow}
-use Rattle.txf_volume.specs.Held.{FilesHeld, files_of}
+use Rattle.ktm_memory.specs.Held.{FilesHeld, files_of}
 use Rattle.ktm_back.specs.Bringing.{HasComeBack}
 use Rattle.ktm_trace.specs.Traces.{traced}
 use Rattle.ktm_core.proofs.Begun.{fresh_slots, good_then, shows_fresh}

@@ -1,5 +1,5 @@
 use Rattle.std.proofs.Common.{[], ◌+◌, ◌∙◌, ap, arith}
-use Rattle.ktm_types.specs.Sizes.{area_len, frame_size}
+use Rattle.ktm_world.specs.Sizes.{area_len, frame_size}
 use Rattle.ktm_core.proofs.starting.list_start.Goals as goal
 
 pub own_group-requires-clause-spelled : goal.own_group-requires-clause-spelled

@@ -1,5 +1,5 @@
 use Rattle.std.proofs.Common.{Err, arith}
-use Rattle.ktm_types.specs.EventGrammar.{IsChangeOf}
+use Rattle.ktm_world.specs.EventGrammar.{IsChangeOf}
 use Rattle.ktm_event.specs.declared.fault.EventFault.TheVariants.{NotAnEvent}
 use Rattle.ktm_event.proofs.ChangeReadings.{change_starts, other_change}
 use Rattle.ktm_event.proofs.Readings.{passes, behind, no_tag}

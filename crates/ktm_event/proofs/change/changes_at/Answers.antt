@@ -1,7 +1,7 @@
 use Rattle.std.proofs.Common.{◌+◌, ◌<◌, length, ◌∙◌, ap, arith}
 use Rattle.std.proofs.lemmas.List.{length_push}
 use Rattle.ktm_codec.proofs.SpansLemmas.{row_push, list_no_count, list_cut, list_read}
-use Rattle.ktm_types.specs.EventGrammar.{IsChangeOf}
+use Rattle.ktm_world.specs.EventGrammar.{IsChangeOf}
 use Rattle.ktm_event.proofs.Changes.{unambiguous_change}
 use Rattle.ktm_event.proofs.Readings.{passes}
 use Rattle.ktm_event.proofs.change.changes_at.Goals as goal

@@ -1,8 +1,8 @@
 use Rattle.std.proofs.Common.{arith}
 use Rattle.std.proofs.lemmas.List.{take_all}
 use Rattle.std.proofs.lemmas.Result.{err_from_is_err_and}
-use Rattle.ktm_types.specs.EventGrammar.{IsChangeOf}
-use Rattle.ktm_types.specs.Sizes.{change_size}
+use Rattle.ktm_world.specs.EventGrammar.{IsChangeOf}
+use Rattle.ktm_world.specs.Sizes.{change_size}
 use Rattle.ktm_event.specs.Spelling.{IsRecordableChange, IsSpellableChange}
 use Rattle.ktm_event.proofs.Rows.{adds_none, adds_more, adds_all, each_of}
 use Rattle.ktm_event.proofs.Writings.{size_more, size_within}

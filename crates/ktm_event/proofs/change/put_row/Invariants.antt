@@ -1,8 +1,8 @@
 use Rattle.std.proofs.Common.{◌≡◌, ◌+◌, ◌≤◌, take, sum_by, vec_len, vec_capacity}
 use Rattle.ktm_base.specs.Grammar.{IsRow}
 use Rattle.ktm_codec.specs.Spans.{Adds}
-use Rattle.ktm_types.specs.EventGrammar.{IsChangeOf}
-use Rattle.ktm_types.specs.Sizes.{change_size}
+use Rattle.ktm_world.specs.EventGrammar.{IsChangeOf}
+use Rattle.ktm_world.specs.Sizes.{change_size}
 use Rattle.ktm_event.proofs.change.put_row.Given as goal
 
 abbrev pub invariant-loop-change : goal.invariant-loop-change

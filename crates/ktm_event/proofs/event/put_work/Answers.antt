@@ -1,6 +1,6 @@
 use Rattle.std.proofs.Common.{arith}
 use Rattle.std.proofs.lemmas.Result.{err_from_is_err_and}
-use Rattle.ktm_types.specs.declared.event.Part.TheVariants.{Changes, Settings, Enlistment}
+use Rattle.ktm_world.specs.declared.event.Part.TheVariants.{Changes, Settings, Enlistment}
 use Rattle.ktm_event.specs.Work.{changes_of, part_of}
 use Rattle.ktm_event.proofs.Writings.{on_ok_so, on_err_so, work, work_size, work_id, work_changes, work_settings, work_enlistment}
 use Rattle.ktm_event.proofs.event.put_work.Goals as goal

@@ -1,5 +1,5 @@
 use Rattle.std.proofs.Common.{Err, arith}
-use Rattle.ktm_types.specs.EventGrammar.{IsEventOf}
+use Rattle.ktm_world.specs.EventGrammar.{IsEventOf}
 use Rattle.ktm_event.specs.declared.fault.EventFault.TheVariants.{NotAnEvent}
 use Rattle.ktm_event.proofs.EventReadings.{event_starts, other_event}
 use Rattle.ktm_event.proofs.Readings.{passes, behind, no_tag}

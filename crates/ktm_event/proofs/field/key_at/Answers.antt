@@ -1,6 +1,6 @@
 use Rattle.std.proofs.Common.{sym, ◌∙◌, subst}
 use Rattle.std.proofs.lemmas.Bool.{true≢false}
-use Rattle.ktm_types.specs.Values.{IsText}
+use Rattle.ktm_world.specs.Values.{IsText}
 use Rattle.ktm_event.proofs.Readings.{key_other}
 use Rattle.ktm_event.proofs.field.key_at.Goals as goal
 

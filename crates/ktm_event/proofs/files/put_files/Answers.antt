@@ -2,9 +2,9 @@ use Rattle.std.proofs.Common.{All, List, ap, arith, subst, sum_by, sym}
 use Rattle.std.proofs.lemmas.Result.{err_from_is_err_and}
 use Rattle.ktm_base.specs.Grammar.{IsRow}
 use Rattle.ktm_codec.specs.Spans.{Adds}
-use Rattle.ktm_types.specs.declared.change.Change.{Change}
-use Rattle.ktm_types.specs.EventGrammar.{IsChangeOf}
-use Rattle.ktm_types.specs.Sizes.{change_size}
+use Rattle.ktm_world.specs.declared.change.Change.{Change}
+use Rattle.ktm_world.specs.EventGrammar.{IsChangeOf}
+use Rattle.ktm_world.specs.Sizes.{change_size}
 use Rattle.ktm_event.specs.Spelling.{IsSpellableChange}
 use Rattle.ktm_event.specs.Work.{changes_of_file, final_file}
 use Rattle.ktm_event.proofs.Rows.{adds_none, adds_row, all-left, all-right}

@@ -2,8 +2,8 @@ use Rattle.std.proofs.Common.{◌≡◌, ◌+◌, ◌≤◌, All, List, ℕ, len
 use Rattle.std.specs.List.{flat_map}
 use Rattle.ktm_base.specs.Grammar.{IsRow}
 use Rattle.ktm_codec.specs.Spans.{Adds}
-use Rattle.ktm_types.specs.EventGrammar.{IsChangeOf}
-use Rattle.ktm_types.specs.Sizes.{change_size}
+use Rattle.ktm_world.specs.EventGrammar.{IsChangeOf}
+use Rattle.ktm_world.specs.Sizes.{change_size}
 use Rattle.ktm_event.specs.Spelling.{IsSpellableChange}
 use Rattle.ktm_event.specs.Work.{changes_of_file}
 use Rattle.ktm_event.proofs.FilesShown.{changes_left, files_left}

@@ -2,8 +2,8 @@ use Rattle.std.proofs.Common.{length-append, arith}
 use Rattle.std.proofs.lemmas.List.Sums.{sum_by-append}
 use Rattle.std.proofs.lemmas.Result.{err_from_is_err_and}
 use Rattle.std.specs.List.{flat_map}
-use Rattle.ktm_types.specs.EventGrammar.{IsChangeOf}
-use Rattle.ktm_types.specs.Sizes.{change_size}
+use Rattle.ktm_world.specs.EventGrammar.{IsChangeOf}
+use Rattle.ktm_world.specs.Sizes.{change_size}
 use Rattle.ktm_event.specs.Spelling.{IsSpellableChange}
 use Rattle.ktm_event.specs.Work.{changes_of_file}
 use Rattle.ktm_event.proofs.Rows.{adds_row, all-left, all-right}

@@ -1,7 +1,7 @@
 use Rattle.std.proofs.Common.{◌+◌, ◌<◌, length, ◌∙◌, ap, arith, inl, inr}
 use Rattle.std.proofs.lemmas.List.{length_push}
 use Rattle.ktm_codec.proofs.SpansLemmas.{row_push, list_no_count, list_cut, list_read}
-use Rattle.ktm_types.specs.EventGrammar.{IsEventOf}
+use Rattle.ktm_world.specs.EventGrammar.{IsEventOf}
 use Rattle.ktm_event.proofs.OneEvent.{unambiguous_event}
 use Rattle.ktm_event.proofs.Groups.{another_group, faulty_group, group_read}
 use Rattle.ktm_event.proofs.group.read_group.Goals as goal

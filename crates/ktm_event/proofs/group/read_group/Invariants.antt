@@ -1,7 +1,7 @@
 use Rattle.std.proofs.Common.{◌≡◌, length}
 use Rattle.ktm_base.specs.Grammar.{IsRow}
 use Rattle.ktm_codec.specs.Spans.{Spans}
-use Rattle.ktm_types.specs.EventGrammar.{IsEventOf}
+use Rattle.ktm_world.specs.EventGrammar.{IsEventOf}
 use Rattle.ktm_event.proofs.group.read_group.Given as goal
 
 abbrev pub invariant-events : goal.invariant-events

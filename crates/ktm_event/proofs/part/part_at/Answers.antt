@@ -1,6 +1,6 @@
 use Rattle.std.proofs.Common.{Err, arith}
 use Rattle.ktm_codec.proofs.SpansLemmas.{spans_tagged}
-use Rattle.ktm_types.specs.EventGrammar.{IsPartOf}
+use Rattle.ktm_world.specs.EventGrammar.{IsPartOf}
 use Rattle.ktm_event.specs.declared.fault.EventFault.TheVariants.{NotAnEvent}
 use Rattle.ktm_event.proofs.PartReadings.{no_enlistment, no_changes, no_settings, other_part, part_starts}
 use Rattle.ktm_event.proofs.Readings.{passes, absent_behind, behind, no_tag}

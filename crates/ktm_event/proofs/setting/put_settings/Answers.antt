@@ -2,8 +2,8 @@ use Rattle.std.proofs.Common.{arith}
 use Rattle.std.proofs.lemmas.List.{take_all}
 use Rattle.std.proofs.lemmas.Result.{err_from_is_err_and}
 use Rattle.ktm_codec.proofs.Adding.{adds_no_items, adds_item, adds_items}
-use Rattle.ktm_types.specs.EventGrammar.{IsSettingOf}
-use Rattle.ktm_types.specs.Sizes.{setting_size}
+use Rattle.ktm_world.specs.EventGrammar.{IsSettingOf}
+use Rattle.ktm_world.specs.Sizes.{setting_size}
 use Rattle.ktm_event.specs.Spelling.{IsSpellableSetting}
 use Rattle.ktm_event.proofs.Rows.{each_of}
 use Rattle.ktm_event.proofs.Writings.{size_more, size_within, rising}

@@ -1,8 +1,8 @@
 use Rattle.std.proofs.Common.{◌≡◌, ◌+◌, ◌≤◌, length, take, sum_by, vec_len, vec_capacity}
 use Rattle.ktm_base.specs.Grammar.{Then, IsU32, IsRow}
 use Rattle.ktm_codec.specs.Spans.{Adds}
-use Rattle.ktm_types.specs.EventGrammar.{IsSettingOf}
-use Rattle.ktm_types.specs.Sizes.{setting_size}
+use Rattle.ktm_world.specs.EventGrammar.{IsSettingOf}
+use Rattle.ktm_world.specs.Sizes.{setting_size}
 use Rattle.ktm_event.proofs.setting.put_settings.Given as goal
 
 abbrev pub invariant-loop-setting : goal.invariant-loop-setting

@@ -1,7 +1,7 @@
 use Rattle.std.proofs.Common.{◌≤◌, ◌*◌, sym, subst, arith}
 use Rattle.ktm_base.specs.declared.limits.TheConstants.{UNIT_BYTES}
 use Rattle.ktm_each.specs.Each.{EachOfFiles}
-use Rattle.ktm_memory.specs.Memory.{present_of}
+use Rattle.ktm_core.specs.Memory.{present_of}
 use Rattle.txf_volume.specs.Held.{files_of}
 use Rattle.ktm_kernel.proofs.Rooms.{within-units}
 use Rattle.ktm_kernel.proofs.Stages.{clear-count, files-below, keeps-all, keeps-cleared}

@@ -1,5 +1,5 @@
 use Rattle.std.proofs.Common.{length, arith}
-use Rattle.ktm_memory.specs.Memory.{present_of}
+use Rattle.ktm_core.specs.Memory.{present_of}
 use Rattle.ktm_store.specs.Store.{touched}
 use Rattle.txf_volume.specs.Held.{files_of}
 use Rattle.ktm_kernel.proofs.Asking.{cuts-asked, end-asks, end-refused, seen-held}
@@ -18,7 +18,7 @@ pub returns-then-size-len-clause-keeps : goal.returns-then-size-len-clause-keeps
 returns-then-size-len-clause-keeps c = keeps-all (files_of c.args.memory.now.files) c.args.store.now c.requires.may.held
 
 pub returns-then-size-len-clause-ok : goal.returns-then-size-len-clause-ok
-returns-then-size-len-clause-ok c = cuts-asked c.law_of_units.ensures (present_of c.args.memory.now) c.args.process c.args.file c.args.size c.in-Ok.target c.args.memory.now.journal.units c.args.store.now c.requires.may c.requires.command
+returns-then-size-len-clause-ok c = cuts-asked c.law_of_units.ensures c.law_of_alike_presents.ensures (present_of c.args.memory.now) c.args.process c.args.file c.args.size c.in-Ok.target c.args.memory.now.journal.units c.args.store.now c.requires.may c.requires.command
     c.in-Ok.ensures.ok.target (omega (arith, c.len.ensures, c.if-size-len.true))
 
 pub grow-requires-clause-held : goal.grow-requires-clause-held

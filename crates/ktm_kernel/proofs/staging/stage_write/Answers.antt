@@ -2,12 +2,12 @@ use Rattle.std.proofs.Common.{◌+◌, List, ℕ, length, sym, ap, subst, arith}
 use Rattle.std.specs.Prelude.{max}
 use Rattle.std.proofs.Math.Nat.{le-max_right}
 use Rattle.ktm_content.specs.Contents.{put_over}
-use Rattle.ktm_memory.specs.Memory.{present_of}
-use Rattle.ktm_memory.specs.declared.extent.Extent.TheVariants.{Put}
-use Rattle.ktm_route.specs.declared.asked.Asked.TheVariants.{Units}
-use Rattle.ktm_route.specs.Targets.{MayBeSoLong}
+use Rattle.ktm_core.specs.Memory.{present_of}
+use Rattle.ktm_core.specs.Extent.TheVariants.{Put}
+use Rattle.ktm_core.specs.Asked.TheVariants.{Units}
+use Rattle.ktm_core.specs.Targets.{MayBeSoLong}
 use Rattle.ktm_store.specs.Store.{IsTouched, Made, touched}
-use Rattle.ktm_types.specs.declared.command.Command.TheVariants.{WriteFile}
+use Rattle.ktm_world.specs.declared.command.Command.TheVariants.{WriteFile}
 use Rattle.ktm_kernel.specs.Staging.{MayAsk}
 use Rattle.ktm_world.specs.Decide.{decide}
 use Rattle.ktm_alike.specs.Alike.{mapped_present}

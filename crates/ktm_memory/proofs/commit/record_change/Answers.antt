@@ -1,7 +1,7 @@
 use Rattle.std.proofs.Common.{Option, None, List, ◌∷◌, [], sym, subst}
 use Rattle.ktm_paged.specs.Meaning.{size_before}
-use Rattle.ktm_types.specs.declared.change.Change.{Change}
-use Rattle.ktm_types.specs.declared.event.Event.TheVariants.{Plain}
+use Rattle.ktm_world.specs.declared.change.Change.{Change}
+use Rattle.ktm_world.specs.declared.event.Event.TheVariants.{Plain}
 use Rattle.ktm_memory.specs.declared.extent.Extent.{Extent}
 use Rattle.ktm_memory.specs.Decided.{HoldsRecordOf}
 use Rattle.ktm_memory.specs.Units.{CanBeRecorded}

@@ -1,8 +1,8 @@
 use Rattle.std.specs.Prelude.{cond}
 use Rattle.std.proofs.Common.{◌≡◌, Bool, true, false, sym, ◌∙◌, ap}
-use Rattle.ktm_types.specs.declared.input.PhaseInput.{PhaseInput}
-use Rattle.ktm_types.specs.declared.input.Seen.{Seen}
-use Rattle.ktm_types.specs.declared.reply.Reply.{Reply}
+use Rattle.ktm_world.specs.declared.input.PhaseInput.{PhaseInput}
+use Rattle.ktm_world.specs.declared.input.Seen.{Seen}
+use Rattle.ktm_world.specs.declared.reply.Reply.{Reply}
 use Rattle.ktm_standing.specs.Courses.{commits_at_once}
 use Rattle.ktm_standing.proofs.offered.CommitReplies.{commit_replies}
 use Rattle.ktm_world.specs.Phases.{Course}

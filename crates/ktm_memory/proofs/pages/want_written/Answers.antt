@@ -5,7 +5,7 @@ use Rattle.ktm_event.specs.Work.{changes_of_file, final_file}
 use Rattle.ktm_event.proofs.FilesShown.{changes_left, changes-left, fewer-left, left-all, left-none}
 use Rattle.ktm_store.proofs.Wanted.{wants-none, wants-then}
 use Rattle.ktm_store.specs.Marks.{MarksState}
-use Rattle.ktm_types.specs.declared.change.Change.{Change}
+use Rattle.ktm_world.specs.declared.change.Change.{Change}
 use Rattle.ktm_memory.specs.Stored.{NamesBelow, NamesStored, pages_named}
 use Rattle.ktm_memory.proofs.Wanting.{left-part, right-part, still-stored}
 use Rattle.ktm_memory.proofs.pages.want_written.Goals as goal

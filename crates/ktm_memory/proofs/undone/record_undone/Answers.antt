@@ -3,9 +3,9 @@ use Rattle.std.specs.List.{flat_map}
 use Rattle.ktm_event.proofs.Joined.{first_spelled, sizes_both}
 use Rattle.ktm_event.specs.Kept.{EventsState, Holds}
 use Rattle.ktm_event.specs.Spelling.{IsSpellableEvent}
-use Rattle.ktm_types.specs.Sizes.{event_size}
-use Rattle.ktm_types.specs.declared.event.Event.{Event}
-use Rattle.ktm_types.specs.declared.object.Transaction.{Transaction}
+use Rattle.ktm_world.specs.Sizes.{event_size}
+use Rattle.ktm_world.specs.declared.event.Event.{Event}
+use Rattle.ktm_world.specs.declared.object.Transaction.{Transaction}
 use Rattle.ktm_world.specs.Transactions.{is_live}
 use Rattle.ktm_world.specs.TransactionCalls.{later}
 use Rattle.ktm_standing.specs.Effects.{undo_of}

@@ -1,6 +1,6 @@
 use Rattle.std.proofs.lemmas.List.Elements.{All-cons, All-tail}
 use Rattle.ktm_paged.specs.Paged.{LiesBelow}
-use Rattle.ktm_types.specs.declared.recorded.Node.{Node}
+use Rattle.ktm_world.specs.declared.recorded.Node.{Node}
 use Rattle.ktm_world.specs.Tree.{bytes_or_none}
 use Rattle.txf_tree.specs.Children.{node_seen}
 use Rattle.ktm_restart.proofs.lying.files_lie_below.Goals as goal

@@ -1,6 +1,6 @@
 use Rattle.std.proofs.Common.{All, length}
 use Rattle.ktm_paged.specs.Paged.{LiesBelow}
-use Rattle.ktm_types.specs.declared.recorded.Node.{Node}
+use Rattle.ktm_world.specs.declared.recorded.Node.{Node}
 use Rattle.ktm_world.specs.Tree.{bytes_or_none}
 use Rattle.txf_tree.specs.TreeState.{tree_of}
 use Rattle.ktm_restart.proofs.lying.files_lie_below.Given as goal

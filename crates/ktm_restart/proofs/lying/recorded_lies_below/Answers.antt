@@ -1,6 +1,6 @@
 use Rattle.std.proofs.Common.{◌∙◌, All, List, ap, subst, sym}
 use Rattle.ktm_paged.specs.Paged.{PutLiesBelow}
-use Rattle.ktm_types.specs.declared.recorded.RecordedPart.{RecordedPart}
+use Rattle.ktm_world.specs.declared.recorded.RecordedPart.{RecordedPart}
 use Rattle.ktm_world.specs.Durable.{Recorded, changes_in}
 use Rattle.ktm_restart.proofs.lying.recorded_lies_below.Goals as goal
 

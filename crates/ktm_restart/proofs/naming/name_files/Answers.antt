@@ -1,7 +1,7 @@
 use Rattle.std.proofs.Common.{List, ◌∙◌, refl, subst, sym}
 use Rattle.ktm_owners.specs.Owners.{AreNamedByFile}
 use Rattle.ktm_owners.proofs.offered.Turns.{AreNamedSoFar, all-named, none-named, one-named}
-use Rattle.ktm_types.specs.declared.recorded.Node.{Node}
+use Rattle.ktm_world.specs.declared.recorded.Node.{Node}
 use Rattle.txf_tree.specs.Children.{node_seen}
 use Rattle.txf_tree.specs.TreeState.{tree_of}
 use Rattle.ktm_restart.proofs.naming.name_files.Goals as goal

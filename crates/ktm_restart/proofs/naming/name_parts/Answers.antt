@@ -1,7 +1,7 @@
 use Rattle.std.proofs.Common.{List, ◌∙◌, refl, subst}
 use Rattle.ktm_owners.specs.Owners.{AreAllNamedBy, AreNamedByPart}
 use Rattle.ktm_owners.proofs.offered.Turns.{all-named-at, none-named, one-named-at}
-use Rattle.ktm_types.specs.declared.change.Change.{Change}
+use Rattle.ktm_world.specs.declared.change.Change.{Change}
 use Rattle.ktm_restart.proofs.naming.name_parts.Goals as goal
 
 pub loop-p-init : goal.loop-p-init

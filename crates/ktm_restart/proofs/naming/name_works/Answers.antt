@@ -1,7 +1,7 @@
 use Rattle.std.proofs.Common.{List, ◌∙◌, ap, refl, subst}
 use Rattle.ktm_owners.specs.Owners.{AreNamedByPart, AreNamedByParts, AreNamedInTurn}
 use Rattle.ktm_owners.proofs.offered.Turns.{all-named-at, none-named, one-named-at}
-use Rattle.ktm_types.specs.declared.recorded.RecordedPart.{RecordedPart}
+use Rattle.ktm_world.specs.declared.recorded.RecordedPart.{RecordedPart}
 use Rattle.ktm_world.specs.Durable.{Recorded}
 use Rattle.ktm_restart.proofs.naming.name_works.Goals as goal
 

@@ -1,8 +1,8 @@
 use Rattle.std.proofs.Common.{◌∷◌, ◌++◌, List, drop, ap, sym, ◌+◌, ◌∙◌}
 use Rattle.std.specs.List.{flat_map}
 use Rattle.std.proofs.lemmas.List.{drop_all}
-use Rattle.ktm_types.specs.declared.event.Event.{Event}
-use Rattle.ktm_types.specs.declared.event.Event.TheVariants.{Done}
+use Rattle.ktm_world.specs.declared.event.Event.{Event}
+use Rattle.ktm_world.specs.declared.event.Event.TheVariants.{Done}
 use Rattle.ktm_world.specs.Durable.{Recorded}
 use Rattle.ktm_world.specs.World.{own_events}
 use Rattle.ktm_restart.proofs.OwnDones.{own-split}

@@ -1,5 +1,5 @@
 use Rattle.std.proofs.Common.{◌++◌, Bool, sym, ◌∙◌, ap}
-use Rattle.ktm_types.specs.declared.event.DonePart.{DonePart}
+use Rattle.ktm_world.specs.declared.event.DonePart.{DonePart}
 use Rattle.ktm_world.specs.Durable.{has_undone}
 use Rattle.ktm_world.specs.World.{done_if}
 use Rattle.ktm_restart.proofs.own.own_done.Goals as goal

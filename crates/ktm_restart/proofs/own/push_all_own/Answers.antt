@@ -4,8 +4,8 @@ use Rattle.std.proofs.lemmas.List.{drop_all}
 use Rattle.ktm_event.specs.Kept.{Holds}
 use Rattle.ktm_event.specs.Spelling.{IsSpellableEvent}
 use Rattle.ktm_event.proofs.Joined.{first_spelled, sizes_both}
-use Rattle.ktm_types.specs.Sizes.{event_size}
-use Rattle.ktm_types.specs.declared.event.Event.{Event}
+use Rattle.ktm_world.specs.Sizes.{event_size}
+use Rattle.ktm_world.specs.declared.event.Event.{Event}
 use Rattle.ktm_world.specs.Durable.{Recorded}
 use Rattle.ktm_world.specs.World.{own_events}
 use Rattle.ktm_restart.proofs.OwnDones.{own-split}

@@ -2,15 +2,15 @@ use Rattle.std.proofs.Common.{◌≤◌, [], IfOk, sum_by, ap, sym, subst, ◌�
 use Rattle.ktm_memory.specs.Memory.{present_of}
 use Rattle.ktm_memory.specs.Rules.{PutsBy}
 use Rattle.ktm_slots.specs.Slots.{granted_in}
-use Rattle.ktm_types.specs.Sizes.{event_size}
-use Rattle.ktm_types.specs.declared.command.Command.TheVariants.{WriteUnits}
+use Rattle.ktm_world.specs.Sizes.{event_size}
+use Rattle.ktm_world.specs.declared.command.Command.TheVariants.{WriteUnits}
 use Rattle.ktm_world.specs.Decide.{decide}
 use Rattle.ktm_world.specs.Outcome.{Outcome}
 use Rattle.ktm_world.specs.TransactionCalls.{tick}
 use Rattle.ktm_memory.proofs.offered.Granted.{tick_grants}
 use Rattle.ktm_route.specs.Route.{AskedPutsBy}
 use Rattle.ktm_route.specs.declared.asked.Asked.TheVariants.{Call, Units}
-use Rattle.txf_volume.specs.Held.{files_of}
+use Rattle.ktm_memory.specs.Held.{files_of}
 use Rattle.ktm_route.proofs.Answering.{comes_to, puts_no_place, rules_kept}
 use Rattle.ktm_route.proofs.Rooms.{fits}
 use Rattle.ktm_route.proofs.Routes.{up_or}

@@ -1,5 +1,5 @@
 use Rattle.std.proofs.Common.{ap, subst, sym, ◌∙◌}
-use Rattle.ktm_types.specs.declared.command.Command.TheVariants.{GetEnlistmentRecoveryInformation}
+use Rattle.ktm_world.specs.declared.command.Command.TheVariants.{GetEnlistmentRecoveryInformation}
 use Rattle.ktm_world.specs.Enlistments.{Enlistment}
 use Rattle.ktm_memory.specs.Memory.{present_of}
 use Rattle.ktm_memory.specs.declared.routed.Routed.TheVariants.{Tell}

@@ -1,7 +1,7 @@
 use Rattle.std.proofs.Common.{◌≤◌, ap, subst, sym, length, ◌∙◌}
 use Rattle.std.proofs.lemmas.Bool.{le-ltb}
 use Rattle.ktm_base.specs.declared.limits.TheConstants.{MOST_INFORMATION_BYTES}
-use Rattle.ktm_types.specs.declared.command.Command.TheVariants.{SetEnlistmentRecoveryInformation}
+use Rattle.ktm_world.specs.declared.command.Command.TheVariants.{SetEnlistmentRecoveryInformation}
 use Rattle.ktm_world.specs.Enlistments.{Enlistment}
 use Rattle.ktm_memory.specs.Memory.{present_of}
 use Rattle.ktm_memory.specs.declared.routed.Routed.TheVariants.{Inform}

@@ -1,5 +1,5 @@
 use Rattle.std.specs.Prelude.{refl}
-use Rattle.ktm_types.specs.declared.command.Command.TheVariants.{FlushFileBuffers, GetFileSizeEx, SetEndOfFile, WriteFile}
+use Rattle.ktm_world.specs.declared.command.Command.TheVariants.{FlushFileBuffers, GetFileSizeEx, SetEndOfFile, WriteFile}
 use Rattle.ktm_world.specs.Labels.{file_tests}
 use Rattle.ktm_memory.specs.Memory.{present_of}
 use Rattle.ktm_route.proofs.Routes.{refused_first}

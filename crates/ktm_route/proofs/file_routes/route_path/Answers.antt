@@ -1,4 +1,4 @@
-use Rattle.ktm_types.specs.declared.command.Command.TheVariants.{CreateFile}
+use Rattle.ktm_world.specs.declared.command.Command.TheVariants.{CreateFile}
 use Rattle.txf_calls.specs.declared.call.FileCall.TheVariants.{Create}
 use Rattle.ktm_memory.specs.Memory.{present_of}
 use Rattle.ktm_route.proofs.FileRoutes.{create_refused, create_routed, delete_routed, find_routed, make_routed, move_routed, opening_routes, remove_routed}

@@ -1,5 +1,5 @@
 use Rattle.std.specs.Prelude.{Some, refl}
-use Rattle.ktm_types.specs.declared.command.Command.TheVariants.{CreateFileTransacted, DeleteFileTransacted, CreateDirectoryTransacted, RemoveDirectoryTransacted, MoveFileTransacted, FindFilesTransacted}
+use Rattle.ktm_world.specs.declared.command.Command.TheVariants.{CreateFileTransacted, DeleteFileTransacted, CreateDirectoryTransacted, RemoveDirectoryTransacted, MoveFileTransacted, FindFilesTransacted}
 use Rattle.ktm_world.specs.Decide.{caller}
 use Rattle.ktm_world.specs.FileCalls.{create_directory_tests, delete_file_tests, find_files_tests, move_file_tests, remove_directory_tests}
 use Rattle.ktm_world.specs.Labels.{transaction_named, transaction_tests}

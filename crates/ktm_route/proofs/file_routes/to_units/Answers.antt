@@ -1,5 +1,5 @@
 use Rattle.std.specs.Prelude.{refl}
-use Rattle.ktm_types.specs.declared.command.Command.TheVariants.{WriteUnits}
+use Rattle.ktm_world.specs.declared.command.Command.TheVariants.{WriteUnits}
 use Rattle.ktm_world.specs.Labels.{file_tests}
 use Rattle.txf_opens.specs.Acts.{open_of}
 use Rattle.ktm_memory.specs.Memory.{present_of}

@@ -1,7 +1,7 @@
 use Rattle.std.proofs.Common.{false, true, Some, ap, option_map, sym, ◌∙◌}
 use Rattle.ktm_world.specs.Labels.{file_number, open_file_at}
 use Rattle.txf_opens.specs.Acts.{open_of}
-use Rattle.txf_volume.specs.Held.{files_of}
+use Rattle.ktm_memory.specs.Held.{files_of}
 use Rattle.ktm_memory.specs.Memory.{present_of}
 use Rattle.ktm_route.proofs.FileRoutes.{found_named, suspended_or}
 use Rattle.ktm_route.proofs.labels.open_file.Goals as goal

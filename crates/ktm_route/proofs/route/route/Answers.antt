@@ -1,5 +1,5 @@
 use Rattle.std.proofs.Common.{refl}
-use Rattle.ktm_types.specs.declared.command.Command.TheVariants.{KvSet, KvUnset, KvGet}
+use Rattle.ktm_world.specs.declared.command.Command.TheVariants.{KvSet, KvUnset, KvGet}
 use Rattle.ktm_world.specs.Labels.{transaction_named, transaction_tests, view_tests}
 use Rattle.ktm_memory.specs.Memory.{present_of}
 use Rattle.ktm_route.proofs.Routes.{active_named, active_viewer, get_routed, list_routed, refused_first, set_routed, unset_routed}

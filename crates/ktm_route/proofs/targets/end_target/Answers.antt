@@ -1,5 +1,5 @@
 use Rattle.std.proofs.Common.{◌≡◌, None, Some, refl, subst, sym, ◌∙◌}
-use Rattle.ktm_types.specs.declared.command.Command.TheVariants.{SetEndOfFile}
+use Rattle.ktm_world.specs.declared.command.Command.TheVariants.{SetEndOfFile}
 use Rattle.ktm_world.specs.Decide.{refusal_of}
 use Rattle.ktm_world.specs.Labels.{file_tests}
 use Rattle.ktm_world.specs.Uses.{file_room}

@@ -1,6 +1,6 @@
 use Rattle.std.proofs.Common.{◌≡◌, ℕ, List, Some, ap, drop, refl, sym, take, ◌∙◌}
-use Rattle.ktm_types.specs.declared.command.Command.TheVariants.{ReadFile}
-use Rattle.ktm_types.specs.declared.reply.Reply.TheVariants.{Contents, Refused}
+use Rattle.ktm_world.specs.declared.command.Command.TheVariants.{ReadFile}
+use Rattle.ktm_world.specs.declared.reply.Reply.TheVariants.{Contents, Refused}
 use Rattle.ktm_world.specs.Decide.{decide}
 use Rattle.ktm_world.specs.Files.{OpenFile, bytes_seen}
 use Rattle.ktm_world.specs.Labels.{file_named, file_tests}

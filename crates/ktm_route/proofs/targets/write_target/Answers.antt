@@ -1,5 +1,5 @@
 use Rattle.std.proofs.Common.{◌≡◌, ℕ, ◌+◌, max, List, length, None, Some, refl, subst, sym, ◌∙◌}
-use Rattle.ktm_types.specs.declared.command.Command.TheVariants.{WriteFile}
+use Rattle.ktm_world.specs.declared.command.Command.TheVariants.{WriteFile}
 use Rattle.ktm_world.specs.Decide.{refusal_of}
 use Rattle.ktm_world.specs.Files.{bytes_seen}
 use Rattle.ktm_world.specs.Labels.{file_tests}

@@ -1,6 +1,6 @@
 use Rattle.std.proofs.Common.{is_some, ap, refl, sym, ◌∙◌}
 use Rattle.ktm_world.specs.Outcome.{first_refusal}
-use Rattle.txf_volume.specs.Held.{files_of}
+use Rattle.ktm_memory.specs.Held.{files_of}
 use Rattle.ktm_memory.specs.Memory.{present_of}
 use Rattle.ktm_route.specs.Route.{source_tests}
 use Rattle.ktm_route.proofs.Routes.{duplicate_bound, duplicate_refused, duplicate_routed, source_named, unbound_names}

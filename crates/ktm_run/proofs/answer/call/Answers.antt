@@ -1,8 +1,8 @@
 use Rattle.std.proofs.Common.{sym}
-use Rattle.ktm_route.proofs.offered.Back.{command-back}
+use Rattle.ktm_kernel.specs.Back.{command-back}
 use Rattle.ktm_run.proofs.Answering.{decided, few_calls, is_call, not_executed, quiet_call}
 use Rattle.ktm_run.proofs.Lasting.{lasts_few}
-use Rattle.ktm_route.specs.Completions.{command_of}
+use Rattle.ktm_kernel.specs.Completions.{command_of}
 use Rattle.ktm_run.proofs.answer.call.Goals as goal
 
 pub complete-requires-clause-command : goal.complete-requires-clause-command

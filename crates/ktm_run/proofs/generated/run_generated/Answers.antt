@@ -2,7 +2,7 @@ use Rattle.std.proofs.Common.{ℕ, List, Option, inl, inr, refl, arith}
 use Rattle.std.proofs.KnownBytes.{Keeps-refl}
 use Rattle.ktm_base.specs.Disk.{DiskState, DiskStatus}
 use Rattle.ktm_log.specs.OnDisk.{on}
-use Rattle.ktm_open.proofs.Openings.{begins_good, faults_bad, faults_down, faults_memory, faults_worn, safe_begins}
+use Rattle.ktm_kernel.proofs.Openings.{begins_good, faults_bad, faults_down, faults_memory, faults_worn, safe_begins}
 use Rattle.ktm_run.proofs.Lasting.{lasts_fresh}
 use Rattle.ktm_run.proofs.Summarized.{early_reads_none, generated_early, generated_ended, sum_ends, sum_reads_none}
 use Rattle.ktm_run.proofs.Theorems.{not_started_ends, run_begun}

@@ -1,6 +1,6 @@
 use Rattle.std.proofs.Common.{ℕ, List, Option, inl, inr, refl, arith}
 use Rattle.std.proofs.KnownBytes.{Keeps-refl}
-use Rattle.ktm_open.proofs.Openings.{begins_good, faults_bad, faults_down, faults_memory, faults_worn, safe_begins}
+use Rattle.ktm_kernel.proofs.Openings.{begins_good, faults_bad, faults_down, faults_memory, faults_worn, safe_begins}
 use Rattle.ktm_run.proofs.Lasting.{lasts_fresh}
 use Rattle.ktm_run.proofs.Theorems.{not_started_early, not_started_ends, not_started_is, not_usage, run_begun, run_ended, script_ends, too_long}
 use Rattle.ktm_log.specs.OnDisk.{on}

@@ -3,7 +3,7 @@ use Rattle.std.specs.List.{list_all}
 use Rattle.ktm_saved.specs.Tests.{against_of}
 use Rattle.ktm_saved.proofs.Passed.{changes-ok}
 use Rattle.ktm_saved.proofs.alone.has_good_changes.Goals as goal
-use Rattle.ktm_states.specs.GoodState.{are_kept_changes}
+use Rattle.txf_laws.specs.GoodState.{are_kept_changes}
 use Rattle.ktm_waiting.proofs.offered.Keeping.{kept-form}
 use Rattle.ktm_world.specs.Changes.{has_changes}
 use Rattle.ktm_world.specs.Durable.{are_recorded_changes, changes_of}

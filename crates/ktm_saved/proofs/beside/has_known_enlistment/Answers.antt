@@ -1,6 +1,6 @@
 use Rattle.std.proofs.Common.{◌∙◌, ◌||◌, ap}
 use Rattle.std.specs.List.{list_any}
-use Rattle.ktm_types.specs.declared.recorded.RecordedPart.{RecordedPart}
+use Rattle.ktm_world.specs.declared.recorded.RecordedPart.{RecordedPart}
 use Rattle.ktm_saved.specs.Tests.{is_known}
 use Rattle.ktm_saved.proofs.EachOther.{any-enlisted}
 use Rattle.ktm_saved.proofs.beside.has_known_enlistment.Goals as goal

@@ -1,10 +1,10 @@
 use Rattle.std.proofs.Common.{◌∙◌, ◌&&◌, ap}
 use Rattle.std.specs.List.{list_all}
-use Rattle.ktm_types.specs.declared.recorded.RecordedPart.{RecordedPart}
+use Rattle.ktm_world.specs.declared.recorded.RecordedPart.{RecordedPart}
 use Rattle.ktm_saved.specs.Tests.{against_of, is_enlisted_well}
 use Rattle.ktm_saved.proofs.EachOther.{all-enlisted}
 use Rattle.ktm_saved.proofs.enlisted.are_enlisted_well.Goals as goal
-use Rattle.ktm_states.specs.GoodState.{enlisted_in}
+use Rattle.txf_laws.specs.GoodState.{enlisted_in}
 
 pub returns-then-is_superior_well : goal.returns-then-is_superior_well
 returns-then-is_superior_well c =

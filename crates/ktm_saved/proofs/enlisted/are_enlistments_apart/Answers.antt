@@ -1,7 +1,7 @@
 use Rattle.std.proofs.Common.{◌∙◌, ◌&&◌, ap}
 use Rattle.ktm_saved.proofs.EachOther.{of_parts, pairs-superior}
 use Rattle.ktm_saved.proofs.enlisted.are_enlistments_apart.Goals as goal
-use Rattle.ktm_states.proofs.offered.GoodTransactions.{differ}
+use Rattle.txf_laws.proofs.offered.GoodTransactions.{differ}
 use Rattle.txf_laws.specs.Elements.{each_pair}
 
 pub returns-then-is_no_superior_of : goal.returns-then-is_no_superior_of

@@ -1,7 +1,7 @@
 use Rattle.std.proofs.Common.{◌≡◌, drop}
 use Rattle.ktm_saved.proofs.EachOther.{of_parts}
 use Rattle.ktm_saved.proofs.enlisted.are_parts_apart.Given as goal
-use Rattle.ktm_states.proofs.offered.GoodTransactions.{differ}
+use Rattle.txf_laws.proofs.offered.GoodTransactions.{differ}
 use Rattle.txf_laws.specs.Elements.{each_pair}
 
 abbrev pub invariant-loop-index : goal.invariant-loop-index

@@ -1,9 +1,9 @@
 use Rattle.std.proofs.Common.{◌∙◌, Option, ap, sym}
 use Rattle.std.specs.List.{list_all}
-use Rattle.ktm_types.specs.declared.recorded.Superior.{Superior}
+use Rattle.ktm_world.specs.declared.recorded.Superior.{Superior}
 use Rattle.ktm_saved.proofs.EachOther.{none-is, of_parts}
 use Rattle.ktm_saved.proofs.enlisted.is_no_superior_of.Goals as goal
-use Rattle.ktm_states.proofs.offered.GoodTransactions.{differ}
+use Rattle.txf_laws.proofs.offered.GoodTransactions.{differ}
 use Rattle.ktm_world.specs.Durable.{superior_ids}
 
 pub returns-in-Some : goal.returns-in-Some

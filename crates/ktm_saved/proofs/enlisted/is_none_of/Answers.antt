@@ -1,9 +1,9 @@
 use Rattle.std.proofs.Common.{◌∙◌, ap, sym}
 use Rattle.std.specs.List.{list_all}
-use Rattle.ktm_types.specs.declared.event.Part.{Part}
+use Rattle.ktm_world.specs.declared.event.Part.{Part}
 use Rattle.ktm_saved.proofs.EachOther.{none-is, of_parts}
 use Rattle.ktm_saved.proofs.enlisted.is_none_of.Goals as goal
-use Rattle.ktm_states.proofs.offered.GoodTransactions.{differ}
+use Rattle.txf_laws.proofs.offered.GoodTransactions.{differ}
 use Rattle.ktm_world.specs.Durable.{enlistments_in}
 
 pub returns-in-Enlistment : goal.returns-in-Enlistment

@@ -4,7 +4,7 @@ use Rattle.std.proofs.lemmas.List.{length_push}
 use Rattle.ktm_base.specs.Grammar.{IsU32}
 use Rattle.ktm_codec.specs.Spans.{Spans}
 use Rattle.ktm_snapshot.specs.Pieces.{IsFrontOf}
-use Rattle.ktm_types.specs.EventGrammar.{IsIdOf}
+use Rattle.ktm_world.specs.EventGrammar.{IsIdOf}
 use Rattle.ktm_saved.proofs.RisingManagers.{added_last, good_list, rising}
 use Rattle.ktm_saved.proofs.Lists.{none_good, some_good}
 use Rattle.ktm_saved.proofs.managers.read_managers.Goals as goal

@@ -2,7 +2,7 @@ use Rattle.std.proofs.Common.{◌≡◌, length, true}
 use Rattle.ktm_base.specs.Grammar.{IsU32}
 use Rattle.ktm_codec.specs.Spans.{Spans}
 use Rattle.ktm_snapshot.specs.Pieces.{IsFrontOf}
-use Rattle.ktm_types.specs.EventGrammar.{IsIdOf}
+use Rattle.ktm_world.specs.EventGrammar.{IsIdOf}
 use Rattle.ktm_saved.proofs.managers.read_managers.Given as goal
 use Rattle.ktm_saved.specs.Reading.{are_good_managers}
 

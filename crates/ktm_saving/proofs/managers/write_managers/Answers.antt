@@ -1,7 +1,7 @@
 use Rattle.std.proofs.Common.{length, sym, subst}
 use Rattle.ktm_base.specs.Grammar.{IsU32}
 use Rattle.ktm_event.specs.Spelling.{IsSpellableId}
-use Rattle.ktm_types.specs.EventGrammar.{IsIdOf}
+use Rattle.ktm_world.specs.EventGrammar.{IsIdOf}
 use Rattle.ktm_manager.specs.Durable.{durable_in}
 use Rattle.ktm_saving.proofs.Lists.{ArePartly, each_next, eight, eights, partly_all, partly_begun, partly_next, room_next}
 use Rattle.ktm_saving.proofs.managers.write_managers.Goals as goal

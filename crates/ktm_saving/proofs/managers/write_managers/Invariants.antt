@@ -1,6 +1,6 @@
 use Rattle.std.proofs.Common.{length}
 use Rattle.ktm_base.specs.Grammar.{IsU32}
-use Rattle.ktm_types.specs.EventGrammar.{IsIdOf}
+use Rattle.ktm_world.specs.EventGrammar.{IsIdOf}
 use Rattle.ktm_manager.specs.Durable.{durable_in}
 use Rattle.ktm_saving.proofs.Lists.{ArePartly, eight}
 use Rattle.ktm_saving.proofs.managers.write_managers.Given as goal

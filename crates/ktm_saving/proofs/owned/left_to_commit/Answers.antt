@@ -3,13 +3,13 @@ use Rattle.std.specs.Prelude.{◌⊎◌}
 use Rattle.ktm_event.specs.OnPages.{AreEach, IsRecordedChange}
 use Rattle.ktm_event.specs.Work.{changes_of}
 use Rattle.ktm_memory.specs.Memory.{held}
-use Rattle.ktm_types.specs.declared.recorded.Stage.{Stage}
-use Rattle.ktm_types.specs.declared.recorded.Stage.TheVariants.{Ready, Held}
+use Rattle.ktm_world.specs.declared.recorded.Stage.{Stage}
+use Rattle.ktm_world.specs.declared.recorded.Stage.TheVariants.{Ready, Held}
 use Rattle.ktm_world.specs.Durable.{is_decided}
 use Rattle.ktm_world.specs.Files.{own_changes}
 use Rattle.ktm_world.specs.Keys.{KeysNow, own_settings}
 use Rattle.txf_overlay.specs.OverlayState.{is_of_names}
-use Rattle.txf_volume.specs.Shown.{shown}
+use Rattle.ktm_memory.specs.Shown.{shown}
 use Rattle.ktm_saving.proofs.Recorded.{recorded-changes, recorded-is_work, spelled-recorded}
 use Rattle.ktm_saving.proofs.owned.left_to_commit.Goals as goal
 

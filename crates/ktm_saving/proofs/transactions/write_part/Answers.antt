@@ -4,7 +4,7 @@ use Rattle.ktm_saving.proofs.Recorded.{placed-contents, work-contents}
 use Rattle.ktm_saving.proofs.transactions.write_part.Goals as goal
 use Rattle.ktm_saving.proofs.transactions.write_part.Goals.{After-law_of_works}
 use Rattle.ktm_trace.specs.Contents.{contents_of}
-use Rattle.ktm_types.specs.Sizes.{part_size}
+use Rattle.ktm_world.specs.Sizes.{part_size}
 
 -- the part takes as many bytes as it does as a state has it
 sized : (c : After-law_of_works) → part_size (contents_of c.args.tm.now.now.enlistments (changes_placed c.args.owned.now) c.args.owned.now.settings.now c.args.part.who)

@@ -1,6 +1,6 @@
 use Rattle.ktm_event.proofs.Parts.{unambiguous_id}
 use Rattle.ktm_keyed.specs.Keyed.{is_rising}
-use Rattle.ktm_types.specs.EventGrammar.{IsIdOf}
+use Rattle.ktm_world.specs.EventGrammar.{IsIdOf}
 use Rattle.ktm_world.specs.Durable.{is_before}
 use Rattle.ktm_world.specs.Tree.{numbers_rise}
 use Rattle.txf_laws.specs.Elements.{each_pair}

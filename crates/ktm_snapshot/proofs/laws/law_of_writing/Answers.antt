@@ -1,7 +1,7 @@
 use Rattle.std.proofs.Common.{length}
 use Rattle.ktm_base.specs.Grammar.{IsU32}
 use Rattle.ktm_keyed.specs.Keyed.{is_rising}
-use Rattle.ktm_types.specs.EventGrammar.{IsIdOf}
+use Rattle.ktm_world.specs.EventGrammar.{IsIdOf}
 use Rattle.ktm_world.specs.Durable.{is_before}
 use Rattle.ktm_world.specs.Tree.{numbers_rise}
 use Rattle.txf_laws.specs.Elements.{each_pair}

@@ -1,7 +1,7 @@
 use Rattle.std.proofs.Common.{◌≡◌, ◌+◌, ◌∷◌, add-one, arith, drop, drop-cons, get_or, subst}
 use Rattle.std.proofs.lemmas.List.{drop_all}
-use Rattle.ktm_types.specs.declared.step.Fact.{Fact}
-use Rattle.ktm_types.specs.declared.step.Step.{Step}
+use Rattle.ktm_world.specs.declared.step.Fact.{Fact}
+use Rattle.ktm_world.specs.declared.step.Step.{Step}
 use Rattle.ktm_tm.specs.Steps.{after_all, Leaves}
 use Rattle.ktm_tm.proofs.Carrying.{next_left, none_left}
 use Rattle.ktm_tm.proofs.steps.carry_all.Goals as goal

@@ -1,6 +1,6 @@
 use Rattle.std.proofs.Common.{◌≡◌, ◌||◌, ◌∙◌, ◌++◌, false, drop, get_or, map, set, take, ap}
 use Rattle.ktm_base.specs.declared.id.Id.{Id}
-use Rattle.ktm_types.specs.declared.event.DonePart.{DonePart}
+use Rattle.ktm_world.specs.declared.event.DonePart.{DonePart}
 use Rattle.ktm_trace.specs.declared.marks.Mark.{Mark}
 use Rattle.ktm_trace.specs.Joined.{is_mark_by}
 use Rattle.ktm_trace.proofs.Changed.{changed-more, changed-not-yet}

@@ -1,6 +1,6 @@
 use Rattle.std.proofs.Common.{arith, length-append}
 use Rattle.std.specs.List.{flat_map}
-use Rattle.ktm_types.specs.declared.recorded.RecordedPart.{RecordedPart}
+use Rattle.ktm_world.specs.declared.recorded.RecordedPart.{RecordedPart}
 use Rattle.ktm_world.specs.Durable.{enlistments_in, superior_ids}
 use Rattle.ktm_waiting.proofs.Fitting.{enlistments-all}
 use Rattle.ktm_waiting.proofs.amounts.enlistments_of.Goals as goal

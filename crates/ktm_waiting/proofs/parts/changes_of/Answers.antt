@@ -1,5 +1,5 @@
 use Rattle.std.proofs.Common.{◌∙◌, sym, ap}
-use Rattle.ktm_types.specs.declared.event.DonePart.{DonePart}
+use Rattle.ktm_world.specs.declared.event.DonePart.{DonePart}
 use Rattle.ktm_world.specs.Durable.{changes_in, is_part_of}
 use Rattle.ktm_waiting.proofs.OneOfKind.{gathered-one, had, no-changes}
 use Rattle.ktm_waiting.proofs.parts.changes_of.Goals as goal

@@ -1,7 +1,7 @@
 use Rattle.std.proofs.Common.{◌≡◌, ◌∙◌, not, true, List, filter, rules, refl, ap}
 use Rattle.std.proofs.lemmas.Fn.{filter_same}
-use Rattle.ktm_types.specs.declared.event.DonePart.{DonePart}
-use Rattle.ktm_types.specs.declared.recorded.RecordedPart.{RecordedPart}
+use Rattle.ktm_world.specs.declared.event.DonePart.{DonePart}
+use Rattle.ktm_world.specs.declared.recorded.RecordedPart.{RecordedPart}
 use Rattle.ktm_world.specs.Durable.{is_of_enlistment, is_part_of, parts_done}
 use Rattle.ktm_waiting.proofs.parts.finish.Goals as goal
 

@@ -1,6 +1,6 @@
 use Rattle.std.proofs.Common.{◌≡◌, ◌≤◌, true, List, [], ◌∷◌, length, refl, arith}
 use Rattle.std.specs.List.{list_any}
-use Rattle.ktm_types.specs.declared.recorded.RecordedPart.{RecordedPart}
+use Rattle.ktm_world.specs.declared.recorded.RecordedPart.{RecordedPart}
 use Rattle.ktm_waiting.proofs.parts.has_part.Goals as goal
 
 some-part : (ps : List RecordedPart) → 1 ≤ length ps → true ≡ list_any (λ (p : RecordedPart). true) ps

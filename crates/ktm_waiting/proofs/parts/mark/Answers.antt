@@ -1,5 +1,5 @@
 use Rattle.std.proofs.Common.{◌≡◌, ◌||◌, ◌∙◌, ◌++◌, drop, get_or, map, set, take, ap}
-use Rattle.ktm_types.specs.declared.recorded.RecordedPart.{RecordedPart}
+use Rattle.ktm_world.specs.declared.recorded.RecordedPart.{RecordedPart}
 use Rattle.ktm_world.specs.Durable.{is_part_of}
 use Rattle.ktm_waiting.proofs.OneOfKind.{changed-more, changed-not-yet}
 use Rattle.ktm_waiting.proofs.parts.mark.Goals as goal

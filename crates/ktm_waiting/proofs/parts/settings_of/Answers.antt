@@ -1,5 +1,5 @@
 use Rattle.std.proofs.Common.{◌∙◌, sym, ap}
-use Rattle.ktm_types.specs.declared.event.DonePart.{DonePart}
+use Rattle.ktm_world.specs.declared.event.DonePart.{DonePart}
 use Rattle.ktm_world.specs.Durable.{settings_in, is_part_of}
 use Rattle.ktm_waiting.proofs.OneOfKind.{gathered-one, had, no-settings}
 use Rattle.ktm_waiting.proofs.parts.settings_of.Goals as goal

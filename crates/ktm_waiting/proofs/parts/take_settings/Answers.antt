@@ -1,7 +1,7 @@
 use Rattle.std.proofs.Common.{◌∙◌, [], false, get_or, set, sym, ap}
-use Rattle.ktm_types.specs.declared.event.DonePart.{DonePart}
-use Rattle.ktm_types.specs.declared.event.Part.TheVariants.{Settings}
-use Rattle.ktm_types.specs.declared.recorded.RecordedPart.{RecordedPart}
+use Rattle.ktm_world.specs.declared.event.DonePart.{DonePart}
+use Rattle.ktm_world.specs.declared.event.Part.TheVariants.{Settings}
+use Rattle.ktm_world.specs.declared.recorded.RecordedPart.{RecordedPart}
 use Rattle.ktm_world.specs.Durable.{settings_in, is_part_of}
 use Rattle.ktm_waiting.proofs.OneOfKind.{IsAbsent, IsReplaced, absent-at, gathered-one, had, no-settings, replaced-at}
 use Rattle.ktm_waiting.proofs.parts.take_settings.Goals as goal

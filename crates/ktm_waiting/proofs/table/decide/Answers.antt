@@ -1,8 +1,8 @@
 use Rattle.std.proofs.Common.{◌∙◌, List, map, ap}
-use Rattle.ktm_types.specs.declared.recorded.RecordedPart.{RecordedPart}
-use Rattle.ktm_types.specs.declared.recorded.Stage.{Stage}
+use Rattle.ktm_world.specs.declared.recorded.RecordedPart.{RecordedPart}
+use Rattle.ktm_world.specs.declared.recorded.Stage.{Stage}
 use Rattle.ktm_world.specs.Durable.{settings_in}
-use Rattle.ktm_states.proofs.offered.Parts.{gathered}
+use Rattle.txf_laws.proofs.offered.Parts.{gathered}
 use Rattle.ktm_waiting.specs.Work.{without_settings}
 use Rattle.ktm_waiting.proofs.offered.TableSteps.{emptied-both, settings-left}
 use Rattle.ktm_waiting.proofs.table.decide.Goals as goal

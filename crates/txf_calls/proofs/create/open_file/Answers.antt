@@ -1,6 +1,6 @@
 use Rattle.std.proofs.Common.{◌∙◌, Some, sym, refl}
 use Rattle.std.specs.Option.{option_map}
-use Rattle.ktm_types.specs.declared.reply.Reply.TheVariants.{Done}
+use Rattle.ktm_world.specs.declared.reply.Reply.TheVariants.{Done}
 use Rattle.ktm_world.specs.FileCalls.{at_node, create_at, empties, new_open}
 use Rattle.txf_opens.specs.Acts.{open_of}
 use Rattle.txf_opens.specs.declared.act.Act.TheVariants.{Open}

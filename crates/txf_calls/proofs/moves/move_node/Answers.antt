@@ -1,7 +1,7 @@
 use Rattle.std.proofs.Common.{◌∙◌, [], ◌∷◌, sym, ap, arith}
 use Rattle.std.proofs.lemmas.Grind.{common_steps}
 use Rattle.ktm_base.specs.declared.refusal.Refusal.TheVariants.{NotEnoughQuota}
-use Rattle.ktm_types.specs.declared.change.Change.TheVariants.{Move}
+use Rattle.ktm_world.specs.declared.change.Change.TheVariants.{Move}
 use Rattle.ktm_world.specs.FileOutcome.{FileOutcome, changing, lacks_quota}
 use Rattle.ktm_world.specs.Files.{tree_seen}
 use Rattle.ktm_world.specs.Outcome.{first_refusal}

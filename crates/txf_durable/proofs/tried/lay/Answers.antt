@@ -1,5 +1,5 @@
 use Rattle.std.proofs.Common.{◌∙◌, sym, ap}
-use Rattle.ktm_types.specs.declared.change.Change.TheVariants.{Move}
+use Rattle.ktm_world.specs.declared.change.Change.TheVariants.{Move}
 use Rattle.ktm_world.specs.Changes.{applies}
 use Rattle.txf_overlay.specs.OverlayState.{seen}
 use Rattle.txf_tree.specs.TreeState.{tree_of}

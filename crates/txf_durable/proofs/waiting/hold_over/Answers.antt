@@ -1,7 +1,7 @@
 use Rattle.std.proofs.Common.{◌≡◌, ◌+◌, ◌∷◌, [], ◌++◌, not, List, sym, ◌∙◌, ap, subst, take, drop, arith}
 use Rattle.std.proofs.lemmas.Bool.{and_parts}
 use Rattle.std.proofs.lemmas.List.{drop_more, take_more}
-use Rattle.ktm_types.specs.declared.change.Change.{Change}
+use Rattle.ktm_world.specs.declared.change.Change.{Change}
 use Rattle.ktm_world.specs.Changes.{applies, changed, changed_all, changes_apply, changes_bytes}
 use Rattle.txf_laws.proofs.offered.NormalForms.{changed_all-append}
 use Rattle.txf_overlay.specs.OverlayState.{seen}

@@ -1,4 +1,4 @@
-use Rattle.ktm_types.specs.declared.change.Change.TheVariants.{Make, Move, Drop}
+use Rattle.ktm_world.specs.declared.change.Change.TheVariants.{Make, Move, Drop}
 use Rattle.txf_overlay.specs.OverlayState.{seen}
 use Rattle.txf_tree.specs.TreeState.{tree_of}
 use Rattle.txf_volume.proofs.TransactedParts.{on_ok}

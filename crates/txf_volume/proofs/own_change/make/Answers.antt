@@ -1,4 +1,4 @@
-use Rattle.ktm_types.specs.declared.change.Change.TheVariants.{Make}
+use Rattle.ktm_world.specs.declared.change.Change.TheVariants.{Make}
 use Rattle.txf_overlay.specs.OverlayState.{seen}
 use Rattle.txf_overlay.proofs.Keeping.{short-from}
 use Rattle.txf_volume.proofs.own_change.make.Goals as goal

@@ -1,4 +1,4 @@
-use Rattle.ktm_types.specs.declared.change.Change.TheVariants.{Move}
+use Rattle.ktm_world.specs.declared.change.Change.TheVariants.{Move}
 use Rattle.txf_overlay.specs.OverlayState.{seen}
 use Rattle.txf_overlay.proofs.Keeping.{short-from}
 use Rattle.txf_tree.specs.TreeState.{tree_of}

@@ -1,6 +1,6 @@
 use Rattle.std.proofs.Common.{Ok, refl}
 use Rattle.ktm_log.specs.OnDisk.{on}
-use Rattle.ktm_route.specs.Completions.{command_of}
+use Rattle.ktm_kernel.specs.Completions.{command_of}
 use Rattle.wattorju.proofs.Asking.{asked_told}
 use Rattle.wattorju.specs.Calls.{own}
 use Rattle.wattorju.proofs.machine.complete.Goals as goal

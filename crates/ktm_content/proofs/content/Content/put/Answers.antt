@@ -1,5 +1,5 @@
 use Rattle.std.proofs.Common.{◌≡◌, ◌/◌, ◌∙◌, List, ℕ, ap, ap₂, arith, refl, subst, sym}
-use Rattle.ktm_base.specs.Bytes.{written}
+use Rattle.ktm_page.specs.Bytes.{written}
 use Rattle.ktm_content.specs.Contents.{put_over}
 use Rattle.ktm_content.specs.Places.{CanBePut, ContentState, places_on}
 use Rattle.ktm_content.proofs.offered.Putting.{put-places}

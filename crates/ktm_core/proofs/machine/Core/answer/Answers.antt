@@ -1,16 +1,16 @@
 use Rattle.std.proofs.Common.{false, sym, ◌∙◌, ap, arith, subst}
 use Rattle.std.specs.Prelude.{IfSome}
 use Rattle.ktm_journal.specs.Image.{IsHeaded, JournalState, page_count}
-use Rattle.ktm_types.specs.Sizes.{area_len}
+use Rattle.ktm_world.specs.Sizes.{area_len}
 use Rattle.ktm_memory.specs.Memory.{MemoryState, held, present_of}
 use Rattle.ktm_memory.specs.Rules.{Follows}
 use Rattle.ktm_each.specs.Each.{EachOfFiles}
 use Rattle.ktm_memory.specs.Stored.{FilesLieBelow}
 use Rattle.ktm_route.specs.Route.{decided}
-use Rattle.txf_volume.specs.Held.{files_of}
-use Rattle.ktm_types.specs.Groups.{Group}
+use Rattle.ktm_memory.specs.Held.{files_of}
+use Rattle.ktm_world.specs.Groups.{Group}
 use Rattle.ktm_core.proofs.Answering.{files_below, settled_rules, sound_outcome}
-use Rattle.ktm_core.proofs.Asked.{asked_well}
+use Rattle.ktm_core.proofs.Asks.{asked_well}
 use Rattle.ktm_core.proofs.Ends.{cut_answered, done_answered, may_record, may_settle, may_tell, raw}
 use Rattle.ktm_core.specs.Core.{core_of}
 use Rattle.ktm_core.specs.Recording.{IsNotPut, IsPut, MayRecord, kept_on}

@@ -1,8 +1,8 @@
 use Rattle.std.proofs.Common.{◌≡◌, ◌+◌, ◌≤◌, ◌++◌, All, List, drop, sum_by}
 use Rattle.ktm_event.specs.Kept.{Holds}
 use Rattle.ktm_event.specs.Spelling.{IsSpellableEvent}
-use Rattle.ktm_types.specs.Sizes.{event_size}
-use Rattle.ktm_types.specs.declared.event.Event.{Event}
+use Rattle.ktm_world.specs.Sizes.{event_size}
+use Rattle.ktm_world.specs.declared.event.Event.{Event}
 use Rattle.ktm_world.specs.Steps.{Basis, events_ahead}
 use Rattle.ktm_course.specs.Recorded.{IsBasis}
 use Rattle.ktm_course.proofs.parts.Parts.record.Given as goal

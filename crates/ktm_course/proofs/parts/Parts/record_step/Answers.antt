@@ -2,8 +2,8 @@ use Rattle.std.proofs.Common.{◌≤◌, [], ◌++◌, All, List, append-nil, ar
 use Rattle.std.proofs.lemmas.List.Elements.{All-head}
 use Rattle.ktm_event.specs.Kept.{Holds}
 use Rattle.ktm_event.specs.Spelling.{IsSpellableEvent}
-use Rattle.ktm_types.specs.Sizes.{event_size}
-use Rattle.ktm_types.specs.declared.event.Event.{Event}
+use Rattle.ktm_world.specs.Sizes.{event_size}
+use Rattle.ktm_world.specs.declared.event.Event.{Event}
 use Rattle.ktm_course.proofs.Bases.{some_basis}
 use Rattle.ktm_course.proofs.parts.Parts.record_step.Goals as goal
 

@@ -1,5 +1,5 @@
 use Rattle.std.proofs.Common.{refl, ◌∙◌, None, ap, arith, length, map, subst, sym}
-use Rattle.ktm_types.specs.declared.step.Who.{Who}
+use Rattle.ktm_world.specs.declared.step.Who.{Who}
 use Rattle.ktm_world.specs.Enlistments.{is_given, tell}
 use Rattle.ktm_world.specs.Outcome.{served}
 use Rattle.ktm_world.specs.Steps.{is_one_of}

@@ -1,9 +1,9 @@
 use Rattle.std.proofs.Common.{arith, vec_len}
 use Rattle.std.proofs.lemmas.Grind.{common_steps}
-use Rattle.ktm_types.specs.declared.change.Change.TheVariants.{Put}
-use Rattle.ktm_types.specs.declared.change.Contents.TheVariants.{Paged}
-use Rattle.ktm_types.specs.declared.event.Event.{Event}
-use Rattle.ktm_types.specs.declared.event.Event.TheVariants.{Plain}
+use Rattle.ktm_world.specs.declared.change.Change.TheVariants.{Put}
+use Rattle.ktm_world.specs.declared.change.Contents.TheVariants.{Paged}
+use Rattle.ktm_world.specs.declared.event.Event.{Event}
+use Rattle.ktm_world.specs.declared.event.Event.TheVariants.{Plain}
 use Rattle.ktm_event.proofs.KeptLemmas.{Grew, kept_more, holds_more}
 use Rattle.ktm_event.proofs.kept.Events.push_put.Goals as goal
 

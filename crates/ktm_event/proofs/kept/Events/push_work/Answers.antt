@@ -1,6 +1,6 @@
 use Rattle.std.proofs.Common.{arith, vec_len}
 use Rattle.std.proofs.lemmas.Grind.{common_steps}
-use Rattle.ktm_types.specs.declared.event.Event.{Event}
+use Rattle.ktm_world.specs.declared.event.Event.{Event}
 use Rattle.ktm_event.specs.Work.{part_of, work_event}
 use Rattle.ktm_event.proofs.KeptLemmas.{Grew, kept_more, holds_more}
 use Rattle.ktm_event.proofs.kept.Events.push_work.Given.{Over}

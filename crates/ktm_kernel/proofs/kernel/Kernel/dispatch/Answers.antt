@@ -1,6 +1,6 @@
 use Rattle.std.proofs.Common.{sym, ◌∙◌, subst}
 use Rattle.ktm_log.specs.OnDisk.{on}
-use Rattle.ktm_types.specs.declared.command.Command.{Command}
+use Rattle.ktm_world.specs.declared.command.Command.{Command}
 use Rattle.ktm_units.specs.Units.{IsOfNoBytes}
 use Rattle.ktm_world.specs.Decide.{decide}
 use Rattle.ktm_kernel.specs.Answers.{AnswerLeaves}
@@ -15,7 +15,7 @@ returns-in-ReadFile-clause-leaves g c = subst (λ (command : Command). AnswerLea
 pub returns-in_default : goal.returns-in_default
 returns-in_default g c = record {
   leaves = c.answer.ensures.leaves (decide c.args.self.now.now c.args.process c.args.command)
-      (command-same c.law_of_units.ensures c.args.self.now (c.requires.ready.core c.requires.up).is c.args.process c.args.command none);
+      (command-same c.law_of_units.ensures c.law_of_alike_presents.ensures c.args.self.now (c.requires.ready.core c.requires.up).is c.args.process c.args.command none);
   no_memory = c.answer.ensures.no_memory;
   enough = λ takes. c.answer.ensures.enough (sym (takes-over c.law_of_alike_presents.ensures c.args.self.now (c.requires.ready.core c.requires.up).is c.args.process c.args.command none) ∙ takes);
 }

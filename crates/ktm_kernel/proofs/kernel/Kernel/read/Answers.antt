@@ -2,11 +2,11 @@ use Rattle.std.proofs.Common.{◌≡◌, ℕ, true, List, ◌++◌, map, sym, �
 use Rattle.std.specs.Prelude.{drop, take}
 use Rattle.ktm_alike.specs.Alike.{mapped_present, mapped_read}
 use Rattle.ktm_content.specs.Places.{byte_at}
-use Rattle.ktm_memory.specs.Memory.{present_of}
-use Rattle.ktm_memory.specs.Stored.{AreFilesHeld}
-use Rattle.ktm_route.specs.Takes.{takes_memory}
-use Rattle.ktm_types.specs.declared.command.Command.TheVariants.{ReadFile}
-use Rattle.ktm_types.specs.declared.reply.Reply.TheVariants.{Contents, Refused}
+use Rattle.ktm_core.specs.Memory.{present_of}
+use Rattle.ktm_core.specs.Stored.{AreFilesHeld}
+use Rattle.ktm_core.specs.Takes.{takes_memory}
+use Rattle.ktm_world.specs.declared.command.Command.TheVariants.{ReadFile}
+use Rattle.ktm_world.specs.declared.reply.Reply.TheVariants.{Contents, Refused}
 use Rattle.ktm_world.specs.Decide.{decide}
 use Rattle.ktm_world.specs.Outcome.{only_reply}
 use Rattle.ktm_kernel.specs.Stands.{KernelState}

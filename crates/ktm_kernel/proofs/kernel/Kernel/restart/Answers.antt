@@ -3,7 +3,7 @@ use Rattle.ktm_base.specs.declared.limits.TheConstants.{MOST_UNITS}
 use Rattle.ktm_journal.specs.Image.{JournalState}
 use Rattle.ktm_journal.specs.Open.{log_reads}
 use Rattle.ktm_log.specs.OnDisk.{on}
-use Rattle.ktm_types.specs.Sizes.{area_len, frame_size}
+use Rattle.ktm_world.specs.Sizes.{area_len, frame_size}
 use Rattle.ktm_kernel.proofs.Beginning.{begun_calls, not_begun_calls}
 use Rattle.ktm_kernel.proofs.Restarts.{all_calls, badly_loaded, few_calls, found_worn, headed_begun, not_loaded, not_restarted, on_start, reserved, restarted, roomy_begun, small, sound_begun, unloaded, unwritten}
 use Rattle.ktm_kernel.proofs.Sizes.{more_calls}
@@ -100,16 +100,16 @@ returns-in-Err-begin-clause-few g c = λ units image selector headed.
     (c.in-Ok.ensures.few units image selector headed) (not_begun_calls _ _ _ c.in-Err-begin.ensures.err.1).few
 
 pub returns-then-is_worn-clause-calls : goal.returns-then-is_worn-clause-calls
-returns-then-is_worn-clause-calls g c = more_calls (log_reads MOST_UNITS + 5) (8 * MOST_UNITS + 70) _ _ false (omega arith) c.in-Ok.ensures.leaves.read.reads.reads.calls
+returns-then-is_worn-clause-calls g c = more_calls (log_reads MOST_UNITS + 5) (4 * MOST_UNITS + 91) _ _ false (omega arith) c.in-Ok.ensures.leaves.read.reads.reads.calls
 
 pub returns-in_default-clause-calls : goal.returns-in_default-clause-calls
-returns-in_default-clause-calls g c = more_calls (log_reads MOST_UNITS + 5) (8 * MOST_UNITS + 70) _ _ false (omega arith) c.in-Ok.ensures.leaves.read.reads.reads.calls
+returns-in_default-clause-calls g c = more_calls (log_reads MOST_UNITS + 5) (4 * MOST_UNITS + 91) _ _ false (omega arith) c.in-Ok.ensures.leaves.read.reads.reads.calls
 
 pub returns-in-Err-clause-calls : goal.returns-in-Err-clause-calls
-returns-in-Err-clause-calls g c = more_calls (log_reads MOST_UNITS + 5) (8 * MOST_UNITS + 70) _ _ false (omega arith) c.in-Ok.ensures.leaves.read.reads.reads.calls
+returns-in-Err-clause-calls g c = more_calls (log_reads MOST_UNITS + 5) (4 * MOST_UNITS + 91) _ _ false (omega arith) c.in-Ok.ensures.leaves.read.reads.reads.calls
 
 pub returns-in_default-new-clause-calls : goal.returns-in_default-new-clause-calls
-returns-in_default-new-clause-calls g c = more_calls (log_reads MOST_UNITS + 5) (8 * MOST_UNITS + 70) _ _ false (omega arith) c.in-Ok.ensures.leaves.read.reads.reads.calls
+returns-in_default-new-clause-calls g c = more_calls (log_reads MOST_UNITS + 5) (4 * MOST_UNITS + 91) _ _ false (omega arith) c.in-Ok.ensures.leaves.read.reads.reads.calls
 
 pub returns-in_default-new-clause-few : goal.returns-in_default-new-clause-few
 returns-in_default-new-clause-few g c = λ units image selector headed. omega (arith, c.in-Ok.ensures.few units image selector headed)

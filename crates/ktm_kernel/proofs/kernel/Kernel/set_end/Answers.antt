@@ -1,8 +1,8 @@
 use Rattle.std.proofs.Common.{◌≡◌, OnErr, true, sym, subst}
 use Rattle.std.proofs.lemmas.Result.{on_err_weaker}
 use Rattle.ktm_core.specs.Core.{core_of}
-use Rattle.ktm_route.specs.Takes.{takes_memory}
-use Rattle.ktm_types.specs.declared.command.Command.TheVariants.{SetEndOfFile}
+use Rattle.ktm_core.specs.Takes.{takes_memory}
+use Rattle.ktm_world.specs.declared.command.Command.TheVariants.{SetEndOfFile}
 use Rattle.ktm_world.specs.Decide.{decide}
 use Rattle.ktm_kernel.specs.Answers.{IsAsItWas}
 use Rattle.ktm_kernel.specs.Stands.{IsReady, machine_of}

@@ -5,8 +5,8 @@ use Rattle.ktm_core.specs.declared.machine.Core.{Core}
 use Rattle.ktm_event.specs.Kept.{EventsState}
 use Rattle.ktm_journal.specs.Image.{JournalState}
 use Rattle.ktm_log.specs.OnDisk.{on}
-use Rattle.ktm_types.specs.declared.reply.Reply.TheVariants.{Restarted}
-use Rattle.ktm_types.specs.Sizes.{area_len, frame_size}
+use Rattle.ktm_world.specs.declared.reply.Reply.TheVariants.{Restarted}
+use Rattle.ktm_world.specs.Sizes.{area_len, frame_size}
 use Rattle.ktm_kernel.specs.Answers.{IsRestartAnswered}
 use Rattle.ktm_kernel.specs.Buffers.{BuffersState}
 use Rattle.ktm_kernel.specs.Stands.{KernelState, machine_of}

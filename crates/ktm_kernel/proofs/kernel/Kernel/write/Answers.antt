@@ -1,8 +1,8 @@
 use Rattle.std.proofs.Common.{◌≡◌, OnErr, true, refl, sym, subst}
 use Rattle.std.proofs.lemmas.Result.{on_err_weaker}
 use Rattle.ktm_core.specs.Core.{core_of}
-use Rattle.ktm_route.specs.Takes.{takes_memory}
-use Rattle.ktm_types.specs.declared.command.Command.TheVariants.{WriteFile}
+use Rattle.ktm_core.specs.Takes.{takes_memory}
+use Rattle.ktm_world.specs.declared.command.Command.TheVariants.{WriteFile}
 use Rattle.ktm_world.specs.Decide.{decide}
 use Rattle.ktm_kernel.specs.Answers.{IsAsItWas}
 use Rattle.ktm_kernel.specs.Stands.{IsReady, machine_of}
@@ -12,7 +12,7 @@ use Rattle.ktm_kernel.proofs.kernel.Kernel.write.Goals as goal
 
 pub returns-then-is_empty-clause-leaves : goal.returns-then-is_empty-clause-leaves
 returns-then-is_empty-clause-leaves g c = c.answer.ensures.leaves (decide c.args.self.now.now c.args.process (WriteFile c.args.file c.args.offset c.args.bytes))
-    (command-same c.law_of_units.ensures c.args.self.now (c.requires.ready.core c.requires.up).is c.args.process (WriteFile c.args.file c.args.offset c.args.bytes) (c.if-is_empty.ensures.0 refl))
+    (command-same c.law_of_units.ensures c.law_of_alike_presents.ensures c.args.self.now (c.requires.ready.core c.requires.up).is c.args.process (WriteFile c.args.file c.args.offset c.args.bytes) (c.if-is_empty.ensures.0 refl))
 
 pub returns-in_err-staged-clause-no_memory : goal.returns-in_err-staged-clause-no_memory
 returns-in_err-staged-clause-no_memory g c = on-err c.from_residual.result (subst (λ k. IsAsItWas k (machine_of (core_of c.self.inside.core.memory c.stage_write.new.store))) c.self.view_is

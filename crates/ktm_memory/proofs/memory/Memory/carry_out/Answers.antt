@@ -12,7 +12,7 @@ use Rattle.ktm_tm.specs.TmState.{TmState}
 use Rattle.ktm_tm.specs.Courses.{IsCourseIn, caller_of}
 use Rattle.ktm_trace.specs.Traces.{traces_after}
 use Rattle.ktm_trace.specs.declared.recording.Recording.{Recording}
-use Rattle.ktm_types.specs.declared.reply.Reply.TheVariants.{Done}
+use Rattle.ktm_world.specs.declared.reply.Reply.TheVariants.{Done}
 use Rattle.ktm_world.specs.Durable.{next_after_all}
 use Rattle.ktm_world.specs.Enlistments.{Sent}
 use Rattle.ktm_world.specs.Files.{own_changes}

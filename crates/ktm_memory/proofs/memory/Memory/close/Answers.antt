@@ -2,7 +2,7 @@ use Rattle.ktm_each.specs.Each.{EachOfFiles}
 use Rattle.ktm_memory.specs.Rules.{Follows}
 use Rattle.txf_volume.specs.Held.{files_of}
 use Rattle.std.proofs.Common.{not, List, ap, sym, subst, ◌∙◌}
-use Rattle.ktm_types.specs.declared.object.Handle.{Handle}
+use Rattle.ktm_world.specs.declared.object.Handle.{Handle}
 use Rattle.ktm_world.specs.HandleCalls.{close_handle, has_handle}
 use Rattle.ktm_memory.specs.Memory.{MemoryState, Settles, TellsWithin}
 use Rattle.ktm_memory.proofs.Closings.{closed_is, none_closed, settles-close, settles-unbound, told-gone}

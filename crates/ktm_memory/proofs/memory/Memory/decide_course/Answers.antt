@@ -6,8 +6,8 @@ use Rattle.ktm_trace.specs.Contents.{KeptLaw}
 use Rattle.ktm_trace.specs.Few.{AreFew}
 use Rattle.ktm_trace.specs.Recordings.{steps_room}
 use Rattle.ktm_trace.specs.declared.room.TheConstants.{MOST_NOTED}
-use Rattle.ktm_types.specs.Sizes.{event_size}
-use Rattle.ktm_types.specs.declared.step.Step.{Step}
+use Rattle.ktm_world.specs.Sizes.{event_size}
+use Rattle.ktm_world.specs.declared.step.Step.{Step}
 use Rattle.ktm_world.specs.TransactionCalls.{course_of}
 use Rattle.ktm_memory.specs.Decided.{HoldsRecordOf}
 use Rattle.ktm_memory.specs.Memory.{MemoryState, course_then, present_of}

@@ -1,11 +1,11 @@
 use Rattle.std.proofs.Common.{◌≡◌, ◌≤◌, ◌||◌, true, List, [], refl, ap, subst, sym, ◌∙◌}
 use Rattle.std.proofs.lemmas.Bool.{or_from, or_left, or_right}
 use Rattle.ktm_base.specs.declared.refusal.Refusal.TheVariants.{NotEnoughQuota}
-use Rattle.ktm_types.specs.declared.object.Handle.{Handle}
+use Rattle.ktm_world.specs.declared.object.Handle.{Handle}
 use Rattle.ktm_tm.specs.TmState.{next_id}
 use Rattle.ktm_world.specs.Handles.{no_handle_left, object_at}
 use Rattle.ktm_world.specs.TransactionCalls.{create_transaction, no_transaction_left}
-use Rattle.ktm_types.specs.declared.reply.Reply.TheVariants.{Refused}
+use Rattle.ktm_world.specs.declared.reply.Reply.TheVariants.{Refused}
 use Rattle.ktm_memory.specs.Memory.{held, present_of}
 use Rattle.ktm_memory.proofs.Decides.{create_decided, create_says}
 use Rattle.ktm_memory.proofs.offered.Decided.{only_decided}

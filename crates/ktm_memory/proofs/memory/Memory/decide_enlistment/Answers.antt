@@ -1,7 +1,7 @@
 use Rattle.std.proofs.Common.{◌≤◌, ◌+◌, is_some, List, [], refl, ap, subst, sym, ◌∙◌, arith}
 use Rattle.std.proofs.lemmas.Bool.{or_from}
 use Rattle.ktm_base.specs.declared.refusal.Refusal.TheVariants.{NotEnoughQuota}
-use Rattle.ktm_types.specs.declared.object.Handle.{Handle}
+use Rattle.ktm_world.specs.declared.object.Handle.{Handle}
 use Rattle.ktm_slots.specs.Slots.{granted_in}
 use Rattle.ktm_tm.specs.TmState.{id_after}
 use Rattle.ktm_world.specs.Enlistments.{manager_at}

@@ -7,8 +7,8 @@ use Rattle.ktm_base.specs.declared.id.Pid.{Pid}
 use Rattle.ktm_each.proofs.offered.Files.{files_after-each}
 use Rattle.ktm_each.specs.Each.{EachOfChange, EachOfFiles, EachOfGroup}
 use Rattle.ktm_standing.specs.Files.{MayMake}
-use Rattle.ktm_types.specs.Sizes.{event_size}
-use Rattle.ktm_types.specs.declared.event.Event.{Event}
+use Rattle.ktm_world.specs.Sizes.{event_size}
+use Rattle.ktm_world.specs.declared.event.Event.{Event}
 use Rattle.ktm_world.specs.Decide.{events_of}
 use Rattle.ktm_world.specs.FileOutcome.{FileOutcome, files_after}
 use Rattle.ktm_world.specs.Files.{bytes_seen}

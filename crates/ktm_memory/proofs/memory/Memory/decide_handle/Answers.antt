@@ -1,6 +1,6 @@
 use Rattle.std.proofs.Common.{◌≤◌, [], refl, ap, subst, sym, ◌∙◌}
 use Rattle.ktm_base.specs.declared.refusal.Refusal.TheVariants.{NotEnoughQuota}
-use Rattle.ktm_types.specs.declared.reply.Reply.TheVariants.{Refused}
+use Rattle.ktm_world.specs.declared.reply.Reply.TheVariants.{Refused}
 use Rattle.ktm_world.specs.Handles.{no_handle_left}
 use Rattle.ktm_memory.specs.Memory.{MemoryState, held, present_of}
 use Rattle.ktm_memory.specs.Settled.{labels_outcome}

@@ -1,9 +1,9 @@
 use Rattle.std.proofs.Common.{◌≤◌, List, [], sum_by, refl, ap, sym, subst, ◌∙◌}
 use Rattle.std.proofs.lemmas.Bool.{or_from}
 use Rattle.ktm_base.specs.declared.refusal.Refusal.TheVariants.{NotEnoughQuota}
-use Rattle.ktm_types.specs.Sizes.{event_size}
-use Rattle.ktm_types.specs.declared.event.Event.{Event}
-use Rattle.ktm_types.specs.declared.object.Handle.{Handle}
+use Rattle.ktm_world.specs.Sizes.{event_size}
+use Rattle.ktm_world.specs.declared.event.Event.{Event}
+use Rattle.ktm_world.specs.declared.object.Handle.{Handle}
 use Rattle.ktm_tm.specs.TmState.{id_after}
 use Rattle.ktm_world.specs.Handles.{no_handle_left, object_at}
 use Rattle.ktm_world.specs.Outcome.{Outcome}

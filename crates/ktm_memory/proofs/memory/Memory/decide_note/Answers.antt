@@ -2,7 +2,7 @@ use Rattle.std.proofs.Common.{option_map, sym, ◌∙◌, ap}
 use Rattle.ktm_base.specs.declared.id.ObjectKind.{ObjectKind}
 use Rattle.ktm_base.specs.Guid.{guid_of}
 use Rattle.ktm_manager.specs.Managers.{first_of, note_of}
-use Rattle.ktm_types.specs.declared.reply.Reply.TheVariants.{Notification}
+use Rattle.ktm_world.specs.declared.reply.Reply.TheVariants.{Notification}
 use Rattle.ktm_world.specs.Enlistments.{manager_at}
 use Rattle.ktm_memory.proofs.ObjectsDecided.{note_decided}
 use Rattle.ktm_memory.proofs.memory.Memory.decide_note.Goals as goal

@@ -1,6 +1,6 @@
 use Rattle.std.proofs.Common.{◌≤◌, None, ap, sym, subst, ◌∙◌}
 use Rattle.std.specs.Option.{option_map}
-use Rattle.ktm_types.specs.declared.reply.Reply.TheVariants.{Done}
+use Rattle.ktm_world.specs.declared.reply.Reply.TheVariants.{Done}
 use Rattle.ktm_world.specs.FileOutcome.{FileOutcome}
 use Rattle.ktm_world.specs.Files.{FilesNow}
 use Rattle.txf_opens.specs.Acts.{open_of}

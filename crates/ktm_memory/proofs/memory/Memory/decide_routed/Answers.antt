@@ -7,8 +7,8 @@ use Rattle.std.proofs.lemmas.Result.{IfOk-weaker}
 use Rattle.ktm_event.specs.Kept.{EventsState, Holds}
 use Rattle.ktm_records.proofs.offered.AgreementOfCourses.{arrival}
 use Rattle.ktm_tm.specs.Courses.{caller_of}
-use Rattle.ktm_types.specs.Sizes.{event_size}
-use Rattle.ktm_types.specs.declared.event.Event.{Event}
+use Rattle.ktm_world.specs.Sizes.{event_size}
+use Rattle.ktm_world.specs.declared.event.Event.{Event}
 use Rattle.ktm_world.specs.Enlistments.{enlistment_at, manager_at}
 use Rattle.ktm_memory.specs.Memory.{held, present_of}
 use Rattle.ktm_memory.specs.Routed.{course_to, outcome_of, reply_to}

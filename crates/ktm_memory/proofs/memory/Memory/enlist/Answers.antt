@@ -4,7 +4,7 @@ use Rattle.ktm_courses.proofs.offered.Calls.{transaction_at-found}
 use Rattle.ktm_memory.specs.Memory.{Shows}
 use Rattle.ktm_memory.specs.contracts.memory.Memory.{the_view}
 use Rattle.ktm_memory.proofs.Making.{enlisted_shows}
-use Rattle.ktm_types.specs.declared.object.Object.TheVariants.{Enlistment as EnlistmentObject}
+use Rattle.ktm_world.specs.declared.object.Object.TheVariants.{Enlistment as EnlistmentObject}
 use Rattle.ktm_world.specs.Enlistments.{Manager, manager_at}
 use Rattle.ktm_world.specs.Labels.{with_handle}
 use Rattle.ktm_world.specs.Present.{Transactions}

@@ -4,7 +4,7 @@ use Rattle.txf_volume.specs.Held.{files_of}
 use Rattle.std.proofs.Common.{◌∷◌, not, List, length, refl, ap, sym, subst, ◌∙◌, arith}
 use Rattle.ktm_base.specs.declared.id.Label.{Label}
 use Rattle.ktm_object.specs.Table.{HandleTable}
-use Rattle.ktm_types.specs.declared.object.Handle.{Handle}
+use Rattle.ktm_world.specs.declared.object.Handle.{Handle}
 use Rattle.ktm_world.specs.HandleCalls.{close_handle, exit, has_handle, labels_of}
 use Rattle.ktm_memory.specs.Memory.{MemoryState, Settles, TellsWithin}
 use Rattle.ktm_memory.proofs.Behind.{settles-behind, told-first, told-rest}

@@ -3,8 +3,8 @@ use Rattle.ktm_each.proofs.offered.Files.{closed-each}
 use Rattle.ktm_each.specs.Each.{EachOfFiles}
 use Rattle.ktm_memory.specs.Rules.{Follows}
 use Rattle.txf_volume.specs.Held.{files_of}
-use Rattle.ktm_types.specs.declared.object.Object.TheVariants.{Transaction as TransactionObject, Manager as ManagerObject, Enlistment as EnlistmentObject, File as FileObject}
-use Rattle.ktm_types.specs.declared.reply.Reply.TheVariants.{Done}
+use Rattle.ktm_world.specs.declared.object.Object.TheVariants.{Transaction as TransactionObject, Manager as ManagerObject, Enlistment as EnlistmentObject, File as FileObject}
+use Rattle.ktm_world.specs.declared.reply.Reply.TheVariants.{Done}
 use Rattle.ktm_world.specs.HandleCalls.{handle_gone, last_handle_gone}
 use Rattle.ktm_world.specs.Outcome.{only_reply}
 use Rattle.ktm_memory.specs.Memory.{MemoryState, Settles}

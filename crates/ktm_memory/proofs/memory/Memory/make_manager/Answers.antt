@@ -3,7 +3,7 @@ use Rattle.ktm_base.specs.declared.id.Id.{Id}
 use Rattle.ktm_memory.specs.Memory.{Shows}
 use Rattle.ktm_memory.specs.contracts.memory.Memory.{the_view}
 use Rattle.ktm_memory.proofs.Making.{manager_shows}
-use Rattle.ktm_types.specs.declared.object.Object.TheVariants.{Manager as ManagerObject}
+use Rattle.ktm_world.specs.declared.object.Object.TheVariants.{Manager as ManagerObject}
 use Rattle.ktm_world.specs.Enlistments.{Manager}
 use Rattle.ktm_world.specs.Labels.{with_handle}
 use Rattle.ktm_memory.proofs.memory.Memory.make_manager.Goals as goal

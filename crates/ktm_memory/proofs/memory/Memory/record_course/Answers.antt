@@ -6,9 +6,9 @@ use Rattle.ktm_course.specs.declared.parts.Parts.{Parts}
 use Rattle.ktm_event.specs.Spelling.{IsRecordableChange, IsSpellableEvent}
 use Rattle.ktm_event.specs.Work.{FinalFile, changes_of as recorded_changes}
 use Rattle.ktm_tm.specs.Courses.{caller_of}
-use Rattle.ktm_types.specs.Sizes.{event_size}
-use Rattle.ktm_types.specs.declared.change.Change.{Change}
-use Rattle.ktm_types.specs.declared.event.Event.{Event}
+use Rattle.ktm_world.specs.Sizes.{event_size}
+use Rattle.ktm_world.specs.declared.change.Change.{Change}
+use Rattle.ktm_world.specs.declared.event.Event.{Event}
 use Rattle.ktm_world.specs.Files.{own_changes}
 use Rattle.ktm_world.specs.Keys.{own_settings}
 use Rattle.ktm_world.specs.Phases.{Course}

@@ -4,9 +4,9 @@ use Rattle.ktm_standing.proofs.offered.Rows.{row_leads}
 use Rattle.ktm_standing.specs.Courses.{LogsNext}
 use Rattle.ktm_memory.specs.Memory.{CanGoOn, Shows, course_then}
 use Rattle.ktm_memory.proofs.Carried.{aborts_log}
-use Rattle.ktm_types.specs.declared.input.PhaseInput.{PhaseInput}
-use Rattle.ktm_types.specs.declared.reply.Reply.TheVariants.{Done}
-use Rattle.ktm_types.specs.declared.step.Step.{Step}
+use Rattle.ktm_world.specs.declared.input.PhaseInput.{PhaseInput}
+use Rattle.ktm_world.specs.declared.reply.Reply.TheVariants.{Done}
+use Rattle.ktm_world.specs.declared.step.Step.{Step}
 use Rattle.ktm_world.specs.Outcome.{apply}
 use Rattle.ktm_world.specs.Rows.{aborts}
 use Rattle.ktm_world.specs.Steps.{led}

@@ -1,5 +1,5 @@
 use Rattle.std.proofs.Common.{None, ap, sym, ◌∙◌}
-use Rattle.ktm_types.specs.declared.reply.Reply.TheVariants.{Done}
+use Rattle.ktm_world.specs.declared.reply.Reply.TheVariants.{Done}
 use Rattle.ktm_standing.proofs.offered.Found.{found_again}
 use Rattle.ktm_world.specs.HandleCalls.{abort_active}
 use Rattle.ktm_world.specs.Outcome.{only_reply}

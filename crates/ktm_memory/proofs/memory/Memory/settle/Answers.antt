@@ -8,8 +8,8 @@ use Rattle.ktm_memory.specs.Memory.{MemoryState, SettlesGood, TellsWithin, cours
 use Rattle.ktm_memory.proofs.Behind.{settles-good, settles-reply}
 use Rattle.ktm_memory.proofs.Telling.{settles-inform, settles-recover, settles-take, told-recover}
 use Rattle.ktm_tm.specs.Courses.{caller_of}
-use Rattle.ktm_types.specs.declared.reply.Reply.TheVariants.{Done}
-use Rattle.ktm_types.specs.declared.step.Step.{Step}
+use Rattle.ktm_world.specs.declared.reply.Reply.TheVariants.{Done}
+use Rattle.ktm_world.specs.declared.step.Step.{Step}
 use Rattle.ktm_world.specs.Enlistments.{enlistment_at, manager_at}
 use Rattle.ktm_world.specs.Outcome.{only_reply}
 use Rattle.ktm_world.specs.TransactionCalls.{arrived, get_notification, recover_resource_manager, set_information}

@@ -6,8 +6,8 @@ use Rattle.std.proofs.lemmas.List.Sums.{length-filter}
 use Rattle.std.specs.List.{slice_get}
 use Rattle.ktm_base.specs.declared.limits.TheConstants.{MOST_LIVE}
 use Rattle.ktm_standing.proofs.offered.Distinct.{Rise}
-use Rattle.ktm_types.specs.declared.object.Transaction.{Transaction}
-use Rattle.ktm_types.specs.declared.reply.Reply.TheVariants.{Done}
+use Rattle.ktm_world.specs.declared.object.Transaction.{Transaction}
+use Rattle.ktm_world.specs.declared.reply.Reply.TheVariants.{Done}
 use Rattle.ktm_world.specs.TransactionCalls.{aborted_by, is_due, tick}
 use Rattle.ktm_world.specs.Transactions.{is_live}
 use Rattle.ktm_memory.specs.Memory.{MemoryState, Settles, TellsWithin, present_of}

@@ -8,8 +8,8 @@ use Rattle.ktm_each.specs.Each.{EachOfChange, EachOfChanges}
 use Rattle.ktm_event.specs.Work.{changes_of as recorded_changes, changes_of_file}
 use Rattle.ktm_store.specs.Store.{IsStoredAt}
 use Rattle.ktm_store.proofs.Wanted.{wants-none}
-use Rattle.ktm_types.specs.declared.change.Change.{Change}
-use Rattle.ktm_types.specs.declared.step.Step.{Step}
+use Rattle.ktm_world.specs.declared.change.Change.{Change}
+use Rattle.ktm_world.specs.declared.step.Step.{Step}
 use Rattle.ktm_world.specs.FileOutcome.{FileOutcome}
 use Rattle.ktm_world.specs.Files.{own_changes}
 use Rattle.ktm_world.specs.Present.{Present}

@@ -1,7 +1,7 @@
 use Rattle.std.proofs.Common.{◌≡◌, ◌-◌, ◌^◌, Some, None, not, ◌∙◌, sym, ap}
 use Rattle.std.specs.Option.{option_map}
 use Rattle.ktm_world.specs.HandleCalls.{has_handle, without_handle}
-use Rattle.ktm_types.specs.declared.object.Handle.{Handle}
+use Rattle.ktm_world.specs.declared.object.Handle.{Handle}
 use Rattle.ktm_object.specs.Table.{HandleTable, closing, handle_at}
 use Rattle.ktm_links.specs.Mapped.{key_under}
 use Rattle.ktm_links.proofs.offered.Indexes.{AreDistinct-without, IsIndex-without}

@@ -7,8 +7,8 @@ use Rattle.ktm_restart.specs.Reading.{ReadingState, event_if_paged, is_event_bel
 use Rattle.ktm_restart.proofs.Readings.{below-event, meant-after, meant-applies, meant-bad, meant-begins, meant-made, meant-none, meant-puts, meant-some, owners-apart}
 use Rattle.ktm_restart.proofs.reading.Reading.apply.Goals as goal
 use Rattle.ktm_restart.proofs.reading.Reading.apply.Goals.{In-Some}
-use Rattle.ktm_states.specs.Grammatical.{is_grammatical}
-use Rattle.ktm_types.specs.declared.event.Event.{Event}
+use Rattle.txf_laws.specs.Grammatical.{is_grammatical}
+use Rattle.ktm_world.specs.declared.event.Event.{Event}
 use Rattle.ktm_world.specs.Durable.{Durable}
 use Rattle.ktm_world.specs.Tree.{Tree}
 

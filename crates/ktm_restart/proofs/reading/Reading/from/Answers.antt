@@ -5,7 +5,7 @@ use Rattle.ktm_journal.specs.Image.{page_count}
 use Rattle.ktm_restart.specs.Reading.{ReadsOn}
 use Rattle.ktm_restart.proofs.reading.Reading.from.Goals as goal
 use Rattle.ktm_saved.specs.Saved.{state_of}
-use Rattle.ktm_states.specs.GoodState.{IsGoodState}
+use Rattle.txf_laws.specs.GoodState.{IsGoodState}
 use Rattle.ktm_world.specs.Durable.{Durable}
 
 pub page_count-requires : goal.page_count-requires

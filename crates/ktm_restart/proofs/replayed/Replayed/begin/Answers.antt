@@ -1,6 +1,6 @@
 use Rattle.std.proofs.Common.{◌+◌, length, arith, ap, ◌∙◌}
 use Rattle.std.specs.List.{flat_map}
-use Rattle.ktm_types.specs.declared.event.Event.TheVariants.{Boot}
+use Rattle.ktm_world.specs.declared.event.Event.TheVariants.{Boot}
 use Rattle.ktm_world.specs.Durable.{Durable, fact_of}
 use Rattle.ktm_world.specs.World.{own_events}
 use Rattle.ktm_restart.specs.Replayed.{ReplayedState}

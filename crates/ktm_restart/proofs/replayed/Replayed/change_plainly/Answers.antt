@@ -1,5 +1,5 @@
 use Rattle.std.proofs.Common.{◌∷◌, ◌∙◌, [], sym, ap, refl, None}
-use Rattle.ktm_types.specs.declared.event.Event.TheVariants.{Plain}
+use Rattle.ktm_world.specs.declared.event.Event.TheVariants.{Plain}
 use Rattle.ktm_world.specs.Durable.{recorded_changes_apply}
 use Rattle.ktm_restart.specs.Replayed.{ReplayedState}
 use Rattle.ktm_restart.specs.Replayed.{passes_units}

@@ -1,5 +1,5 @@
 use Rattle.std.proofs.Common.{◌∙◌, sym, ap}
-use Rattle.ktm_types.specs.declared.event.Part.TheVariants.{Changes, Settings}
+use Rattle.ktm_world.specs.declared.event.Part.TheVariants.{Changes, Settings}
 use Rattle.ktm_restart.proofs.Taking.{takes-changes, takes-settings}
 use Rattle.ktm_restart.proofs.replayed.Replayed.commit_part.Goals as goal
 

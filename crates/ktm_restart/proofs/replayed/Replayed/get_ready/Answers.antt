@@ -1,6 +1,6 @@
 use Rattle.std.proofs.Common.{◌≡◌, ◌∙◌, false, sym, ap, subst}
 use Rattle.std.proofs.lemmas.Bool.{and_from}
-use Rattle.ktm_types.specs.declared.event.Event.TheVariants.{Ready}
+use Rattle.ktm_world.specs.declared.event.Event.TheVariants.{Ready}
 use Rattle.ktm_world.specs.Durable.{Durable, is_within_limits, with_part}
 use Rattle.ktm_restart.proofs.Taking.{takes-tested}
 use Rattle.ktm_restart.proofs.replayed.Replayed.get_ready.Goals as goal

@@ -1,6 +1,6 @@
 use Rattle.std.proofs.Common.{◌∙◌, sym, ap}
 use Rattle.std.proofs.lemmas.Bool.{and_from}
-use Rattle.ktm_types.specs.declared.event.Event.TheVariants.{Held}
+use Rattle.ktm_world.specs.declared.event.Event.TheVariants.{Held}
 use Rattle.ktm_world.specs.Durable.{is_new_enlistment}
 use Rattle.ktm_restart.proofs.Taking.{takes-tested}
 use Rattle.ktm_restart.proofs.replayed.Replayed.hold.Goals as goal

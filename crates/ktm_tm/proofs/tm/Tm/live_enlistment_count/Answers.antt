@@ -3,7 +3,7 @@ use Rattle.std.specs.Prelude.{filter, slice_get, sum_by}
 use Rattle.std.proofs.lemmas.List.{take_all}
 use Rattle.std.proofs.lemmas.List.Sums.{length-filter, sum_by_more}
 use Rattle.std.proofs.lemmas.Option.{get_or_from_slice_get, slice_get_cases}
-use Rattle.ktm_types.specs.declared.object.Transaction.{Transaction}
+use Rattle.ktm_world.specs.declared.object.Transaction.{Transaction}
 use Rattle.ktm_world.specs.Transactions.{is_live}
 use Rattle.ktm_manager.specs.Rising.{are_rising}
 use Rattle.ktm_tm.proofs.LiveCounts.{live-counted, live_of}

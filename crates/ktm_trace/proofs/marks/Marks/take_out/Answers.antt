@@ -2,7 +2,7 @@ use Rattle.std.proofs.Common.{◌≡◌, ◌∙◌, true, rules, refl, ap, not}
 use Rattle.std.specs.Prelude.{List, filter}
 use Rattle.std.proofs.lemmas.Fn.{filter_same}
 use Rattle.ktm_base.specs.declared.id.Id.{Id}
-use Rattle.ktm_types.specs.declared.event.DonePart.{DonePart}
+use Rattle.ktm_world.specs.declared.event.DonePart.{DonePart}
 use Rattle.ktm_world.specs.Durable.{is_of_enlistment}
 use Rattle.ktm_trace.specs.declared.marks.Mark.{Mark}
 use Rattle.ktm_trace.specs.Joined.{MarksState, is_mark_by, marks_done}

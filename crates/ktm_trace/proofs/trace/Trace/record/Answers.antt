@@ -1,6 +1,6 @@
 use Rattle.std.proofs.Common.{◌∙◌, List, ap, sym}
 use Rattle.std.proofs.lemmas.List.{drop_all}
-use Rattle.ktm_types.specs.declared.step.Step.{Step}
+use Rattle.ktm_world.specs.declared.step.Step.{Step}
 use Rattle.ktm_trace.specs.declared.recording.Recording.{Recording}
 use Rattle.ktm_trace.specs.Recordings.{steps_noted}
 use Rattle.ktm_trace.proofs.Noting.{ahead-noted}

@@ -1,6 +1,6 @@
 use Rattle.std.proofs.Common.{◌∙◌, map, sym, ap}
 use Rattle.txf_laws.proofs.offered.Tables.{recorded_at-found}
-use Rattle.ktm_types.specs.declared.recorded.Stage.{Stage}
+use Rattle.ktm_world.specs.declared.recorded.Stage.{Stage}
 use Rattle.ktm_world.specs.Durable.{Recorded, emptied_part}
 use Rattle.ktm_waiting.specs.Table.{decided_in}
 use Rattle.ktm_waiting.proofs.offered.TableSteps.{absent-without, gone, put-back}

@@ -1,6 +1,6 @@
 use Rattle.std.proofs.Common.{◌∙◌, sym, ap}
 use Rattle.std.specs.List.{list_any}
-use Rattle.ktm_types.specs.declared.recorded.RecordedPart.{RecordedPart}
+use Rattle.ktm_world.specs.declared.recorded.RecordedPart.{RecordedPart}
 use Rattle.ktm_world.specs.Durable.{Recorded, is_part_of}
 use Rattle.ktm_waiting.proofs.offered.TableSteps.{or-new, or_new}
 use Rattle.ktm_waiting.proofs.table.Table.has_part_of.Goals as goal

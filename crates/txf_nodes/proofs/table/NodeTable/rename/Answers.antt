@@ -1,5 +1,5 @@
 use Rattle.std.proofs.Common.{◌≡◌, ◌∙◌, None, ap, ap₂, refl, sym}
-use Rattle.ktm_types.specs.declared.recorded.Node.{Node}
+use Rattle.ktm_world.specs.declared.recorded.Node.{Node}
 use Rattle.txf_nodes.specs.Indexes.{name_of, under}
 use Rattle.txf_nodes.specs.NodesState.{NodeOf}
 use Rattle.txf_nodes.specs.Places.{child_name}

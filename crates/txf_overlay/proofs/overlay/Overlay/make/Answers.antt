@@ -1,5 +1,5 @@
 use Rattle.std.proofs.Common.{◌≡◌, ◌+◌, ◌∙◌, ◌++◌, ◌∷◌, [], length, refl, sym, ap, Some, arith}
-use Rattle.ktm_types.specs.declared.change.Change.TheVariants.{Make}
+use Rattle.ktm_world.specs.declared.change.Change.TheVariants.{Make}
 use Rattle.ktm_world.specs.Holds.{place}
 use Rattle.txf_overlay.specs.Names.{place_bytes}
 use Rattle.txf_overlay.specs.Nodes.{times_made}

@@ -1,5 +1,5 @@
 use Rattle.std.proofs.Common.{◌≡◌, ◌∙◌, ◌++◌, ◌∷◌, [], length, refl, sym, ap, Some, None}
-use Rattle.ktm_types.specs.declared.change.Change.TheVariants.{Move}
+use Rattle.ktm_world.specs.declared.change.Change.TheVariants.{Move}
 use Rattle.ktm_world.specs.Holds.{place}
 use Rattle.ktm_world.specs.Tree.{node_at}
 use Rattle.txf_tree.specs.TreeState.{tree_of}
@@ -8,7 +8,7 @@ use Rattle.txf_overlay.specs.Nodes.{WasSeen}
 use Rattle.txf_overlay.specs.OverlayState.{OverlayState, seen}
 use Rattle.txf_overlay.specs.Views.{left_by, last_seat, or_before, seat, seat_at}
 use Rattle.std.proofs.Common.{Option}
-use Rattle.ktm_types.specs.declared.recorded.Node.{Node}
+use Rattle.ktm_world.specs.declared.recorded.Node.{Node}
 use Rattle.txf_overlay.specs.Maps.{under}
 use Rattle.txf_overlay.proofs.Keeping.{count-move, kept-next, left-is, seat_at-under, set-seats, short-from, stands-after}
 use Rattle.txf_overlay.proofs.NodesSeen.{next-move, was-seen}

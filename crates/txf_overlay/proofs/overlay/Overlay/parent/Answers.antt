@@ -1,6 +1,6 @@
 use Rattle.std.proofs.Common.{◌∙◌, sym, ap, Option}
 use Rattle.std.specs.Option.{option_map}
-use Rattle.ktm_types.specs.declared.recorded.Node.{Node}
+use Rattle.ktm_world.specs.declared.recorded.Node.{Node}
 use Rattle.txf_tree.specs.TreeState.{tree_of}
 use Rattle.txf_overlay.proofs.Views.{given-parent, last-is, untouched}
 use Rattle.txf_overlay.proofs.overlay.Overlay.parent.Goals as goal

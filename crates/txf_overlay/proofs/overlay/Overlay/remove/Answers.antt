@@ -1,12 +1,12 @@
 use Rattle.std.proofs.Common.{◌≡◌, ◌∙◌, ◌++◌, ◌∷◌, [], length, refl, sym, ap, None}
-use Rattle.ktm_types.specs.declared.change.Change.TheVariants.{Drop}
+use Rattle.ktm_world.specs.declared.change.Change.TheVariants.{Drop}
 use Rattle.ktm_world.specs.Tree.{node_at}
 use Rattle.txf_tree.specs.TreeState.{tree_of}
 use Rattle.txf_overlay.specs.Nodes.{WasSeen}
 use Rattle.txf_overlay.specs.OverlayState.{OverlayState, seen}
 use Rattle.txf_overlay.specs.Views.{left_by, last_seat, or_before, seat_at}
 use Rattle.std.proofs.Common.{Option}
-use Rattle.ktm_types.specs.declared.recorded.Node.{Node}
+use Rattle.ktm_world.specs.declared.recorded.Node.{Node}
 use Rattle.txf_overlay.specs.Maps.{under}
 use Rattle.txf_overlay.proofs.Keeping.{count-drop, counted-few, kept-next, left-is, seat_at-under, set-seat, stands-after}
 use Rattle.txf_overlay.proofs.NodesSeen.{next-drop, was-seen}

@@ -1,5 +1,5 @@
 use Rattle.std.proofs.Common.{◌∙◌, ap, sym}
-use Rattle.ktm_types.specs.declared.change.Change.TheVariants.{Make}
+use Rattle.ktm_world.specs.declared.change.Change.TheVariants.{Make}
 use Rattle.ktm_world.specs.Changes.{applies}
 use Rattle.txf_tree.specs.TreeState.{bytes_now, tree_of}
 use Rattle.txf_tree.proofs.tree.Tree.applies.Goals as goal

@@ -1,6 +1,6 @@
 use Rattle.std.proofs.Common.{◌≡◌, Some, sym, ◌∙◌, subst}
 use Rattle.std.specs.Option.{option_map}
-use Rattle.ktm_types.specs.declared.recorded.Node.{Node}
+use Rattle.ktm_world.specs.declared.recorded.Node.{Node}
 use Rattle.ktm_world.specs.Tree.{child_of}
 use Rattle.txf_overlay.specs.OverlayState.{seen}
 use Rattle.txf_tree.specs.TreeState.{tree_of}

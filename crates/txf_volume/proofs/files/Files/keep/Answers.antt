@@ -1,5 +1,5 @@
 use Rattle.std.proofs.Common.{sym, ap, subst}
-use Rattle.ktm_types.specs.declared.change.Change.{Change}
+use Rattle.ktm_world.specs.declared.change.Change.{Change}
 use Rattle.ktm_world.specs.FileOutcome.{FileOutcome}
 use Rattle.std.proofs.Common.{Option}
 use Rattle.txf_volume.specs.Held.{files_of}

@@ -1,5 +1,5 @@
 use Rattle.std.proofs.Common.{◌≡◌, ◌&&◌, Some, None, is_some, refl, ◌∙◌, ap, subst, arith}
-use Rattle.ktm_types.specs.declared.reply.Reply.TheVariants.{Done}
+use Rattle.ktm_world.specs.declared.reply.Reply.TheVariants.{Done}
 use Rattle.ktm_world.specs.Changes.{is_drop, node_of}
 use Rattle.ktm_world.specs.Tree.{node_at}
 use Rattle.txf_tree.specs.TreeState.{tree_of}

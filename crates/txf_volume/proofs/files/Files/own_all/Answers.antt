@@ -1,7 +1,7 @@
 use Rattle.std.proofs.Common.{arith, length, refl, ◌≡◌, List, [], ◌∷◌, ◌++◌, Some, true, append_assoc, sym, ◌∙◌, ap, subst}
 use Rattle.std.proofs.lemmas.List.{append-nil}
 use Rattle.std.proofs.lemmas.Option.{same_Some}
-use Rattle.ktm_types.specs.declared.change.Change.{Change}
+use Rattle.ktm_world.specs.declared.change.Change.{Change}
 use Rattle.ktm_world.specs.Changes.{applies}
 use Rattle.ktm_world.specs.Files.{bytes_seen, tree_seen}
 use Rattle.txf_laws.specs.FileEffects.{CanBeCounted, forgotten}

@@ -1,5 +1,5 @@
 use Rattle.std.proofs.Common.{Option, sym, subst}
-use Rattle.ktm_types.specs.declared.change.Change.{Change}
+use Rattle.ktm_world.specs.declared.change.Change.{Change}
 use Rattle.ktm_world.specs.Files.{FilesNow}
 use Rattle.txf_volume.specs.Held.{files_of}
 use Rattle.txf_volume.specs.Transacted.{changed_by}

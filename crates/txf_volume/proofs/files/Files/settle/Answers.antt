@@ -1,5 +1,5 @@
 use Rattle.std.proofs.Common.{◌≡◌, Option, Some, IfSome, sym, ◌∙◌, ap, subst}
-use Rattle.ktm_types.specs.declared.change.Change.{Change}
+use Rattle.ktm_world.specs.declared.change.Change.{Change}
 use Rattle.ktm_world.specs.FileOutcome.{FileOutcome}
 use Rattle.txf_tree.specs.TreeState.{tree_of}
 use Rattle.txf_tree.specs.UnitChanges.{CanBeMade}

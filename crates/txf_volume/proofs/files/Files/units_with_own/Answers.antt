@@ -1,5 +1,5 @@
 use Rattle.std.proofs.Common.{Some, None, length, refl, ◌∙◌, ap}
-use Rattle.ktm_types.specs.declared.reply.Reply.TheVariants.{Done}
+use Rattle.ktm_world.specs.declared.reply.Reply.TheVariants.{Done}
 use Rattle.txf_volume.proofs.Counted.{own-sum}
 use Rattle.txf_volume.proofs.files.Files.units_with_own.Goals as goal
 

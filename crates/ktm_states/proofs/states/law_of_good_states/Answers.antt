@@ -1,5 +1,0 @@
-use Rattle.ktm_states.proofs.GoodStates.{good_states_law}
-use Rattle.ktm_states.proofs.states.law_of_good_states.Goals as goal
-
-pub returns : goal.returns
-returns c = good_states_law c.law_of_lists.ensures c.law_of_forms.ensures

@@ -1,4 +1,0 @@
-pub mod GoodState
-pub mod GoodStates
-pub mod Grammatical
-pub mod OwnGroup
