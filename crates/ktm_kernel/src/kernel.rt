@@ -99,7 +99,7 @@ impl Kernel {
     /// refused, but for MACHINE_DOWN, and one that records nothing make no device call; one that records something makes four,
     /// six more where the log has no room for it, one for each page of the files that it records, and one more behind each 64 of
     /// these and behind the last. A plain write records the pages that its bytes touch, and those of the gap in front of them.
-    /// Out of memory nothing has changed, in the machine or on its disk.
+    /// Out of memory the machine and its disk are as they were, but for the bytes of pages that were free.
     pub fn call<D: Disk>(
         &mut self,
         disk: &mut D,
