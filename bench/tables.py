@@ -214,11 +214,12 @@ def of_start(side, lines):
 
 # The byte of an image that is raised by each compaction.
 SELECTOR = 2048
-# A transaction that gives a key a value of 960 bytes, which of its lines commits, and how long the frame of that is.
+# A transaction that gives a key a value of 960 bytes, which of its lines makes room in the log, which commits, and how long the frame of
+# that is.
 CHANGE = workloads.script(sets(["big"], 960))
-COMMIT = 2
+BEGIN, COMMIT = 0, 2
 FRAME_BYTES = 990
-# How many of them are measured, half of them before the log is full.
+# How many of them are measured, half of them before the log begins anew.
 MEASURED = 200
 
 
@@ -246,17 +247,19 @@ def file_lines(count):
 def compaction(side, units, before):
     """Returns how many commits there are between two compactions of an image on which these lines were run, and the
     instructions of a commit, of a compaction, and of a compaction for each commit."""
-    commits = (8_192 * units + 65_536) // FRAME_BYTES
+    kept = 1_536 * units + 49_153
+    commits = (8_192 * units + 65_536 - kept) // FRAME_BYTES + 1
     with side.state() as image:
         subprocess.run([side.program, "format", image, str(units)], check=True)
         side.measured(measuring.run, [*before, *CHANGE * (commits - MEASURED // 2)], image)
-        costs = side.measured(measuring.instructions_by_reply, CHANGE * MEASURED, image)[COMMIT :: len(CHANGE)]
+        costs = side.measured(measuring.instructions_by_reply, CHANGE * MEASURED, image)
         with open(image, "rb") as left:
             left.seek(SELECTOR)
             times = left.read(1)[0]
-    usual = statistics.median(costs)
-    whole = sum(it - usual for it in sorted(costs)[-times:])
-    return commits, int(usual), int(whole / times), int(whole / times / commits)
+    # The first line has the start in it.
+    begun = sorted(costs[len(CHANGE) + BEGIN :: len(CHANGE)])
+    whole = sum(it - statistics.median(begun) for it in begun[-times:])
+    return commits, int(statistics.median(costs[COMMIT :: len(CHANGE)])), int(whole / times), int(whole / times / commits)
 
 
 def of_memory(sides, options):

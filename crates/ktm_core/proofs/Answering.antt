@@ -1,7 +1,9 @@
 -- What an answer makes of the places of files, and what of it is sound.
-use Rattle.std.proofs.Common.{◌≡◌, ℕ, ◌*◌, ◌≤◌, Bool, sym, ◌∙◌, ap, subst}
+use Rattle.std.proofs.Common.{◌≡◌, ℕ, ◌*◌, ◌≤◌, Bool, true, false, Result, Ok, Err, sym, ◌∙◌, ap, subst}
+use Rattle.ktm_base.specs.declared.fault.Down.{Down}
 use Rattle.ktm_each.specs.Each.{EachOfFiles, EachOfGroup}
 use Rattle.ktm_journal.specs.Image.{page_count}
+use Rattle.ktm_log.specs.OnDisk.{OnDisk}
 use Rattle.ktm_memory.specs.Memory.{LayersNow, MemoryState, now_of, present_of}
 use Rattle.ktm_memory.specs.Rules.{AllowsNone, Follows, KeepsRules, SettlesByRules}
 use Rattle.ktm_memory.specs.declared.settlement.Settlement.{Settlement}
@@ -14,7 +16,7 @@ use Rattle.ktm_world.specs.Files.{FilesNow}
 use Rattle.ktm_world.specs.Outcome.{Outcome}
 use Rattle.ktm_core.specs.Core.{IsSoundFor, is_sound}
 use Rattle.ktm_memory.specs.Held.{files_of}
-use Rattle.ktm_core.specs.Recording.{IsSameMemory}
+use Rattle.ktm_core.specs.Recording.{IsSameMemory, RoomLeaves}
 use Rattle.ktm_core.proofs.Ends.{IsSoundOutcome}
 use Rattle.ktm_core.proofs.LeftToDo.{events_alike}
 use Rattle.ktm_core.proofs.Lying.{is-sound, none-sound, sound-below}
@@ -47,3 +49,10 @@ pub settled_rules : (n r m : MemoryState) (rest : Settlement) (o : Outcome) → 
 settled_rules n r m rest o same is settles rule none files events =
     settles rule none (subst (λ (b : MemoryState). EachOfFiles (Follows rule) (files_of b.files)) (sym same.is) files)
     (subst (EachOfGroup (Follows rule)) (sym (ap (λ (b : MemoryState). (left_to_do (present_of b) rest).events) same.is ∙ events_alike n r.journal rest ∙ is)) events)
+
+-- where room is made the files are as they were
+pub room_files : (b : Bool) (old new : OnDisk MemoryState) (result : Result (Unit {0}) Down) → RoomLeaves b old new result → new.it.files ≡ old.it.files
+room_files true old new (Ok unit) saved = ap (λ (m : MemoryState). m.files) saved.is
+room_files true old new (Err down) half = ap (λ (m : MemoryState). m.files) half.same
+room_files false old new (Ok unit) same = ap (λ (d : OnDisk MemoryState). d.it.files) same
+room_files false old new (Err down) never = absurd never

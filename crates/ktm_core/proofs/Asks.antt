@@ -1,12 +1,15 @@
--- What is asked comes to what stands, it can be recorded, and there is room for what it sends.
-use Rattle.std.proofs.Common.{◌≡◌, ℕ, ◌+◌, ◌≤◌, true, length, Option, subst, arith}
+-- What is asked comes to what stands, it can be recorded, and there is room for what it sends and for what is owed.
+use Rattle.std.proofs.Common.{◌≡◌, ℕ, ◌+◌, ◌≤◌, Bool, true, length, Option, subst, arith}
 use Rattle.ktm_base.specs.Disk.{DiskState, DiskStatus}
 use Rattle.ktm_laws.specs.Running.{HasEventsLeft, LawfulWorldsLaw}
 use Rattle.ktm_route.specs.Frames.{FitsEmptyLog, FramesLaw}
 use Rattle.ktm_standing.specs.Laws.{StandingLaw}
 use Rattle.ktm_standing.specs.Standing.{IsStandingNow}
-use Rattle.ktm_core.specs.Core.{CoreState, IsReady}
+use Rattle.ktm_core.specs.Answers.{asked_completes, asked_owes_more}
+use Rattle.ktm_core.specs.Core.{CoreState, IsReady, log_left}
 use Rattle.ktm_core.proofs.Given.{given}
+use Rattle.ktm_core.proofs.Debts.{OwesWell, asked_owes}
+use Rattle.ktm_debts.specs.Debts.{DebtsLaw}
 use Rattle.ktm_memory.proofs.offered.Standing.{kept}
 use Rattle.ktm_route.specs.Route.{CanBeAsked, decided}
 use Rattle.ktm_route.specs.declared.asked.Asked.{Asked}
@@ -21,13 +24,14 @@ use Rattle.ktm_world.specs.Present.{Present}
 use Rattle.ktm_world.specs.World.{decide_tick}
 
 -- an outcome of a machine that stands comes to what stands, its events fit an empty log and apply to what was recorded, and so many slots are
--- enough for what it sends, and for what may be sent after it
-pub record GoesWell (x : Present) (o : Outcome) (slots : ℕ) : Type 0 where
+-- enough for what it sends, and for what may be sent after it; it goes well with the debts, too
+pub record GoesWell (completing owing : Bool) (x : Present) (o : Outcome) (slots left : ℕ) : Type 0 where
   pub standing : IsStandingNow x
   pub goes_on : IsStandingNow (apply x o)
   pub fits : FitsEmptyLog x.recorded.units o.events
   pub applies : events_apply x.recorded o.events ≡ true
   pub paid : length o.sent + owed_slots (apply x o) ≤ slots
+  pub owes : OwesWell completing owing x o left
 
 -- what is asked comes to what stands
 asked_stands : StandingLaw → (x : Present) (asked : Asked) → CanBeAsked x asked → HasEventsLeft x → IsStandingNow x → IsStandingNow (apply x (decided x asked))
@@ -58,14 +62,16 @@ asked_paid law x (Units process file start contents extent) standing = law.comma
 asked_paid law x (Tick ms) standing = let paid = law.ticks x ms (kept x standing).sound.course in omega (arith, paid)
 
 -- so it is where a machine that is ready decides what is asked, and has the room that is granted for it then
-pub asked_well : StandingLaw → SlotsLaw → FramesLaw → LawfulWorldsLaw → (c : CoreState) (slots : ℕ) (told : Option DiskState) (status : DiskStatus) (asked : Asked) → IsReady c told status → HasEventsLeft c.now → CanBeAsked c.now asked
-    → c.slots + granted_in c.now (decided c.now asked) ≤ slots → GoesWell c.now (decided c.now asked) slots
-asked_well stands law frames lawful c slots told status asked ready left can granted =
+pub asked_well : StandingLaw → SlotsLaw → FramesLaw → LawfulWorldsLaw → DebtsLaw → (c : CoreState) (slots : ℕ) (told : Option DiskState) (status : DiskStatus) (asked : Asked) → IsReady c told status → HasEventsLeft c.now → CanBeAsked c.now asked
+    → c.slots + granted_in c.now (decided c.now asked) ≤ slots → GoesWell (asked_completes asked) (asked_owes_more asked) c.now (decided c.now asked) slots (log_left c.journal)
+asked_well stands law frames lawful debts c slots told status asked ready left can granted =
     let paid : IsPaid c.now (decided c.now asked) (granted_in c.now (decided c.now asked)) = asked_paid law c.now asked ready.standing in
+    let goes_on = asked_stands stands c.now asked can left ready.standing in
     record {
       standing = ready.standing;
-      goes_on = asked_stands stands c.now asked can left ready.standing;
+      goes_on = goes_on;
       fits = asked_fits frames c.now asked ready.standing;
       applies = asked_applies lawful c.now asked left ready.standing;
       paid = omega (arith, paid, ready.slots, granted);
+      owes = asked_owes debts c.now ready.standing asked (log_left c.journal) goes_on ready.room;
     }

@@ -1,13 +1,14 @@
 -- How an outcome ends: recorded, or cut off.
-use Rattle.std.proofs.Common.{◌≡◌, ◌≢◌, ◌⊎◌, ℕ, ◌+◌, ◌≤◌, true, false, List, [], ◌∷◌, length, Option, refl, sym, ◌∙◌, ap, subst, arith, inl, inr}
+use Rattle.std.proofs.Common.{◌≡◌, ◌≢◌, ◌⊎◌, ℕ, ◌+◌, ◌≤◌, Bool, true, false, List, [], ◌∷◌, length, Option, refl, sym, ◌∙◌, ap, subst, arith, inl, inr}
 use Rattle.std.proofs.lemmas.Bool.{both_ways, or_right}
-use Rattle.std.specs.Prelude.{IfSome, IsSomeAnd}
+use Rattle.std.specs.Prelude.{◌↔◌, IfSome, IsSomeAnd, IsTrue}
 use Rattle.ktm_base.specs.declared.refusal.Refusal.TheVariants.{MachineDown}
 use Rattle.ktm_base.specs.declared.limits.TheConstants.{MOST_UNITS}
 use Rattle.ktm_base.specs.Disk.{DeviceCalls, DiskState, DiskStatus}
+use Rattle.ktm_debts.specs.Debts.{debts, frame_of}
 use Rattle.ktm_each.specs.Each.{EachOfDurable, EachOfGroup}
 use Rattle.ktm_world.specs.Sizes.{area_len, frame_size}
-use Rattle.ktm_event.specs.Kept.{EventsState, Holds}
+use Rattle.ktm_event.specs.Kept.{EventsState}
 use Rattle.ktm_journal.specs.Image.{IsHeaded, JournalState, page_count}
 use Rattle.ktm_log.specs.OnDisk.{AllSynced, on}
 use Rattle.ktm_paged.specs.Paged.{IsSound, meant_group}
@@ -33,12 +34,14 @@ use Rattle.ktm_memory.proofs.offered.Settling.{settles_with, tells_with}
 use Rattle.ktm_memory.proofs.offered.Shown.{Counts, settled-is, shown-itself}
 use Rattle.ktm_memory.proofs.offered.Standing.{kept as kept_now}
 use Rattle.ktm_memory.proofs.offered.Sent.{sends-alike}
-use Rattle.ktm_core.specs.Core.{HoldsPlaces, HoldsState, LeavesEitherPlaces, core_of}
-use Rattle.ktm_core.specs.Done.{Ends, IsDone, IsCutOff, TouchesNothing, most_calls}
+use Rattle.ktm_core.specs.Core.{HoldsPlaces, HoldsState, LeavesEitherPlaces, core_of, log_left}
+use Rattle.ktm_core.specs.Done.{Ends, IsDone, IsCutOff, TouchesNothing, fallen, left_behind, most_calls}
 use Rattle.ktm_core.specs.Answers.{IsAnswered}
-use Rattle.ktm_core.specs.Recording.{IsNotPut, IsPut, IsSameMemory, MayRecord, kept_on}
+use Rattle.ktm_core.specs.Recording.{IsNotPut, IsPut, IsSameMemory, MayRecord, beside_of, kept_on, left_after, put_calls}
 use Rattle.ktm_core.proofs.Asks.{GoesWell}
-use Rattle.ktm_core.proofs.Meant.{many, nothing}
+use Rattle.ktm_core.proofs.Groups.{more_calls, synced_more}
+use Rattle.ktm_core.proofs.Meant.{frame-fewer, many, nothing}
+use Rattle.ktm_core.proofs.Debts.{calls_by, room_after}
 
 -- ---- the journal and the list of events
 
@@ -58,13 +61,49 @@ some_or_none (e ∷ es) = inr (λ is. cc)
 counts_alike : (m : MemoryState) (j : JournalState) → j.units ≡ m.journal.units → j.image ≡ m.journal.image → j.events ≡ m.journal.events → present_of (record m { journal = j }) ≡ present_of m
 counts_alike m j units image events i = record (present_of m) { recorded = record (present_of m).recorded { units = units i; image = image i; events = events i } }
 
+-- what memory has once the machine is down, by whether something is recorded
+behind_some : (x : Present) (o : Outcome) → o.events ≢ [] → left_behind x o ≡ fallen x
+behind_some x o some = by o.events some
+  where
+    by : (es : List Event) → es ≢ [] → (elim es as (λ _. Present) [ [] ↦ fallen (apply x o) | (_ ∷ _) ↦ fallen x ]) ≡ fallen x
+    by [] some = absurd (some refl)
+    by (e ∷ es) some = refl
+
+pub behind_none : (x : Present) (o : Outcome) → o.events ≡ [] → left_behind x o ≡ fallen (apply x o)
+behind_none x o none = by o.events none
+  where
+    by : (es : List Event) → es ≡ [] → (elim es as (λ _. Present) [ [] ↦ fallen (apply x o) | (_ ∷ _) ↦ fallen x ]) ≡ fallen (apply x o)
+    by [] none = refl
+    by (e ∷ es) none = absurd (cc)
+
+-- a machine that is down answers so, and asks for nothing more
+pub down_answered : (completing owing : Bool) (a m : MemoryState) (o : Outcome) (t u : StoreState) (before now : Option DiskState) (s after : DiskStatus) → m.is_up ≡ false
+    → IsCutOff (core_of a t) o (Refused MachineDown) (core_of m u) before now → DeviceCalls (most_calls completing a.journal o.events) s after true → (TouchesNothing owing a.journal o (Refused MachineDown) → ⊥)
+    → IsAnswered completing owing o (on (core_of a t) before s) (on (core_of m u) now after) (Refused MachineDown)
+down_answered completing owing a m o t u before now s after off cut calls touches =
+    let down : after.is_down ≡ true = calls.down ∙ or_right s.is_down true refl in
+    record {
+      ends = subst (λ b. Ends b (core_of a t) o (Refused MachineDown) (core_of m u) before now) (sym down) cut;
+      powered = record {
+        power = λ up. absurd (both_ways m.is_up off up);
+        settled = λ up. absurd (both_ways m.is_up off up);
+        image = λ up. absurd (both_ways m.is_up off up);
+        wanted = λ up. absurd (both_ways m.is_up off up);
+      };
+      slots = λ up. absurd (both_ways m.is_up off up);
+      room = λ up. absurd (both_ways m.is_up off up);
+      calls = subst (λ b. DeviceCalls (most_calls completing a.journal o.events) s after b) (sym down) calls;
+      untouched = λ nothing. absurd (touches nothing);
+    }
+
 -- each place that was recorded has its owner, and each place that the outcome's events put
 pub record IsSoundOutcome (x : Present) (o : Outcome) : Type 0 where
   pub owner : ℕ → ℕ × ℕ
   pub state : EachOfDurable (IsSound owner (page_count x.recorded.units)) x.recorded
   pub events : EachOfGroup (IsSound owner (page_count x.recorded.units)) o.events
 
-module _ (a : MemoryState) (o : Outcome) (reply : Reply) (rest : Settlement) (events : EventsState) (n : MemoryState) (decided : Decides (held a) o reply rest events n) where
+module _ (completing owing : Bool) (a : MemoryState) (o : Outcome) (reply : Reply) (rest : Settlement) (events : EventsState) (n : MemoryState) (decided : Decides (held a) o reply rest events n)
+    (well : GoesWell completing owing (present_of a) o n.tm.slots (log_left a.journal)) where
   abbrev pub x : Present
   x = present_of a
 
@@ -80,21 +119,22 @@ module _ (a : MemoryState) (o : Outcome) (reply : Reply) (rest : Settlement) (ev
   ]
 
   -- what is recorded is nothing where there are no events
-  raw_none : o.events ≡ [] → raw ≡ []
+  pub raw_none : o.events ≡ [] → raw ≡ []
   raw_none none = nothing x.recorded raw (decided.records.is.means ∙ none)
 
-  raw_some : raw ≢ [] → o.events ≢ []
-  raw_some some none = some (raw_none none)
+  -- there are events, or none, by what is recorded of them
+  pub none_by : (b : Bool) → IsTrue b ↔ (raw ≡ []) → b ≡ true → o.events ≡ []
+  none_by b test is = sym decided.records.is.means ∙ ap (meant_group x.recorded) (test.0 is)
 
-  events_some : (Holds events [] → ⊥) → o.events ≢ []
-  events_some some none = some (subst (Holds events) (raw_none none) decided.records.holds)
+  pub some_by : (b : Bool) → IsTrue b ↔ (raw ≡ []) → b ≡ false → o.events ≢ []
+  some_by b test not none = both_ways b not (test.1 (raw_none none))
 
   raw_many : length raw ≡ length o.events
   raw_many = sym (many x.recorded raw) ∙ ap (λ (es : List Event). length es) decided.records.is.means
 
   -- its events may be recorded
-  pub may_record : RecordsLaw → GoesWell x o n.tm.slots → IsSoundOutcome x o → MayRecord n events raw o.events
-  may_record records well sound =
+  pub may_record : RecordsLaw → IsSoundOutcome x o → o.events ≢ [] → MayRecord n events raw o.events
+  may_record records sound some =
       let size = decided.records.is.size in
       record {
         holds = decided.records.holds;
@@ -105,7 +145,7 @@ module _ (a : MemoryState) (o : Outcome) (reply : Reply) (rest : Settlement) (ev
         means = subst (λ (s : Durable). meant_group s raw ≡ o.events) (sym recorded_still) decided.records.is.means;
         puts = subst (λ (s : Durable). EachOfGroup (IsSound sound.owner (page_count s.units)) o.events) (sym recorded_still) sound.events;
         size = size;
-        stands = λ some. subst (λ (h : LayersNow). IsStandingNow (now_of h)) (sym (decided.waits (raw_some some))) well.standing;
+        stands = subst (λ (h : LayersNow). IsStandingNow (now_of h)) (sym (decided.waits some)) well.standing;
       }
 
   -- memory may settle once they are
@@ -113,8 +153,8 @@ module _ (a : MemoryState) (o : Outcome) (reply : Reply) (rest : Settlement) (ev
   may_settle r same = subst (λ (b : MemoryState). MaySettle b rest) (sym same.is) (settles_with n r.journal rest decided.may)
 
   -- and there is room for what it tells
-  pub may_tell : GoesWell x o n.tm.slots → (r : MemoryState) → IsSameMemory n r → TellsWithin r (λ y. left_to_do y rest)
-  may_tell well r same =
+  pub may_tell : (r : MemoryState) → IsSameMemory n r → TellsWithin r (λ y. left_to_do y rest)
+  may_tell r same =
       subst (λ (b : MemoryState). TellsWithin b (λ y. left_to_do y rest)) (sym same.is)
       (tells_with n r.journal (λ y. left_to_do y rest)
       (λ y shows. subst (λ sent. length sent ≤ n.tm.slots) (sym (sends-alike n rest y shows ∙ decided.tells)) (omega (arith, well.paid))))
@@ -127,7 +167,7 @@ module _ (a : MemoryState) (o : Outcome) (reply : Reply) (rest : Settlement) (ev
   same_image r m same keeps = ap (λ (j : JournalState). j.image) keeps ∙ same.image ∙ ap (λ (j : JournalState). j.image) decided.journal
 
   -- ---- what was recorded was settled
-  module _ (contents : ContentsLaw) (traces : KeptLaw) (well : GoesWell x o n.tm.slots) (r m : MemoryState) (same : IsSameMemory n r) (counts : r.journal.events ≡ n.journal.events + length raw)
+  module _ (contents : ContentsLaw) (traces : KeptLaw) (r m : MemoryState) (same : IsSameMemory n r) (counts : r.journal.events ≡ n.journal.events + length raw)
       (settles : SettlesGood r (λ y. left_to_do y rest) m) (keeps : m.journal ≡ r.journal) where
     -- the journal counts the group more as what is so then does
     counted : Counts m.journal (apply x o)
@@ -165,31 +205,36 @@ module _ (a : MemoryState) (o : Outcome) (reply : Reply) (rest : Settlement) (ev
         let fewer : n.tm.slots ≤ m.tm.slots + length o.sent = subst (λ sent. n.tm.slots ≤ m.tm.slots + length sent) decided.tells (is_logged.slots (present_of n) shows_logged) in
         subst (λ (y : Present). owed_slots y ≤ m.tm.slots) (sym now_then) (omega (arith, well.paid, fewer))
 
-  module _ (before : Option DiskState) (s : DiskStatus) (t : StoreState) where
+  -- ---- a command that records something
+
+  module _ (some : o.events ≢ []) (before : Option DiskState) (s : DiskStatus) (t : StoreState) where
+    abbrev beside : ℕ
+    beside = beside_of completing a.journal.units
+
     at_first : IsSomeAnd before (HoldsPlaces (core_of a t)) → IsSomeAnd before (HoldsState n.journal (present_of n).recorded t)
     at_first at = subst (λ (j : JournalState). IsSomeAnd before (HoldsState j (present_of n).recorded t)) (sym decided.journal) (subst (λ (d : Durable). IsSomeAnd before (HoldsState a.journal d t)) (sym recorded_still) at)
 
-    -- what was recorded was not refused, and its command records something
-    done_touches : (P : Type 0) → (Holds events [] → P) → TouchesNothing o reply → P
-    done_touches P none touches = elim (some_or_none o.events) [
-      | inl is ↦ none (subst (Holds events) (raw_none is) decided.records.holds)
-      | inr some ↦ (elim touches [
-        | inl (refusal, is, other) ↦ absurd (decided.answers some refusal is)
-        | inr no_event ↦ absurd (some no_event)
-      ])
-    ]
+    frame_few : frame_of raw ≤ frame_of o.events
+    frame_few = frame-fewer x.recorded raw o.events decided.records.is.means decided.records.is.size
 
-    cut_touches : (Holds events [] → ⊥) → TouchesNothing o (Refused MachineDown) → ⊥
-    cut_touches some touches = elim touches [
+    few_calls : put_calls beside n.journal o.events ≤ most_calls completing a.journal o.events
+    few_calls = subst (λ (j : JournalState). put_calls beside j o.events ≤ most_calls completing a.journal o.events) (sym decided.journal) (calls_by x o a.journal refl completing owing well.owes)
+
+    -- it was not refused
+    done_touches : (P : Type 0) → TouchesNothing owing a.journal o reply → P
+    done_touches P touches = elim touches [ inl (refusal, is, other) ↦ absurd (decided.answers some refusal is) | inr (no_event, no_room) ↦ absurd (some no_event) ]
+
+    cut_touches : TouchesNothing owing a.journal o (Refused MachineDown) → ⊥
+    cut_touches touches = elim touches [
       | inl (refusal, is, other) ↦ (let down : refusal ≡ MachineDown = cc in other down)
-      | inr no_event ↦ events_some some no_event
+      | inr (no_event, no_room) ↦ some no_event
     ]
 
     module _ (r m : MemoryState) (u : StoreState) (now : Option DiskState) (after : DiskStatus) where
-      module _ (contents : ContentsLaw) (traces : KeptLaw) (records : RecordsLaw) (well : GoesWell x o n.tm.slots) (sound : IsSoundOutcome x o)
-          (put : IsPut events o.events (kept_on n t before s) (kept_on r u now after)) (settles : SettlesGood r (λ y. left_to_do y rest) m) (keeps : m.journal ≡ r.journal) where
+      module _ (contents : ContentsLaw) (traces : KeptLaw) (records : RecordsLaw) (sound : IsSoundOutcome x o)
+          (put : IsPut beside events o.events (kept_on n t before s) (kept_on r u now after)) (settles : SettlesGood r (λ y. left_to_do y rest) m) (keeps : m.journal ≡ r.journal) where
         now_is : present_of m ≡ apply x o
-        now_is = now_then contents traces well r m put.same (put.counts raw decided.records.holds) settles keeps
+        now_is = now_then contents traces r m put.same (put.counts raw decided.records.holds) settles keeps
 
         recorded_then : after_events (present_of n).recorded o.events ≡ (present_of m).recorded
         recorded_then = ap (λ (d : Durable). after_events d o.events) recorded_still ∙ sym (ap (λ (y : Present). y.recorded) now_is)
@@ -200,14 +245,20 @@ module _ (a : MemoryState) (o : Outcome) (reply : Reply) (rest : Settlement) (ev
           state = now_is;
           keeps = record { units = same_units r m put.same keeps; image = same_image r m put.same keeps; seen = put.store.seen; marks = put.store.marks };
           disk = λ at. subst (λ (j : JournalState). IsSomeAnd now (HoldsState j (present_of m).recorded u)) (sym keeps)
-              (subst (λ (d : Durable). IsSomeAnd now (HoldsState r.journal d u)) recorded_then (put.disk raw (may_record records well sound) (at_first at)));
+              (subst (λ (d : Durable). IsSomeAnd now (HoldsState r.journal d u)) recorded_then (put.disk raw (may_record records sound some) (at_first at)));
         }
 
-        calls_made : AllSynced (most_calls a.journal o.events) s after
-        calls_made = subst (λ (j : JournalState). AllSynced (most_calls j o.events) s after) decided.journal (put.synced raw (may_record records well sound))
+        calls_made : AllSynced (most_calls completing a.journal o.events) s after
+        calls_made = synced_more (put_calls beside n.journal o.events) (most_calls completing a.journal o.events) s after few_calls (put.synced raw (may_record records sound some))
 
-        -- the group was recorded, where there is one, and memory has settled
-        pub done_answered : IsAnswered o (on (core_of a t) before s) (on (core_of m u) now after) reply
+        -- the log has room for what is owed then
+        room_then : debts (present_of m) + 1 ≤ log_left m.journal
+        room_then =
+            let left : log_left m.journal ≡ left_after beside a.journal raw = ap log_left keeps ∙ put.left raw decided.records.holds ∙ ap (λ (j : JournalState). left_after beside j raw) decided.journal in
+            subst (λ l. debts (present_of m) + 1 ≤ l) (sym left) (subst (λ (y : Present). debts y + 1 ≤ left_after beside a.journal raw) (sym now_is) (room_after x o a.journal refl completing owing raw well.owes frame_few))
+
+        -- the group was recorded, and memory has settled
+        pub done_answered : IsAnswered completing owing o (on (core_of a t) before s) (on (core_of m u) now after) reply
         done_answered = record {
           ends = subst (λ b. Ends b (core_of a t) o reply (core_of m u) before now) (sym calls_made.up) done;
           powered = record {
@@ -216,47 +267,34 @@ module _ (a : MemoryState) (o : Outcome) (reply : Reply) (rest : Settlement) (ev
             image = λ up. subst (λ j. IfSome now (λ d. IsHeaded j.units j.image j.selector d.seen)) (sym keeps) put.headed;
             wanted = λ up. put.wanted;
           };
-          slots = λ up. slots_then contents traces well r m put.same (put.counts raw decided.records.holds) settles keeps;
-          calls = subst (λ b. DeviceCalls (most_calls a.journal o.events) s after b) (sym calls_made.up) calls_made.calls;
-          untouched = done_touches _ (λ none. let same = put.none none in record { told = same.told; status = same.status });
+          slots = λ up. slots_then contents traces r m put.same (put.counts raw decided.records.holds) settles keeps;
+          room = λ up. room_then;
+          calls = subst (λ b. DeviceCalls (most_calls completing a.journal o.events) s after b) (sym calls_made.up) calls_made.calls;
+          untouched = done_touches _;
         }
 
       -- the power went
-      module _ (records : RecordsLaw) (well : GoesWell x o n.tm.slots) (sound : IsSoundOutcome x o) (left : IsNotPut events o.events (kept_on n t before s) (kept_on r u now after))
+      module _ (records : RecordsLaw) (sound : IsSoundOutcome x o) (left : IsNotPut beside events o.events (kept_on n t before s) (kept_on r u now after))
           (falls : m ≡ record r { is_up = false }) where
         -- memory is as it was, but for its journal, which counts the same
         as_before : present_of r ≡ x
-        as_before = ap present_of left.same.is ∙ counts_alike n r.journal left.same.units left.same.image left.counts ∙ ap now_of (decided.waits (events_some left.some))
+        as_before = ap present_of left.same.is ∙ counts_alike n r.journal left.same.units left.same.image left.counts ∙ ap now_of (decided.waits some)
 
         cut : IsCutOff (core_of a t) o (Refused MachineDown) (core_of m u) before now
         cut = record {
           says = refl;
-          state = ap present_of falls ∙ ap (λ (y : Present). record y { machine = record y.machine { is_up = false } }) as_before;
+          state = ap present_of falls ∙ ap fallen as_before ∙ sym (behind_some x o some);
           keeps = record {
             units = ap (λ (b : MemoryState). b.journal.units) falls ∙ left.same.units ∙ ap (λ (j : JournalState). j.units) decided.journal;
             image = ap (λ (b : MemoryState). b.journal.image) falls ∙ left.same.image ∙ ap (λ (j : JournalState). j.image) decided.journal;
             seen = left.store.seen;
             marks = left.store.marks;
           };
-          disk = λ at. subst (λ (d : Durable). IsSomeAnd now (LeavesEitherPlaces t.seen d (after_events d o.events))) recorded_still (left.disk raw (may_record records well sound) (at_first at));
+          disk = λ at. subst (λ (d : Durable). IsSomeAnd now (LeavesEitherPlaces t.seen d (after_events d o.events))) recorded_still (left.disk raw (may_record records sound some) (at_first at));
         }
 
-        calls_cut : DeviceCalls (most_calls a.journal o.events) s after true
-        calls_cut = subst (λ (j : JournalState). DeviceCalls (most_calls j o.events) s after true) decided.journal (left.calls raw (may_record records well sound))
+        calls_cut : DeviceCalls (most_calls completing a.journal o.events) s after true
+        calls_cut = more_calls (put_calls beside n.journal o.events) (most_calls completing a.journal o.events) s after true few_calls (left.calls raw (may_record records sound some))
 
-        pub cut_answered : IsAnswered o (on (core_of a t) before s) (on (core_of m u) now after) (Refused MachineDown)
-        cut_answered =
-            let down : after.is_down ≡ true = calls_cut.down ∙ or_right s.is_down true refl in
-            let off : m.is_up ≡ false = ap (λ (b : MemoryState). b.is_up) falls in
-            record {
-              ends = subst (λ b. Ends b (core_of a t) o (Refused MachineDown) (core_of m u) before now) (sym down) cut;
-              powered = record {
-                power = λ up. absurd (both_ways m.is_up off up);
-                settled = λ up. absurd (both_ways m.is_up off up);
-                image = λ up. absurd (both_ways m.is_up off up);
-                wanted = λ up. absurd (both_ways m.is_up off up);
-              };
-              slots = λ up. absurd (both_ways m.is_up off up);
-              calls = subst (λ b. DeviceCalls (most_calls a.journal o.events) s after b) (sym down) calls_cut;
-              untouched = λ touches. absurd (cut_touches left.some touches);
-            }
+        pub cut_answered : IsAnswered completing owing o (on (core_of a t) before s) (on (core_of m u) now after) (Refused MachineDown)
+        cut_answered = down_answered completing owing a m o t u before now s after (ap (λ (b : MemoryState). b.is_up) falls) cut calls_cut cut_touches

@@ -8,9 +8,12 @@ mod Journals
 mod Groups
 mod Writing
 mod Starts
+mod Refused
+mod Debts
 mod Asks
 mod Ends
 mod Puts
+mod Alone
 mod Reading
 mod LeftToDo
 mod Answering

@@ -1,14 +1,14 @@
 -- A group that is recorded behind the pages that it puts.
 use Rattle.std.proofs.Common.{◌≡◌, ℕ, ◌+◌, ◌≤◌, Bool, true, false, Option, None, Some, List, [], length, refl, sym, ◌∙◌, ap, subst, arith, inl, inr}
-use Rattle.std.specs.Prelude.{min, Contains, IfSome, IsSomeAnd, Result, Ok, Err}
+use Rattle.std.specs.Prelude.{min, Contains, IsSomeAnd, Result, Ok, Err}
 use Rattle.ktm_base.specs.declared.fault.Down.{Down}
 use Rattle.ktm_base.proofs.offered.Images.{calls_law}
 use Rattle.ktm_base.specs.Disk.{DiskState, DiskStatus}
 use Rattle.ktm_base.specs.Told.{Goes}
 use Rattle.ktm_content.specs.Places.{byte_at}
 use Rattle.ktm_each.proofs.offered.Durables.{after_events-each}
-use Rattle.ktm_event.specs.Kept.{EventsState, Holds}
-use Rattle.ktm_journal.specs.Image.{IsHeaded, IsImage, JournalAt, JournalState, page_count, row_of}
+use Rattle.ktm_event.specs.Kept.{EventsState}
+use Rattle.ktm_journal.specs.Image.{IsImage, JournalAt, JournalState, page_count, row_of}
 use Rattle.ktm_journal.specs.Pages.{KeepsPages, LeavesPages}
 use Rattle.ktm_log.specs.OnDisk.{on}
 use Rattle.ktm_memory.specs.Memory.{MemoryState, present_of}
@@ -22,13 +22,11 @@ use Rattle.ktm_world.specs.Groups.{Group}
 use Rattle.ktm_world.specs.Durable.{Durable, after_events}
 use Rattle.ktm_world.proofs.offered.Durables.{after_events-units}
 use Rattle.ktm_core.specs.Core.{ArePlacesStored, HoldsState, LeavesEitherPlaces, LeftPlaces, PagesAgree}
-use Rattle.ktm_core.specs.Done.{most_calls, page_calls}
+use Rattle.ktm_core.specs.Done.{page_calls}
 use Rattle.ktm_core.specs.Pages.{ArePagesTorn, ArePagesWritten, LeavesBut, WrotePages}
-use Rattle.ktm_core.specs.Recording.{append_calls, GroupLeaves, IsGroupCutOff, IsGroupRecorded, IsNotPut, IsPut, LeavesPaged, MayRecord, PutLeaves, kept_on}
+use Rattle.ktm_core.specs.Recording.{append_calls, GroupLeaves, IsGroupCutOff, IsGroupRecorded, IsNotPut, IsPut, LeavesPaged, MayRecord, PutLeaves, kept_on, put_calls}
 use Rattle.ktm_core.proofs.Groups.{more_calls}
-use Rattle.ktm_core.proofs.Meant.{fewer-calls}
-use Rattle.ktm_paged.specs.Paged.{meant_group}
-use Rattle.ktm_core.proofs.Writing.{no-calls}
+use Rattle.ktm_core.proofs.Meant.{fewer-calls, frame-fewer}
 use Rattle.ktm_core.proofs.offered.Places.{durable-weaker}
 
 -- ---- images that are left
@@ -50,7 +48,33 @@ stored-still old new state kept all = durable-weaker (λ file index place. IsSto
 stored-after : (stored : List Bool) (state : Durable) (group : Group) → ArePlacesStored stored state → AreEventsStored stored group → ArePlacesStored stored (after_events state group)
 stored-after stored state group all more = after_events-each (λ file index place. IsStoredAt stored place) (λ file index some. absurd (some refl)) state group all more
 
-module _ (events : EventsState) (group : Group) (m : MemoryState) (t t1 : StoreState) (none : t.wanted ≡ []) (wants : WantsMore t t1) (before : Option DiskState) (s : DiskStatus) where
+-- ---- what the disk stands for, with its pages as they were
+
+module _ (j : JournalState) (state after : Durable) (t : StoreState) (stored : ArePlacesStored t.stored state → ArePlacesStored t.stored after) where
+  -- another journal comes to another state
+  pub holds-with : (k : JournalState) (before now : Option DiskState) → k.units ≡ j.units → IsSomeAnd before (HoldsState j state t) → IsSomeAnd now (JournalFor k after) → Goes (KeepsPages j.units) before now
+      → IsSomeAnd now (HoldsState k after t)
+  holds-with k None now units at then pages = absurd at
+  holds-with k (Some b) None units at then pages = absurd then
+  holds-with k (Some b) (Some c) units at then pages = record {
+    journal = then;
+    pages = λ page is. ap (λ n. page_of (row_of n c.seen) page) units ∙ ap (λ (l : List ℕ). page_of l page) pages ∙ at.pages page is;
+    stored = stored at.stored;
+  }
+
+  -- the power went
+  pub leaves-with : (before now : Option DiskState) → after.units ≡ state.units → IsSomeAnd before (HoldsState j state t) → IsSomeAnd now (LeavesPaged state after) → Goes (LeavesPages j.units) before now
+      → IsSomeAnd now (LeavesEitherPlaces t.seen state after)
+  leaves-with None now units at either pages = absurd at
+  leaves-with (Some b) None units at either pages = absurd either
+  leaves-with (Some b) (Some c) units at either pages = λ image power. (
+      let same : (page : ℕ) → is_stored t.stored page ≡ true → page_of (row_of j.units image) page ≡ page_of t.seen page = λ page is. ap (λ (l : List ℕ). page_of l page) (pages image power) ∙ at.pages page is in
+      elim (either image power) [
+        | inl was ↦ inl (left-places t.seen t.stored state j.units image at.journal.units at.stored same was)
+        | inr is ↦ inr (left-places t.seen t.stored after j.units image (units ∙ at.journal.units) (stored at.stored) same is)
+      ])
+
+module _ (beside : ℕ) (events : EventsState) (group : Group) (m : MemoryState) (t t1 : StoreState) (none : t.wanted ≡ []) (wants : WantsMore t t1) (before : Option DiskState) (s : DiskStatus) where
   abbrev state : Durable
   state = (present_of m).recorded
 
@@ -59,7 +83,7 @@ module _ (events : EventsState) (group : Group) (m : MemoryState) (t t1 : StoreS
 
   -- ---- the power went while pages were written
 
-  module _ (now : Option DiskState) (u : DiskStatus) (some : Holds events [] → ⊥) (few : length t1.wanted ≤ min (units_put group) (page_count m.journal.units)) (torn : ArePagesTorn m.journal t1.wanted before now s u) where
+  module _ (now : Option DiskState) (u : DiskStatus) (few : length t1.wanted ≤ min (units_put group) (page_count m.journal.units)) (torn : ArePagesTorn m.journal t1.wanted before now s u) where
     -- no page that was stored was written
     not-written : (page : ℕ) → is_stored t.stored page ≡ true → Contains t1.wanted page → ⊥
     not-written page is there = elim (wants.fresh page there) [
@@ -86,14 +110,13 @@ module _ (events : EventsState) (group : Group) (m : MemoryState) (t t1 : StoreS
         go (Some a) None at left = absurd (left at.journal.snapshot at.journal.log at.journal.at)
         go (Some a) (Some b) at left = λ image may. elim (torn-image a b at.journal.snapshot at.journal.log at (left at.journal.snapshot at.journal.log at.journal.at) image may) [ inl was ↦ inl was | inr is ↦ inl is ]
 
-    pub put-torn : IsNotPut events group (kept_on m t before s) (kept_on m t1 now u)
+    pub put-torn : IsNotPut beside events group (kept_on m t before s) (kept_on m t1 now u)
     put-torn = record {
       same = record { is = refl; units = refl; image = refl };
       store = record { seen = wants.seen; marks = wants.marks };
       counts = refl;
-      some = some;
       disk = λ raw may at. torn-disk (after_events state group) at;
-      calls = λ raw may. more_calls (page_calls (length t1.wanted)) (most_calls m.journal group) s u true (omega (arith, few)) torn.calls;
+      calls = λ raw may. more_calls (page_calls (length t1.wanted)) (put_calls beside m.journal group) s u true (omega (arith, few)) torn.calls;
     }
 
   -- ---- they were written
@@ -109,11 +132,11 @@ module _ (events : EventsState) (group : Group) (m : MemoryState) (t t1 : StoreS
       | inr (k, low, at) ↦ subst (λ p. page_of (row_of units b.seen) p ≡ page_of t1.seen p) at (wrote.written k page low)
     ]
 
-    holds-then : IsSomeAnd before (HoldsState m.journal state t) → IsSomeAnd mid (HoldsState m.journal state t1)
+    holds-then : IsSomeAnd before (HoldsState m.journal state t) → IsSomeAnd mid (HoldsState m.journal state t2)
     holds-then at = go before mid at written.at written.wrote
       where
         go : (before mid : Option DiskState) → IsSomeAnd before (HoldsState m.journal state t) → ((snapshot : List ℕ) (log : List Group) → IsSomeAnd before (JournalAt m.journal snapshot log) → IsSomeAnd mid (JournalAt m.journal snapshot log))
-            → Goes (WrotePages units t1.wanted t1.seen) before mid → IsSomeAnd mid (HoldsState m.journal state t1)
+            → Goes (WrotePages units t1.wanted t1.seen) before mid → IsSomeAnd mid (HoldsState m.journal state t2)
         go None mid at keeps wrote = absurd at
         go (Some a) None at keeps wrote = absurd wrote
         go (Some a) (Some b) at keeps wrote = record {
@@ -133,93 +156,53 @@ module _ (events : EventsState) (group : Group) (m : MemoryState) (t t1 : StoreS
     journal-of None j d w at = absurd at
     journal-of (Some a) j d w at = at.journal
 
-    module _ (r : MemoryState) (now : Option DiskState) (u : DiskStatus) (some : Holds events [] → ⊥) (few : length t1.wanted ≤ min (units_put group) (page_count m.journal.units)) (stored : AreEventsStored t1.stored group) where
-      calls-then : (raw : Group) → MayRecord m events raw group → page_calls (length t1.wanted) + append_calls m.journal raw ≤ most_calls m.journal group
-      calls-then raw may = omega (arith, few, fewer-calls m.journal state raw group may.means may.size)
+    module _ (r : MemoryState) (now : Option DiskState) (u : DiskStatus) (few : length t1.wanted ≤ min (units_put group) (page_count m.journal.units)) (stored : AreEventsStored t1.stored group) where
+      calls-then : (raw : Group) → MayRecord m events raw group → page_calls (length t1.wanted) + append_calls beside m.journal raw ≤ put_calls beside m.journal group
+      calls-then raw may = omega (arith, few, fewer-calls beside m.journal raw group (frame-fewer state raw group may.means may.size))
 
-      recorded-disk : (raw : Group) → MayRecord m events raw group → IsGroupRecorded events (on m mid s1) (on r now u) → IsSomeAnd before (HoldsState m.journal state t) → IsSomeAnd now (HoldsState r.journal (after_events state group) t2)
+      recorded-disk : (raw : Group) → MayRecord m events raw group → IsGroupRecorded beside events (on m mid s1) (on r now u) → IsSomeAnd before (HoldsState m.journal state t) → IsSomeAnd now (HoldsState r.journal (after_events state group) t2)
       recorded-disk raw may recorded at =
           let between = holds-then at in
-          go mid now between (recorded.disk raw group may (journal-of mid m.journal state t1 between)) recorded.pages
-        where
-          go : (mid now : Option DiskState) → IsSomeAnd mid (HoldsState m.journal state t1) → IsSomeAnd now (JournalFor r.journal (after_events state group)) → Goes (KeepsPages units) mid now
-              → IsSomeAnd now (HoldsState r.journal (after_events state group) t2)
-          go None now at then pages = absurd at
-          go (Some b) None at then pages = absurd then
-          go (Some b) (Some c) at then pages = record {
-            journal = then;
-            pages = λ page is. ap (λ n. page_of (row_of n c.seen) page) recorded.same.units ∙ ap (λ (l : List ℕ). page_of l page) pages ∙ at.pages page is;
-            stored = stored-after t1.stored state group at.stored stored;
-          }
+          holds-with m.journal state (after_events state group) t2 (λ there. stored-after t1.stored state group there stored) r.journal mid now recorded.same.units between
+          (recorded.disk raw group may (journal-of mid m.journal state t2 between)) recorded.pages
 
-      pub put-recorded : IsGroupRecorded events (on m mid s1) (on r now u) → IsPut events group (kept_on m t before s) (kept_on r t2 now u)
+      pub put-recorded : IsGroupRecorded beside events (on m mid s1) (on r now u) → IsPut beside events group (kept_on m t before s) (kept_on r t2 now u)
       put-recorded recorded = record {
         same = recorded.same;
         store = record { seen = wants.seen; marks = wants.marks };
         wanted = refl;
         counts = recorded.counts;
         disk = λ raw may at. recorded-disk raw may recorded at;
-        none = λ nothing. absurd (some nothing);
         headed = recorded.headed;
+        left = recorded.left;
         synced = λ raw may. (
             let last = recorded.synced raw may.holds in
             record {
-              calls = more_calls (page_calls (length t1.wanted) + append_calls m.journal raw) (most_calls m.journal group) s u false (calls-then raw may)
-                  (calls_law s s1 u (page_calls (length t1.wanted)) (append_calls m.journal raw) false written.synced.calls last.calls);
+              calls = more_calls (page_calls (length t1.wanted) + append_calls beside m.journal raw) (put_calls beside m.journal group) s u false (calls-then raw may)
+                  (calls_law s s1 u (page_calls (length t1.wanted)) (append_calls beside m.journal raw) false written.synced.calls last.calls);
               pending = last.pending;
               up = last.up;
             });
       }
 
-      cut-disk : (raw : Group) → MayRecord m events raw group → IsGroupCutOff events (on m mid s1) (on r now u) → IsSomeAnd before (HoldsState m.journal state t) → IsSomeAnd now (LeavesEitherPlaces t.seen state (after_events state group))
+      cut-disk : (raw : Group) → MayRecord m events raw group → IsGroupCutOff beside events (on m mid s1) (on r now u) → IsSomeAnd before (HoldsState m.journal state t) → IsSomeAnd now (LeavesEitherPlaces t.seen state (after_events state group))
       cut-disk raw may left at =
           let between = holds-then at in
-          let both = left.disk raw group may (journal-of mid m.journal state t1 between) in
-          go mid now between both.0 both.1
-        where
-          go : (mid now : Option DiskState) → IsSomeAnd mid (HoldsState m.journal state t1) → IsSomeAnd now (LeavesPaged state (after_events state group)) → Goes (LeavesPages units) mid now
-              → IsSomeAnd now (LeavesEitherPlaces t.seen state (after_events state group))
-          go None now at either pages = absurd at
-          go (Some b) None at either pages = absurd either
-          go (Some b) (Some c) at either pages = λ image power. (
-              let same : (page : ℕ) → is_stored t1.stored page ≡ true → page_of (row_of units image) page ≡ page_of t.seen page =
-              λ page is. ap (λ (l : List ℕ). page_of l page) (pages image power) ∙ at.pages page is ∙ ap (λ (l : List ℕ). page_of l page) wants.seen in
-              elim (either image power) [
-                | inl was ↦ inl (left-places t.seen t1.stored state units image at.journal.units at.stored same was)
-                | inr is ↦ inr (left-places t.seen t1.stored (after_events state group) units image (after_events-units state group ∙ at.journal.units) (stored-after t1.stored state group at.stored stored) same is)
-              ])
+          let both = left.disk raw group may (journal-of mid m.journal state t2 between) in
+          subst (λ (row : List ℕ). IsSomeAnd now (LeavesEitherPlaces row state (after_events state group))) wants.seen
+          (leaves-with m.journal state (after_events state group) t2 (λ there. stored-after t1.stored state group there stored) mid now (after_events-units state group) between both.0 both.1)
 
-      pub put-cut : IsGroupCutOff events (on m mid s1) (on r now u) → IsNotPut events group (kept_on m t before s) (kept_on r t2 now u)
+      pub put-cut : IsGroupCutOff beside events (on m mid s1) (on r now u) → IsNotPut beside events group (kept_on m t before s) (kept_on r t2 now u)
       put-cut left = record {
         same = left.same;
         store = record { seen = wants.seen; marks = wants.marks };
         counts = left.counts;
-        some = some;
         disk = λ raw may at. cut-disk raw may left at;
-        calls = λ raw may. more_calls (page_calls (length t1.wanted) + append_calls m.journal raw) (most_calls m.journal group) s u true (calls-then raw may)
-            (calls_law s s1 u (page_calls (length t1.wanted)) (append_calls m.journal raw) true written.synced.calls (left.calls raw may.holds));
+        calls = λ raw may. more_calls (page_calls (length t1.wanted) + append_calls beside m.journal raw) (put_calls beside m.journal group) s u true (calls-then raw may)
+            (calls_law s s1 u (page_calls (length t1.wanted)) (append_calls beside m.journal raw) true written.synced.calls (left.calls raw may.holds));
       }
 
       -- by whether it was recorded
-      pub put-ends : (done : Result (Unit {0}) Down) → GroupLeaves events (on m mid s1) (on r now u) done → PutLeaves events group (kept_on m t before s) (kept_on r t2 now u) done
+      pub put-ends : (done : Result (Unit {0}) Down) → GroupLeaves beside events (on m mid s1) (on r now u) done → PutLeaves beside events group (kept_on m t before s) (kept_on r t2 now u) done
       put-ends (Ok done) leaves = put-recorded leaves
       put-ends (Err down) leaves = put-cut leaves
-
--- ---- nothing is recorded
-
-module _ (events : EventsState) (group : Group) (m : MemoryState) (t : StoreState) (told : Option DiskState) (s : DiskStatus) (none : (raw : Group) → Holds events raw → raw ≡ []) where
-  no-group : (raw : Group) → MayRecord m events raw group → group ≡ []
-  no-group raw may = sym may.means ∙ ap (meant_group (present_of m).recorded) (none raw may.holds)
-
-  pub put-nothing : s.is_down ≡ false → s.pending ≡ 0 → t.wanted ≡ [] → IfSome told (λ d. IsHeaded m.journal.units m.journal.image m.journal.selector d.seen)
-      → IsPut events group (kept_on m t told s) (kept_on m t told s)
-  put-nothing up pending wanted headed = record {
-    same = record { is = refl; units = refl; image = refl };
-    store = record { seen = refl; marks = refl };
-    wanted = wanted;
-    counts = λ raw holds. (let empty : length raw ≡ 0 = ap (λ (l : Group). length l) (none raw holds) in omega (arith, empty));
-    disk = λ raw may at. subst (λ (g : Group). IsSomeAnd told (HoldsState m.journal (after_events (present_of m).recorded g) t)) (sym (no-group raw may)) at;
-    none = λ holds. record { told = refl; status = refl };
-    headed = headed;
-    synced = λ raw may. record { calls = more_calls 0 (most_calls m.journal group) s s false (omega arith) (no-calls s); pending = pending; up = up };
-  }

@@ -1,5 +1,6 @@
 -- The recording of a start: as a group of the log, or by a snapshot of what the start makes of the state.
 use Rattle.std.proofs.Common.{◌≡◌, ◌+◌, ◌≤◌, ◌^◌, true, false, [], length, Result, Ok, Err, refl, sym, ◌∙◌, ap, subst, arith, inl, inr}
+use Rattle.std.proofs.lemmas.Bool.{ltb-false}
 use Rattle.std.specs.Prelude.{IsSomeAnd}
 use Rattle.ktm_base.proofs.offered.ToldSteps.{IsSomeAnd-map}
 use Rattle.ktm_base.specs.declared.fault.Down.{Down}
@@ -10,7 +11,8 @@ use Rattle.ktm_each.proofs.offered.Durables.{after_events-each, opened-each, own
 use Rattle.ktm_paged.specs.Paged.{IsSound}
 use Rattle.ktm_paged.specs.Recorded.{IsRecordOf, RecordsLaw}
 use Rattle.ktm_restart.specs.Loads.{MayStart}
-use Rattle.ktm_event.specs.Kept.{EventsState}
+use Rattle.ktm_debts.specs.Debts.{frame_of, most_debts}
+use Rattle.ktm_event.specs.Kept.{EventsState, Holds}
 use Rattle.ktm_journal.specs.Image.{JournalState, page_count}
 use Rattle.ktm_journal.specs.Pages.{LeavesPages}
 use Rattle.ktm_journal.proofs.offered.Images.{counted_at}
@@ -29,6 +31,7 @@ use Rattle.ktm_standing.specs.Standing.{IsStandingNow, fresh}
 use Rattle.txf_laws.specs.OwnGroup.{OwnGroupLaw}
 use Rattle.ktm_trace.specs.Contents.{ContentsLaw}
 use Rattle.ktm_world.specs.Durable.{Durable, is_worn}
+use Rattle.ktm_world.specs.Groups.{Group}
 use Rattle.ktm_world.specs.Present.{Present}
 use Rattle.ktm_world.specs.World.{own_group}
 use Rattle.ktm_world.proofs.offered.Durables.{after_events-events, after_events-image, after_events-units}
@@ -37,10 +40,11 @@ use Rattle.ktm_core.specs.Starting.{IsNotRecorded, IsOnStart, IsRecorded, IsStar
 use Rattle.ktm_core.proofs.Journals.{appended_for, appended_or_not, appended_pages, saved_for, saved_or_not, saved_pages}
 use Rattle.ktm_core.proofs.Lying.{on_pages-sound, sound-is}
 use Rattle.ktm_core.proofs.offered.Places.{durable-weaker}
-use Rattle.ktm_core.specs.Core.{AreSoundFiles, is_sound}
+use Rattle.ktm_core.specs.Core.{AreSoundFiles, is_sound, log_left}
+use Rattle.ktm_core.specs.Done.{lacks_room}
 use Rattle.ktm_memory.specs.Rules.{Follows}
 use Rattle.ktm_core.proofs.Bare.{own-bare}
-use Rattle.ktm_core.proofs.Groups.{more_calls, same_appended}
+use Rattle.ktm_core.proofs.Groups.{appended_left, compacted_left, more_calls, same_appended}
 
 -- ---- what memory shows
 
@@ -85,7 +89,17 @@ own_applies owns spelling records state may unworn =
           (own_group-each (IsSound may.on_pages.apart.0 (page_count state.units)) state) (own-applies owns spelling state may.good unworn),
     )
 
-module _ (begins : FreshLaw) (contents : ContentsLaw) (owns : OwnGroupLaw) (spelling : SpellingLaw) (records : RecordsLaw) (events : EventsState) (old new : OnDisk MemoryState) (starts : IsStarting old.it events) where
+module _ (begins : FreshLaw) (contents : ContentsLaw) (owns : OwnGroupLaw) (spelling : SpellingLaw) (records : RecordsLaw) (events : EventsState) (old new : OnDisk MemoryState) (starts : IsStarting old.it events)
+    (room : (group : Group) → Holds events group → lacks_room old.it.journal group ≡ false) where
+  -- the greatest debts have room behind it
+  room_behind_start : AreRecorded events old new → most_debts new.it.journal.units + 1 ≤ log_left new.it.journal
+  room_behind_start recorded =
+      let group = own_group starts.0 in
+      let left = ap (λ (m : MemoryState). log_left m.journal) (recorded.grows group starts.1.lists.holds) ∙ appended_left old.it.journal group in
+      let units = ap (λ (m : MemoryState). m.journal.units) (recorded.grows group starts.1.lists.holds) in
+      let free = ltb-false (log_left old.it.journal) (frame_of group + most_debts old.it.journal.units + 1) (room group starts.1.lists.holds) in
+      omega (arith, left, units, free)
+
   start_appended : AreRecorded events old new → IsRecorded events old new
   start_appended recorded =
       let same = same_appended old.it new.it (own_group starts.0) (recorded.grows (own_group starts.0) starts.1.lists.holds) in
@@ -96,6 +110,7 @@ module _ (begins : FreshLaw) (contents : ContentsLaw) (owns : OwnGroupLaw) (spel
         disk = λ state is disk. (let own = own_applies owns spelling records state is.may is.unworn in appended_for events state (own_group state) (own_group state) is.lists.holds own.1 own.0.means old new disk recorded);
         pages = recorded.pages;
         headed = recorded.headed;
+        left = room_behind_start recorded;
         synced = record { calls = more_calls 4 6 old.status new.status false (omega arith) recorded.synced.calls; pending = recorded.synced.pending; up = recorded.synced.up };
       }
 
@@ -177,6 +192,10 @@ module _ (begins : FreshLaw) (contents : ContentsLaw) (events : EventsState) (ol
     disk = λ state is disk. saved_here begins contents events old state is new saved disk;
     pages = saved.compacts.pages;
     headed = saved.compacts.headed;
+    left = (
+        let left = ap (λ (m : MemoryState). log_left m.journal) saved.is ∙ compacted_left (counted events old).it.journal in
+        let units = ap (λ (m : MemoryState). m.journal.units) saved.is in
+        omega (arith, left, units));
     synced = saved.compacts.synced;
   }
 
@@ -193,6 +212,10 @@ module _ (events : EventsState) (m : MemoryState) (starts : IsStarting m events)
   -- the image has a size that there is
   pub small_start : m.journal.units ≤ MOST_UNITS
   small_start = omega (arith, starts.1.journal.units, starts.1.may.most)
+
+  -- a start records something
+  pub some_start : 1 ≤ events.count
+  some_start = omega (arith, starts.1.lists.holds.counted)
 
   -- the count of events does not come to its end
   pub counts_start : SpellingLaw → m.journal.events + events.count ≤ 2 ^ 63

@@ -1,7 +1,8 @@
 -- The machine over the places of bytes, with the pages on which they are, and when its disk stands for it.
-use Rattle.std.specs.Prelude.{◌≡◌, ◌⊎◌, ℕ, ◌*◌, ◌≤◌, ◌==◌, ◌&&◌, ◌||◌, nat_le, Bool, true, false, List, [], Option, IfSome}
+use Rattle.std.specs.Prelude.{◌≡◌, ◌⊎◌, ℕ, ◌+◌, ◌-◌, ◌*◌, ◌≤◌, ◌==◌, ◌&&◌, ◌||◌, nat_le, Bool, true, false, List, [], Option, IfSome}
 use Rattle.ktm_base.specs.declared.limits.TheConstants.{UNIT_BYTES}
 use Rattle.ktm_base.specs.Disk.{DiskState, DiskStatus, MayLeave}
+use Rattle.ktm_debts.specs.Debts.{debts}
 use Rattle.ktm_each.specs.Each.{EachOfDurable, EachOfFiles}
 use Rattle.ktm_journal.specs.Image.{IsHeaded, JournalState, row_of}
 use Rattle.ktm_memory.specs.Memory.{MemoryState, present_of}
@@ -29,6 +30,10 @@ pub record CoreState : Type 0 where
 -- the machine that holds this
 abbrev pub core_of : MemoryState → StoreState → CoreState
 core_of m store = record { now = present_of m; journal = m.journal; slots = m.tm.slots; store = store }
+
+-- how many bytes of the log are left, with the gate behind it
+abbrev pub log_left : JournalState → ℕ
+log_left j = j.log.area.len - j.log.end
 
 -- ---- its disk
 
@@ -90,3 +95,5 @@ pub record IsReady (c : CoreState) (told : Option DiskState) (status : DiskStatu
   pub standing : IsStandingNow c.now
   -- there is room for all notifications that may come to be sent without a call that makes room
   pub slots : owed_slots c.now ≤ c.slots
+  -- the log has room for all that transactions under way may still record
+  pub room : debts c.now + 1 ≤ log_left c.journal

@@ -4,6 +4,7 @@ pub mod Answers
 pub mod Pages
 pub mod Recording
 pub mod Starting
+pub use Rattle.ktm_debts.specs.Debts
 pub use Rattle.ktm_memory.proofs.offered.Following
 pub use Rattle.ktm_memory.proofs.offered.Standing
 pub use Rattle.ktm_memory.specs.Memory

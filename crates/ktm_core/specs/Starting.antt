@@ -3,7 +3,8 @@ use Rattle.std.specs.Prelude.{◌≡◌, ◌⊎◌, ℕ, ◌+◌, ◌≤◌, tru
 use Rattle.ktm_base.specs.declared.fault.Down.{Down}
 use Rattle.ktm_base.specs.Disk.{DeviceCalls, DiskState, MayLeave}
 use Rattle.ktm_base.specs.Told.{Goes}
-use Rattle.ktm_core.specs.Core.{AreSoundFiles}
+use Rattle.ktm_core.specs.Core.{AreSoundFiles, log_left}
+use Rattle.ktm_debts.specs.Debts.{most_debts}
 use Rattle.ktm_event.specs.Kept.{EventsState, Holds}
 use Rattle.ktm_journal.specs.Image.{IsHeaded, page_count}
 use Rattle.ktm_journal.specs.Pages.{KeepsPages, LeavesPages}
@@ -61,6 +62,8 @@ pub record IsRecorded (events : EventsState) (old new : OnDisk MemoryState) : Ty
   pub disk : (state : Durable) → IsOnStart state old.it events → IsSomeAnd old.told (JournalFor old.it.journal state) → IsSomeAnd new.told (JournalFor new.it.journal (started state))
   pub pages : Goes (KeepsPages old.it.journal.units) old.told new.told
   pub headed : IfSome new.told (λ s. IsHeaded new.it.journal.units new.it.journal.image new.it.journal.selector s.seen)
+  -- the log has room for the greatest debts
+  pub left : most_debts new.it.journal.units + 1 ≤ log_left new.it.journal
   pub synced : AllSynced 6 old.status new.status
 
 -- the disk has no power: the start may be recorded or not, and the pages are as they were

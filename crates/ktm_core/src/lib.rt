@@ -3,10 +3,12 @@
 #![tactic(auto)]
 
 mod machine;
+mod owing;
 mod pages;
 mod recording;
 mod starting;
 
+pub use ktm_debts::law_of_debts;
 pub use ktm_memory::{Extent, Memory};
 pub use ktm_restart::{law_of_bad_images, law_of_journals, law_of_new_images, law_of_states, load};
 pub use ktm_route::{Asked, command_of, end_target, law_of_completions, read_target, write_target};

@@ -2,6 +2,7 @@
 ghost use Rattle.std.specs.Prelude.{◌≡◌, ◌≤◌, ℕ, [], true, false, length, vec_capacity, IfSome, IsOk, OnErr};
 ghost use Rattle.ktm_core.specs.Answers.{CoreLeaves, IsAsItWas, KeepsRules};
 ghost use Rattle.ktm_base.specs.declared.limits.TheConstants.{MOST_UNITS};
+ghost use Rattle.ktm_base.specs.declared.refusal.Refusal.TheVariants.{MachineDown};
 ghost use Rattle.ktm_core.specs.Recording.{MayRecord, PutLeaves, kept_on};
 ghost use Rattle.ktm_core.specs.Core.{IsReady, IsSoundFor, core_of};
 ghost use Rattle.ktm_journal.specs.Image.{IsHeaded, page_count};
@@ -13,13 +14,16 @@ ghost use Rattle.ktm_memory.specs.Settled.{left_to_do};
 ghost use Rattle.ktm_memory.specs.Stored.{FilesLieBelow};
 ghost use Rattle.ktm_memory.specs.Held.{files_of};
 ghost use Rattle.ktm_world.specs.Groups.{Group};
-ghost use Rattle.ktm_route.specs.Route.{AskedPutsBy, CanBeAsked, decided};
+ghost use Rattle.ktm_route.specs.Route.{AskedPutsBy, CanBeAsked};
 ghost use Rattle.ktm_route.specs.Takes.{asked_takes_memory};
+ghost use Rattle.ktm_world.specs.declared.reply.Reply.TheVariants.{Refused};
 ghost use Rattle.ktm_world.specs.Sizes.{area_len};
 
+use crate::owing::{may_rise, owes_more, room_beside};
 use crate::pages::write_wanted;
-use crate::recording::record;
+use crate::recording::{make_room, record};
 use ktm_base::{Disk, Down, NoMemory, Refusal};
+use ktm_debts::law_of_debts;
 use ktm_event::Events;
 use ktm_laws::law_of_lawful_worlds;
 use ktm_memory::{Memory, Settlement};
@@ -43,18 +47,21 @@ pub struct Core {
     pub snapshot: Vec<u8>,
 }
 
-// Records the events of a command, where there are any: first the pages that they put are written, where the disk does not have them yet.
+// Records the events of a command, of which there are some, with so many bytes of the log beside them: first the pages that they put are
+// written, where the disk does not have them yet.
 fn put<D: Disk>(
     disk: &mut D,
     memory: &mut Memory,
     store: &mut Store,
     events: &Events,
     settlement: &Settlement,
+    beside: u64,
     snapshot: &mut Vec<u8>,
 ) -> Result<(), Down>
     requires up { (D.status disk.old).is_down ≡ false }
     requires pending { (D.status disk.old).pending ≡ 0 }
     requires headed { IfSome (D.told disk.old) (λ s. IsHeaded memory.old.journal.units memory.old.journal.image memory.old.journal.selector s.seen) }
+    requires some { 1 ≤ events.now.count }
     requires may { (raw : Group) × MayRecord memory.old events.now raw (left_to_do (present_of memory.old) settlement.now).events }
     requires most { memory.old.journal.units ≤ MOST_UNITS }
     requires room { area_len memory.old.journal.units ≤ vec_capacity snapshot.old }
@@ -62,22 +69,31 @@ fn put<D: Disk>(
     requires none { store.old.wanted ≡ [] }
     requires files { FilesLieBelow (length store.old.marks.held) (files_of memory.old.files) }
     requires puts { PutsAlone (present_of memory.old) settlement.now }
-    ensures leaves { PutLeaves events.now (left_to_do (present_of memory.old) settlement.now).events (kept_on memory.old store.old (D.told disk.old) (D.status disk.old)) (kept_on memory.new store.new (D.told disk.new) (D.status disk.new)) result }
+    ensures leaves { PutLeaves beside events.now (left_to_do (present_of memory.old) settlement.now).events (kept_on memory.old store.old (D.told disk.old) (D.status disk.old)) (kept_on memory.new store.new (D.told disk.new) (D.status disk.new)) result }
     ensures kept { vec_capacity snapshot.old ≤ vec_capacity snapshot.new }
 {
-    if events.is_empty() {
-        return Ok(());
-    }
     memory.want_pages(settlement, store);
     if let Err(Down) = write_wanted(disk, memory.journal(), store) {
         return Err(Down);
     }
-    record(disk, memory, events, snapshot)
+    record(disk, memory, events, beside, snapshot)
+}
+
+// The machine is down, and answers so.
+fn fall(memory: &mut Memory) -> Reply
+    ensures says { result ≡ Refused MachineDown }
+    ensures falls { memory.new ≡ record memory.old { is_up = false } }
+{
+    memory.fall();
+    Reply::Refused(Refusal::MachineDown)
 }
 
 impl Core {
     /// Answers what is asked while the machine is up: it is decided, the pages that its events put are written where the disk does not
-    /// have them yet, then the events are recorded, and then memory settles. After MACHINE_DOWN the machine is down.
+    /// have them yet, then the events are recorded, and then memory settles. The log keeps room for all that transactions under way may
+    /// still record: in that room stands what completes one, which never makes a snapshot. Whatever else is recorded leaves room for the
+    /// greatest debts, and what records nothing and may owe more makes that room once it is done, by a snapshot where the log has too
+    /// little. After MACHINE_DOWN the machine is down.
     pub fn answer<D: Disk>(
         &mut self,
         alloc: Global,
@@ -92,7 +108,7 @@ impl Core {
         requires counts { HasEventsLeft (present_of self.old.memory) }
         requires asked { CanBeAsked (present_of self.old.memory) asked }
         requires sound { IsSoundFor (page_count self.old.memory.journal.units) (present_of self.old.memory) asked }
-        ensures leaves { CoreLeaves (decided (present_of self.old.memory) asked) (on (core_of self.old.memory self.old.store) (D.told disk.old) (D.status disk.old)) (on (core_of self.new.memory self.new.store) (D.told disk.new) (D.status disk.new)) result }
+        ensures leaves { CoreLeaves (present_of self.old.memory) asked (on (core_of self.old.memory self.old.store) (D.told disk.old) (D.status disk.old)) (on (core_of self.new.memory self.new.store) (D.told disk.new) (D.status disk.new)) result }
         ensures rules { KeepsRules (λ rule. AskedPutsBy (present_of self.old.memory) rule asked) (present_of self.old.memory) (present_of self.new.memory) }
         ensures roomy { IsRoomy self.new.memory.journal self.new.events }
         ensures room { area_len self.new.memory.journal.units ≤ vec_capacity self.new.snapshot }
@@ -106,25 +122,33 @@ impl Core {
         law_of_frames();
         law_of_lawful_worlds();
         law_of_records();
+        law_of_debts();
         self.events.clear();
+        let owing = owes_more(&asked);
+        let beside = room_beside(&self.memory, &asked);
         let decision = decide(&mut self.memory, alloc, asked, &mut self.events)?;
-        match put(
+        if self.events.is_empty() {
+            let rises = may_rise(owing, &decision.reply);
+            self.memory.settle(alloc, decision.settlement);
+            if let Err(Down) = make_room(disk, &mut self.memory, rises, &mut self.snapshot) {
+                drop(decision.reply);
+                return Ok(fall(&mut self.memory));
+            }
+            return Ok(decision.reply);
+        }
+        if let Err(Down) = put(
             disk,
             &mut self.memory,
             &mut self.store,
             &self.events,
             &decision.settlement,
+            beside,
             &mut self.snapshot,
         ) {
-            Ok(()) => {
-                self.memory.settle(alloc, decision.settlement);
-                Ok(decision.reply)
-            }
-            Err(Down) => {
-                drop(decision);
-                self.memory.fall();
-                Ok(Reply::Refused(Refusal::MachineDown))
-            }
+            drop(decision);
+            return Ok(fall(&mut self.memory));
         }
+        self.memory.settle(alloc, decision.settlement);
+        Ok(decision.reply)
     }
 }

@@ -14,7 +14,8 @@ ghost use Rattle.ktm_world.specs.Sizes.{area_len, frame_size};
 ghost use Rattle.ktm_world.specs.Durable.{is_worn};
 ghost use Rattle.ktm_world.specs.World.{in_doubt as all_in_doubt, own_group};
 
-use crate::recording::append;
+use crate::owing::most_debts;
+use crate::recording::{append, has_room};
 use ktm_back::{Restored, count_in_doubt, law_of_coming_back, law_of_in_doubt, restore, start};
 use ktm_base::{Disk, Down, NoMemory};
 use ktm_event::Events;
@@ -168,8 +169,8 @@ pub fn prepare(alloc: Global, loaded: Loaded, buffer: &mut Vec<u8>) -> Result<St
     }
 }
 
-/// Records that a machine starts from this state: as a group of the log, or, where the log has no room for it, by a snapshot of what the
-/// start makes of the state.
+/// Records that a machine starts from this state: as a group of the log, or, where the log has no room for it beside the greatest debts, by a
+/// snapshot of what the start makes of the state.
 pub fn record_start<D: Disk>(
     disk: &mut D,
     memory: &mut Memory,
@@ -190,7 +191,7 @@ pub fn record_start<D: Disk>(
     law_of_own_groups();
     law_of_spelling();
     law_of_records();
-    if memory.has_room(events) {
+    if has_room(memory, events, most_debts(memory)) {
         return append(disk, memory, events);
     }
     memory.count(events);

@@ -17,7 +17,7 @@ use Rattle.ktm_world.specs.declared.step.Who.{Who}
 use Rattle.ktm_world.specs.Steps.{is_one_of}
 use Rattle.ktm_world.specs.Transactions.{same_id}
 use Rattle.ktm_enlist.specs.declared.telling.Told.{Told}
-use Rattle.ktm_enlist.specs.Telling.{asked, asked_if, has_manager, is_of_transaction, told, with_first}
+use Rattle.ktm_enlist.specs.Telling.{asked, asked_if, has_manager, is_of_transaction, told, visited, with_first}
 use Rattle.ktm_enlist.proofs.Changing.{asked_keeps}
 use Rattle.ktm_enlist.proofs.Places.{changed_length, found_from, none_from, passes_within}
 
@@ -131,6 +131,37 @@ pub record IsReached (t : Told) (es now : List Enlistment) (p : ℕ) (base ms : 
   pub sent : ms ≡ map (served None (map (tell t.kind) (filter (is_one_of t.transaction t.caller t.who) (take p es)))) base
   pub left : spare + length (filter (is_one_of t.transaction t.caller t.who) (take p es)) ≡ before
 
+-- those that pass, of those before the next, or of all where there is none
+abbrev pub before_next : (Enlistment → Bool) → Option ℕ → List Enlistment → List Enlistment
+before_next test None es = filter test es
+before_next test (Some p) es = filter test (take p es)
+
+module _ (own test : Enlistment → Bool) (fails : (e : Enlistment) → own e ≡ false → test e ≡ false) where
+  -- those between are not told
+  skip_taken : (k m : ℕ) (es : List Enlistment) → HasNone own (take m (drop k es)) → filter test (take (behind k m) es) ≡ filter test (take k es)
+  skip_taken zero zero es none = refl
+  skip_taken zero (suc m) [] none = refl
+  skip_taken zero (suc m) (e ∷ es) none = rw (fails e none.0) (skip_taken zero m es none.1)
+  skip_taken (suc k) m [] none = refl
+  skip_taken (suc k) m (e ∷ es) none = elim (cases_Bool (test e)) [
+    | inl passes ↦ rw passes (ap (λ (l : List Enlistment). e ∷ l) (skip_taken k m es none))
+    | inr not_told ↦ rw not_told (skip_taken k m es none)
+  ]
+
+  -- nor are those behind the last
+  skip_rest : (k : ℕ) (es : List Enlistment) → HasNone own (drop k es) → filter test (take k es) ≡ filter test es
+  skip_rest k es none =
+      let past : length es ≤ behind k (length es) = omega (arith, behind_is k (length es)) in
+      let whole : HasNone own (take (length es) (drop k es)) = subst (HasNone own) (sym (take_all (length es) (drop k es) (omega (arith, length-drop k es)))) none in
+      sym (skip_taken k (length es) es whole) ∙ ap (filter test) (take_all (behind k (length es)) es past)
+
+  -- between a place and the next one that is found from there none is told
+  pub next_taken : (k : ℕ) (es : List Enlistment) (next : Option ℕ) → next ≡ place_from own k (drop k es) → before_next test next es ≡ filter test (take k es)
+  next_taken k es None leads = sym (skip_rest k es (none_from own k (drop k es) (sym leads)))
+  next_taken k es (Some p) leads =
+      let found = found_from own k (drop k es) p (sym leads) in
+      ap (λ (n : ℕ). filter test (take n es)) (found.is ∙ sym (behind_is k found.offset)) ∙ skip_taken k found.offset es found.before
+
 -- how many places are left from the next of the transaction on
 abbrev pub left_of : Option ℕ → ℕ → ℕ
 left_of None n = 0
@@ -145,6 +176,25 @@ others_fail id caller Who.Recovered is e other = rw other refl
 others_fail id caller Who.Superior is e other = rw other refl
 others_fail id caller Who.OtherSuperior is e other = rw other refl
 others_fail id caller Who.Caller is e other = absurd (true≢false (sym is))
+
+-- to tell those all of the transaction are visited
+visits_all : (id : Id) (caller : Option Id) (who : Who) → is_of_transaction who ≡ true → (es : List Enlistment) → visited id caller who es ≡ length (filter (is_own id) es)
+visits_all id caller Who.Parts is es = refl
+visits_all id caller Who.Asking is es = refl
+visits_all id caller Who.Prepared is es = refl
+visits_all id caller Who.Recovered is es = refl
+visits_all id caller Who.Superior is es = refl
+visits_all id caller Who.OtherSuperior is es = refl
+visits_all id caller Who.Caller is es = absurd (true≢false (sym is))
+
+-- with one that passes there are one more
+passes_more : (test : Enlistment → Bool) (es : List Enlistment) (p : ℕ) → PassesAt test es p → length (filter test (take (suc p) es)) ≡ suc (length (filter test (take p es)))
+passes_more test [] p at = absurd at
+passes_more test (e ∷ es) zero at = rw at refl
+passes_more test (e ∷ es) (suc p) at = elim (cases_Bool (test e)) [
+  | inl passes ↦ rw passes (ap suc (passes_more test es p at))
+  | inr fails ↦ rw fails (passes_more test es p at)
+]
 
 module _ (t : Told) (owns : is_of_transaction t.who ≡ true) where
   abbrev own : Enlistment → Bool
@@ -171,17 +221,6 @@ module _ (t : Told) (owns : is_of_transaction t.who ≡ true) where
   skip_first zero (suc m) (e ∷ es) none = rw (fails e none.0) (ap (λ (l : List Enlistment). e ∷ l) (skip_first zero m es none.1))
   skip_first (suc k) m [] none = refl
   skip_first (suc k) m (e ∷ es) none = ap (λ (l : List Enlistment). (if test e then f e else e) ∷ l) (skip_first k m es none)
-
-  -- those between are not told
-  skip_taken : (k m : ℕ) (es : List Enlistment) → HasNone own (take m (drop k es)) → filter test (take (behind k m) es) ≡ filter test (take k es)
-  skip_taken zero zero es none = refl
-  skip_taken zero (suc m) [] none = refl
-  skip_taken zero (suc m) (e ∷ es) none = rw (fails e none.0) (skip_taken zero m es none.1)
-  skip_taken (suc k) m [] none = refl
-  skip_taken (suc k) m (e ∷ es) none = elim (cases_Bool (test e)) [
-    | inl passes ↦ rw passes (ap (λ (l : List Enlistment). e ∷ l) (skip_taken k m es none))
-    | inr not_told ↦ rw not_told (skip_taken k m es none)
-  ]
 
   -- one that passes behind a place passes among all
   passes_behind : (k m : ℕ) (es : List Enlistment) → PassesAt own (drop k es) m → PassesAt own es (behind k m)
@@ -216,7 +255,7 @@ module _ (t : Told) (owns : is_of_transaction t.who ≡ true) where
       let found = found_from own w.reached (drop w.reached es) p (sym w.leads) in
       let is : p ≡ behind w.reached found.offset = found.is ∙ sym (behind_is w.reached found.offset) in
       let here = subst (λ (n : ℕ). PassesAt own es n) (sym is) (passes_behind w.reached found.offset es found.here) in
-      let taken = ap (λ (n : ℕ). filter test (take n es)) is ∙ skip_taken w.reached found.offset es found.before in
+      let taken = next_taken own test fails w.reached es (Some p) w.leads in
       record {
         within = passes_within own es p here;
         here = here;
@@ -225,10 +264,14 @@ module _ (t : Told) (owns : is_of_transaction t.who ≡ true) where
         left = ap (λ (l : List Enlistment). spare + length l) taken ∙ w.left;
       }
 
+  -- once it is told, one more is changed
+  walk_changes : (es now new : List Enlistment) (p : ℕ) (base ms : List Manager) (before spare : ℕ) → IsReached t es now p base ms before spare → new ≡ changed (asked_if test t.owed) now p → new ≡ with_first test f (p + 1) es
+  walk_changes es now new p base ms before spare r changes = changes ∙ ap (λ (l : List Enlistment). changed (asked_if test t.owed) l p) r.items ∙ first_more test f p es r.within
+
   -- it is still of the transaction once it is told
   pub walk_passes : (es now new : List Enlistment) (p : ℕ) (base ms : List Manager) (before spare : ℕ) → IsReached t es now p base ms before spare → new ≡ changed (asked_if test t.owed) now p → PassesAt own new p
   walk_passes es now new p base ms before spare r changes =
-      let items : new ≡ with_first test f (p + 1) es = changes ∙ ap (λ (l : List Enlistment). changed (asked_if test t.owed) l p) r.items ∙ first_more test f p es r.within in
+      let items = walk_changes es now new p base ms before spare r changes in
       subst (λ (l : List Enlistment). PassesAt own l p) (sym items) (passes_first (p + 1) es p r.here)
 
   -- fewer places are left from the next one on
@@ -241,6 +284,12 @@ module _ (t : Told) (owns : is_of_transaction t.who ≡ true) where
       go None leads = omega (arith, within)
       go (Some q) leads = let found = found_from own (p + 1) (drop (p + 1) new) q (sym leads) in omega (arith, within, found.is)
 
+  -- the next one is found among those that it began with
+  pub walk_leads : (es now new : List Enlistment) (p : ℕ) (next : Option ℕ) (base ms : List Manager) (before spare : ℕ) → IsReached t es now p base ms before spare → new ≡ changed (asked_if test t.owed) now p
+      → next ≡ place_from own (p + 1) (drop (p + 1) new) → next ≡ place_from own (p + 1) (drop (p + 1) es)
+  walk_leads es now new p next base ms before spare r changes leads =
+      leads ∙ ap (λ (l : List Enlistment). place_from own (p + 1) (drop (p + 1) l)) (walk_changes es now new p base ms before spare r changes) ∙ ap (place_from own (p + 1)) (first_dropped (p + 1) es)
+
   -- it goes on behind it
   pub walk_goes_on : (es now new : List Enlistment) (p : ℕ) (next : Option ℕ) (base ms sent : List Manager) (before spare left : ℕ) (d : Enlistment)
       → IsReached t es now p base ms before spare
@@ -250,13 +299,13 @@ module _ (t : Told) (owns : is_of_transaction t.who ≡ true) where
       → next ≡ place_from own (p + 1) (drop (p + 1) new)
       → IsWalked t es new next base sent before left
   walk_goes_on es now new p next base ms sent before spare left d r changes sends leaves leads =
-      let items : new ≡ with_first test f (p + 1) es = changes ∙ ap (λ (l : List Enlistment). changed (asked_if test t.owed) l p) r.items ∙ first_more test f p es r.within in
+      let items = walk_changes es now new p base ms before spare r changes in
       let e = get_or es p d in
       let is : e ≡ get_or es p e = get_or_default es p d e r.within in
       let read : get_or now p d ≡ e = was_read test f es now p d r.items in
       record {
         reached = p + 1;
-        leads = leads ∙ ap (λ (l : List Enlistment). place_from own (p + 1) (drop (p + 1) l)) items ∙ ap (place_from own (p + 1)) (first_dropped (p + 1) es);
+        leads = walk_leads es now new p next base ms before spare r changes leads;
         items = items;
         sent =
             rw read at sends ∙ ap (map (served None (told test t.kind e))) r.sent
@@ -271,12 +320,29 @@ module _ (t : Told) (owns : is_of_transaction t.who ≡ true) where
       let none = none_from own w.reached (drop w.reached es) (sym w.leads) in
       let past : length es ≤ behind w.reached (length es) = omega (arith, behind_is w.reached (length es)) in
       let whole : HasNone own (take (length es) (drop w.reached es)) = subst (HasNone own) (sym (take_all (length es) (drop w.reached es) (omega (arith, length-drop w.reached es)))) none in
-      let taken : filter test (take w.reached es) ≡ filter test es =
-      sym (skip_taken w.reached (length es) es whole) ∙ ap (filter test) (take_all (behind w.reached (length es)) es past) in (
+      let taken : filter test (take w.reached es) ≡ filter test es = skip_rest own test fails w.reached es none in (
         w.items ∙ sym (skip_first w.reached (length es) es whole) ∙ first_all test f (behind w.reached (length es)) es past,
         w.sent ∙ ap (λ (l : List Enlistment). map (served None (map (tell t.kind) l)) base) taken,
         ap (λ (l : List Enlistment). spare + length l) (sym taken) ∙ w.left,
       )
+
+  -- nothing is visited in front of the first of the transaction
+  pub visits_begin : (es : List Enlistment) (next : Option ℕ) (n : ℕ) → next ≡ place_from own 0 es → n ≡ n + length (before_next own next es)
+  visits_begin es next n first = omega (arith, ap length (next_taken own own (λ e other. other) 0 es next first))
+
+  -- one more is visited, and those before the next one are one more
+  pub visits_go_on : (es now new : List Enlistment) (p : ℕ) (next after : Option ℕ) (base ms : List Manager) (before spare start had has : ℕ) → IsReached t es now p base ms before spare → next ≡ Some p
+      → new ≡ changed (asked_if test t.owed) now p → after ≡ place_from own (p + 1) (drop (p + 1) new) → had ≡ start + length (before_next own next es) → has ≡ had + 1 → has ≡ start + length (before_next own after es)
+  visits_go_on es now new p next after base ms before spare start had has r is changes leads counted ticks =
+      let here = ap (λ (o : Option ℕ). length (before_next own o es)) is in
+      let there = ap length (next_taken own own (λ e other. other) (p + 1) es after (walk_leads es now new p after base ms before spare r changes leads)) in
+      let more = ap (λ (n : ℕ). length (filter own (take n es))) (add-one p) ∙ passes_more own es p r.here in
+      omega (arith, here, there, more, counted, ticks)
+
+  -- in the end all of the transaction are visited
+  pub visits_end : (es : List Enlistment) (next : Option ℕ) (start has : ℕ) → next ≡ None → has ≡ start + length (before_next own next es) → has ≡ start + visited t.transaction t.caller t.who es
+  visits_end es next start has is counted =
+      counted ∙ ap (λ (o : Option ℕ). start + length (before_next own o es)) is ∙ ap (λ n. start + n) (sym (visits_all t.transaction t.caller t.who owns es))
 
   -- the manager of the one that is reached is there
   pub reached_there : (es now : List Enlistment) (p : ℕ) (base ms : List Manager) (before spare : ℕ) (d : Enlistment) → IsReached t es now p base ms before spare

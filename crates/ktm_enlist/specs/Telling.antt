@@ -1,15 +1,17 @@
 -- How enlistments are told and asked.
 use Rattle.std.specs.Prelude.{◌≡◌, ◌+◌, ◌≤◌, ℕ, zero, suc, Bool, true, false, List, [], ◌∷◌, filter, length, map, Option, Some, None, is_some, if◌then◌else◌}
 use Rattle.std.specs.List.{list_all}
+use Rattle.ktm_base.specs.declared.id.Id.{Id}
 use Rattle.ktm_base.specs.declared.notify.Notify.{Notify}
 use Rattle.ktm_world.specs.declared.step.Owed.{Owed}
 use Rattle.ktm_world.specs.declared.step.Who.{Who}
-use Rattle.ktm_world.specs.Enlistments.{Enlistment, Manager, Sent, manager_at, tell, with_enlistments}
+use Rattle.ktm_world.specs.Enlistments.{Enlistment, Manager, Sent, is_given, manager_at, tell, with_enlistments}
 use Rattle.ktm_world.specs.Outcome.{served}
 use Rattle.ktm_world.specs.Steps.{is_one_of}
 use Rattle.ktm_manager.specs.Managers.{ManagersState}
 use Rattle.ktm_enlist.specs.declared.telling.Told.{Told}
 use Rattle.ktm_enlist.specs.Enlistments.{EnlistmentsState}
+use Rattle.ktm_enlist.specs.Places.{is_own}
 use Rattle.ktm_world.specs.Phases.{owing}
 
 -- it owes an answer to this from now on, where there is something
@@ -39,6 +41,11 @@ with_first test f (suc i) (e ∷ es) = (if test e then f e else e) ∷ with_firs
 abbrev pub is_of_transaction : Who → Bool
 is_of_transaction Who.Caller = false
 is_of_transaction _ = true
+
+-- how many enlistments are visited to tell those: the one that calls, if it is that one alone, else all of the transaction
+abbrev pub visited : Id → Option Id → Who → List Enlistment → ℕ
+visited id caller Who.Caller es = length (filter (is_given caller) es)
+visited id caller _ es = length (filter (is_own id) es)
 
 -- the manager of each enlistment is there, and has room for what is sent
 pub record MayTell (t : Told) (es : List Enlistment) (managers : ManagersState) : Type 0 where

@@ -11,7 +11,7 @@ ghost use Rattle.ktm_manager.specs.Rising.{are_rising, id_order, IsAt, IsNowhere
 ghost use Rattle.ktm_enlist.specs.Counts.{is_live_until_end, AreCounts};
 ghost use Rattle.ktm_enlist.specs.Groups.{GroupFor};
 ghost use Rattle.ktm_enlist.specs.Places.{changed, is_own, is_superior_of, linked, place_from, HasNone, IsOnlyAt, PassesAt};
-ghost use Rattle.ktm_enlist.specs.Telling.{asked, asked_if, has_manager, is_of_transaction, told, HasTold, MayTell};
+ghost use Rattle.ktm_enlist.specs.Telling.{asked, asked_if, has_manager, is_of_transaction, told, visited, HasTold, MayTell};
 
 use crate::counts::Counts;
 use crate::group::Group;
@@ -19,12 +19,14 @@ use crate::groups::{group_in, join, regroup};
 use crate::standing::standing_of;
 use crate::telling::{Told, tell_one};
 use ktm_base::{Bytes, Id, NoMemory, Notify};
+use ktm_counted::Steps;
 use ktm_manager::{Managers, order_of};
 use ktm_phase::Enlistment;
 use ktm_world::{Answered, Owed, Who};
 use std::alloc::Global;
 use std::cmp::Ordering;
 use std::marker::Model;
+use std::sync::ledger::Ledger;
 
 /// How many enlistments there are at most, so that what counts of them fits 32 bits.
 const MOST: usize = u32::MAX as usize;
@@ -232,8 +234,14 @@ impl Enlistments {
         self.next[place as usize]
     }
 
-    // The enlistment at the place is told, if it is one of those.
-    fn tell_at(&mut self, managers: &mut Managers, place: usize, t: Told)
+    // The enlistment at the place is told, if it is one of those. The visit is a step.
+    fn tell_at<L: Ledger>(
+        &mut self,
+        managers: &mut Managers,
+        place: usize,
+        t: Told,
+        steps: &mut Steps<L>,
+    )
         requires within { place < length self.old.enlistments }
         requires there { (d : Member) → has_manager managers.old.managers (slice_index_or self.old.enlistments place d) ≡ true }
         requires spare { (d : Member) → length (told (is_one_of t.transaction t.caller t.who) t.kind (slice_index_or self.old.enlistments place d)) ≤ managers.old.spare }
@@ -242,7 +250,9 @@ impl Enlistments {
         ensures managers { (d : Member) → managers.new.managers ≡ map (served None (told (is_one_of t.transaction t.caller t.who) t.kind (slice_index_or self.old.enlistments place d))) managers.old.managers }
         ensures spare { (d : Member) → managers.new.spare + length (told (is_one_of t.transaction t.caller t.who) t.kind (slice_index_or self.old.enlistments place d)) ≡ managers.old.spare }
         ensures room_for_managers { managers.new.room ≡ managers.old.room }
+        ensures counted { steps.new ≡ steps.old + 1 }
     {
+        steps.tick();
         let e = &mut self.items[place];
         let transaction = e.transaction;
         let was = standing_of(e);
@@ -252,26 +262,28 @@ impl Enlistments {
     }
 
     // Each enlistment of the transaction that is one of those is told, in their order.
-    fn tell_group(&mut self, managers: &mut Managers, t: Told)
+    fn tell_group<L: Ledger>(&mut self, managers: &mut Managers, t: Told, steps: &mut Steps<L>)
         requires own { is_of_transaction t.who ≡ true }
         requires may { MayTell t self.old.enlistments managers.old }
-        ensures { HasTold t self.old self.new managers.old managers.new }
+        ensures told { HasTold t self.old self.new managers.old managers.new }
+        ensures counted { steps.new ≡ steps.old + visited t.transaction t.caller t.who self.old.enlistments }
     {
         let mut next = self.first(t.transaction);
         while let Some(place) = next {
-            self.tell_at(managers, place as usize, t);
+            self.tell_at(managers, place as usize, t, steps);
             next = self.behind(place);
         }
     }
 
     // The enlistment that calls is told, if there is one.
-    fn tell_caller(&mut self, managers: &mut Managers, t: Told)
+    fn tell_caller<L: Ledger>(&mut self, managers: &mut Managers, t: Told, steps: &mut Steps<L>)
         requires calls { t.who ≡ Who.Caller }
         requires may { MayTell t self.old.enlistments managers.old }
-        ensures { HasTold t self.old self.new managers.old managers.new }
+        ensures told { HasTold t self.old self.new managers.old managers.new }
+        ensures counted { steps.new ≡ steps.old + visited t.transaction t.caller t.who self.old.enlistments }
     {
         if let Some(place) = self.caller_place(t.caller) {
-            self.tell_at(managers, place, t);
+            self.tell_at(managers, place, t, steps);
         }
     }
 
@@ -286,8 +298,9 @@ impl Enlistments {
     }
 
     /// Each of those enlistments of the transaction is told this, where one calls, and owes an answer from then on, if there
-    /// is one to owe. It takes no memory.
-    pub fn tell(
+    /// is one to owe. It takes no memory. Each enlistment that is visited is a step: all of the transaction where those may be
+    /// several, else the one that calls.
+    pub fn tell<L: Ledger>(
         &mut self,
         managers: &mut Managers,
         transaction: Id,
@@ -295,6 +308,7 @@ impl Enlistments {
         who: Who,
         kind: Notify,
         owed: Option<Owed>,
+        steps: &mut Steps<L>,
     )
         requires there { list_all (has_manager managers.old.managers) self.old.enlistments ≡ true }
         requires spare { length (filter (is_one_of transaction caller who) self.old.enlistments) ≤ managers.old.spare }
@@ -303,6 +317,7 @@ impl Enlistments {
         ensures managers { managers.new.managers ≡ map (served None (map (tell kind) (filter (is_one_of transaction caller who) self.old.enlistments))) managers.old.managers }
         ensures spare { managers.new.spare + length (filter (is_one_of transaction caller who) self.old.enlistments) ≡ managers.old.spare }
         ensures room_for_managers { managers.new.room ≡ managers.old.room }
+        ensures counted { steps.new ≡ steps.old + visited transaction caller who self.old.enlistments }
     {
         let told = Told {
             transaction,
@@ -312,8 +327,8 @@ impl Enlistments {
             owed,
         };
         match who {
-            Who::Caller => self.tell_caller(managers, told),
-            _ => self.tell_group(managers, told),
+            Who::Caller => self.tell_caller(managers, told, steps),
+            _ => self.tell_group(managers, told, steps),
         }
     }
 

@@ -23,7 +23,7 @@ use Rattle.ktm_world.specs.Outcome.{Outcome, apply, committed_now}
 use Rattle.ktm_world.specs.Present.{Present}
 use Rattle.ktm_works.specs.Works.{Contents, HasCome, IsNoRefusal, Keeps, contents_after, contents_now, with_works}
 use Rattle.ktm_works.proofs.offered.Commits.{commits-all, set-then, some-settings}
-use Rattle.ktm_works.proofs.offered.Left.{committed-now, kept-now, works-made}
+use Rattle.ktm_works.proofs.offered.Left.{committed-now, decided-up, kept-now, works-made}
 use Rattle.ktm_works.proofs.offered.Quiet.{IsNotPlain, not-plain, quiet-close, quiet-open, quiet-set, quiet-transaction, quiet-write}
 use Rattle.wattorju.specs.Calls.{IsBinding, IsCalled, IsCompleted, IsWornOut, answer_of, failure_of, own, reply_of}
 use Rattle.wattorju.specs.Told.{reply_of_state}
@@ -112,7 +112,9 @@ module _ (file : Entry) (transaction : Label) (m n p q : OnDisk KernelState) (la
   written : (answer : Answer) → IsCalled (WriteFile label 0 file.contents) n p answer → CommitsNothing m p
   written answer called cs keeps =
       let came = come (opens file transaction bound.label) m n bound.called cs keeps in
-      let apart = not-plain m.it.now own bound.label file.name.characters Write Nothing CreateAlways transaction (kept-now cs m keeps).sound.files (no-refusal (opens file transaction bound.label) m n came) in
+      let done = no-refusal (opens file transaction bound.label) m n came in
+      let kept = kept-now cs m keeps (decided-up m.it.now own (opens file transaction bound.label) done) in
+      let apart = not-plain m.it.now own bound.label file.name.characters Write Nothing CreateAlways transaction kept.sound.files done in
       let here : IsNotPlain n.it.now own label = subst (IsNotPlain n.it.now own) (sym bound.named) (subst (λ (x : Present). IsNotPlain x own bound.label) (sym came.now) apart) in
       quiet (WriteFile label 0 file.contents) n p answer called (quiet-write n.it.now own label 0 file.contents here) cs (opened file transaction m n (Some (Ok Reply.Done)) (λ named. label ≡ named) bound cs keeps)
 

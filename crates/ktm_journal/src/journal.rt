@@ -49,8 +49,8 @@ impl Model for Journal {
 }
 
 impl Journal {
-    /// Makes the disk a new image, whatever it held. It takes no memory. A format that the power ended leaves an image that
-    /// may stand for nothing.
+    /// Makes the disk a new image, whatever it held. It takes no memory, and makes eight device calls at most. A format that the power
+    /// ended leaves an image that may stand for nothing.
     pub fn format<D: Disk>(disk: &mut D, units: u32, image: u16) -> Result<(), Down>
         requires from { LEAST_UNITS ≤ units }
         requires to { units ≤ MOST_UNITS }
@@ -59,7 +59,7 @@ impl Journal {
         ensures down { OnErr result (Goes Anything (D.told disk.old) (D.told disk.new)) }
         ensures pending { OnOk result ((D.status disk.new).pending ≡ 0) }
         ensures up { OnOk result ((D.status disk.new).is_down ≡ false) }
-        ensures calls { DeviceCalls (8 * units + 64) (D.status disk.old) (D.status disk.new) (is_err result) }
+        ensures calls { DeviceCalls 8 (D.status disk.old) (D.status disk.new) (is_err result) }
     {
         if let Err(Down) = lay(disk, units) {
             return Err(Down);

@@ -3,7 +3,7 @@ use Rattle.std.proofs.Common.{◌≡◌, Bool, true, false, length, Option, Resu
 use Rattle.ktm_base.specs.declared.fault.NoMemory.{NoMemory}
 use Rattle.ktm_base.specs.Disk.{DiskState, DiskStatus}
 use Rattle.ktm_content.specs.Places.{byte_at}
-use Rattle.ktm_core.specs.Answers.{CoreLeaves, IsAnswered as IsCoreAnswered, IsAsItWas as IsCoreAsItWas, KeepsRules}
+use Rattle.ktm_core.specs.Answers.{CoreLeaves, IsAnswered as IsCoreAnswered, IsAsItWas as IsCoreAsItWas, KeepsRules, asked_completes, asked_owes_more}
 use Rattle.ktm_core.specs.Core.{CoreState, HoldsPlaces, IsReady as IsReadyCore, IsSoundFor, is_sound}
 use Rattle.ktm_core.specs.Done.{Ends as CoreEnds, KeepsPages}
 use Rattle.ktm_each.specs.Each.{EachOfFiles}
@@ -26,6 +26,7 @@ use Rattle.ktm_world.specs.Present.{Present}
 use Rattle.ktm_kernel.specs.Answers.{AnswerLeaves, IsAsItWas}
 use Rattle.ktm_kernel.specs.Staging.{AreHeldFor, IsOverPlaces, is_held_at}
 use Rattle.ktm_kernel.specs.Stands.{IsCoreReady, IsReady, KernelState, machine_of}
+use Rattle.ktm_kernel.proofs.Fallen.{left-off}
 use Rattle.ktm_kernel.proofs.Given.{given}
 use Rattle.ktm_kernel.proofs.Lifted.{lifted}
 use Rattle.ktm_kernel.proofs.Rules.{files-rule, rule-files}
@@ -44,12 +45,12 @@ keeps-of true old new o reply before now cut = cut.keeps
 -- what is so then, where the machine is up
 up-state : (is_down : Bool) (old new : CoreState) (o : Outcome) (reply : Reply) (before now : Option DiskState) → CoreEnds is_down old o reply new before now → new.now.machine.is_up ≡ true → new.now ≡ apply old.now o
 up-state false old new o reply before now done on = done.state
-up-state true old new o reply before now cut on = let off = sym on ∙ ap (λ (x : Present). x.machine.is_up) cut.state in absurd (cc)
+up-state true old new o reply before now cut on = let off = sym on ∙ ap (λ (x : Present). x.machine.is_up) cut.state ∙ left-off old.now o in absurd (cc)
 
 module _ (law : StandingLaw) (old new : CoreState) (asked : Asked) (before now : Option DiskState) (s t : DiskStatus) (reply : Reply)
     (ready : IsReadyCore old before s) (count : length old.store.marks.held ≡ page_count old.journal.units) (sound : IsSoundFor (page_count old.journal.units) old.now asked)
     (held : AreFilesHeld old.store old.now.files) (puts : AreHeldFor old asked) (can : CanBeAsked old.now asked) (left : HasEventsLeft old.now)
-    (answered : IsCoreAnswered (decided old.now asked) (on old before s) (on new now t) reply) (rules : KeepsRules (λ rule. AskedPutsBy old.now rule asked) old.now new.now) where
+    (answered : IsCoreAnswered (asked_completes asked) (asked_owes_more asked) (decided old.now asked) (on old before s) (on new now t) reply) (rules : KeepsRules (λ rule. AskedPutsBy old.now rule asked) old.now new.now) where
   keeps : KeepsPages old new
   keeps = keeps-of t.is_down old new (decided old.now asked) reply before now answered.ends
 
@@ -60,6 +61,7 @@ module _ (law : StandingLaw) (old new : CoreState) (asked : Asked) (before now :
       powered = answered.powered;
       standing = subst IsStandingNow (sym (up-state t.is_down old new (decided old.now asked) reply before now answered.ends up)) (asked-stands law old.now asked can left ready.standing);
       slots = answered.slots up;
+      room = answered.room up;
     };
     count = ap (λ (m : MarksState). length m.held) keeps.marks ∙ count ∙ ap page_count (sym keeps.units);
     sound = (
@@ -94,7 +96,7 @@ module _ (old new : CoreState) (as_was : IsCoreAsItWas old new) where
         slots = λ up. omega (arith, ready.slots up, as_was.slots);
         core = λ up. let core = ready.core up in record {
           is = refl;
-          ready = record { powered = record { power = core.ready.powered.power; settled = core.ready.powered.settled; image = core.ready.powered.image; wanted = core.ready.powered.wanted }; standing = core.ready.standing; slots = omega (arith, core.ready.slots, as_was.slots) };
+          ready = record { powered = record { power = core.ready.powered.power; settled = core.ready.powered.settled; image = core.ready.powered.image; wanted = core.ready.powered.wanted }; standing = core.ready.standing; slots = omega (arith, core.ready.slots, as_was.slots); room = core.ready.room };
           count = core.count;
           sound = core.sound;
           held = core.held;
@@ -106,19 +108,19 @@ module _ (law : StandingLaw) (seen : RowsSeen) (old new : CoreState) (asked : As
     (held : AreFilesHeld old.store old.now.files) (puts : AreHeldFor old asked) (can : CanBeAsked old.now asked) (left : HasEventsLeft old.now)
     (rules : KeepsRules (λ rule. AskedPutsBy old.now rule asked) old.now new.now) where
   -- what was answered over the places is answered over the bytes
-  pub answer-leaves : (o : Outcome) → IsOverPlaces (byte_at old.store.seen) old.now (decided old.now asked) o → (r : Result Reply NoMemory) → CoreLeaves (decided old.now asked) (on old before s) (on new now t) r
-      → AnswerLeaves o (on (machine_of old) before s) (on (machine_of new) now t) r
-  answer-leaves o is (Ok reply) answered = lifted seen old new (decided old.now asked) o is before now s t reply answered (stays-ready law old new asked before now s t reply ready count sound held puts can left answered rules)
+  pub answer-leaves : (o : Outcome) → IsOverPlaces (byte_at old.store.seen) old.now (decided old.now asked) o → (r : Result Reply NoMemory) → CoreLeaves old.now asked (on old before s) (on new now t) r
+      → AnswerLeaves (asked_completes asked) (asked_owes_more asked) o (on (machine_of old) before s) (on (machine_of new) now t) r
+  answer-leaves o is (Ok reply) answered = lifted seen old new (decided old.now asked) o is (asked_completes asked) (asked_owes_more asked) before now s t reply answered (stays-ready law old new asked before now s t reply ready count sound held puts can left answered rules)
   answer-leaves o is (Err fault) untouched = record { told = untouched.told; status = untouched.status }
 
 -- so it is of a machine that holds this
 abbrev AnswersAs : CoreState → Asked → Option DiskState → Option DiskState → DiskStatus → DiskStatus → CoreState → Result Reply NoMemory → KernelState → Type 0
 AnswersAs old asked before now s t new r k =
     k.now.machine.is_up ≡ true → IsReady k before s → HasEventsLeft k.now → CanBeAsked k.core.now asked → IsSoundFor (page_count k.core.journal.units) k.core.now asked → AreHeldFor k.core asked
-    → (o : Outcome) → IsOverPlaces (byte_at k.core.store.seen) k.core.now (decided k.core.now asked) o → AnswerLeaves o (on k before s) (on (machine_of new) now t) r
+    → (o : Outcome) → IsOverPlaces (byte_at k.core.store.seen) k.core.now (decided k.core.now asked) o → AnswerLeaves (asked_completes asked) (asked_owes_more asked) o (on k before s) (on (machine_of new) now t) r
 
 pub answered-by : StandingLaw → RowsSeen → (k : KernelState) (old new : CoreState) (asked : Asked) (before now : Option DiskState) (s t : DiskStatus) (r : Result Reply NoMemory) → machine_of old ≡ k
-    → CoreLeaves (decided old.now asked) (on old before s) (on new now t) r → KeepsRules (λ rule. AskedPutsBy old.now rule asked) old.now new.now → AnswersAs old asked before now s t new r k
+    → CoreLeaves old.now asked (on old before s) (on new now t) r → KeepsRules (λ rule. AskedPutsBy old.now rule asked) old.now new.now → AnswersAs old asked before now s t new r k
 answered-by law seen k old new asked before now s t r is leaves rules = subst (AnswersAs old asked before now s t new r) is
     (λ up ready left can sound puts o same.
     let core = ready.core up in

@@ -114,6 +114,8 @@ module _ (apart : StatesApart) (x : Present) (process : Pid) (file : Label) (t :
       };
       held = λ o named. from-all (Follows (is_held_at new.marks) o.node) (λ place. IsHeldAt new.marks place) (λ index place. held-rule new.marks o.node index place) start part made.held;
       comes_to = over;
+      completes = refl;
+      owes = refl;
     }
       where
         owners : ℕ → ℕ × ℕ
@@ -180,6 +182,8 @@ cuts-asked units alike x process file size t count store may command target shor
   sound = record { owner = sound.0; files = sound.1; puts = tt };
   held = tt;
   comes_to = command-over units alike (byte_at store.seen) refl x process (SetEndOfFile file size) tt;
+  completes = refl;
+  owes = refl;
 }
   where
     sound : AreSoundFiles (length store.marks.held) x.files

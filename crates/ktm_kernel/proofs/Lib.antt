@@ -2,6 +2,7 @@ pub mod Possible
 pub mod Given
 pub mod Sizes
 pub mod Images
+pub mod Fallen
 pub mod Lifted
 pub mod InBytes
 pub mod Beginning
@@ -21,3 +22,4 @@ pub mod Ready
 pub mod Events
 pub mod Reading
 pub mod Openings
+pub mod offered

@@ -6,7 +6,7 @@ use Rattle.ktm_alike.specs.Alike.{mapped_present}
 use Rattle.ktm_content.specs.Places.{byte_at}
 use Rattle.ktm_core.specs.Answers.{IsAnswered as IsCoreAnswered}
 use Rattle.ktm_core.specs.Core.{CoreState, LeavesEitherPlaces}
-use Rattle.ktm_core.specs.Done.{Ends as CoreEnds, IsCutOff as IsCoreCutOff, IsDone as IsCoreDone, TouchesNothing, fallen}
+use Rattle.ktm_core.specs.Done.{Ends as CoreEnds, IsCutOff as IsCoreCutOff, IsDone as IsCoreDone, TouchesNothing, left_behind}
 use Rattle.ktm_log.specs.OnDisk.{on}
 use Rattle.ktm_paged.specs.Laws.{RowsSeen}
 use Rattle.ktm_core.specs.Logs.{StandsFor}
@@ -18,6 +18,7 @@ use Rattle.ktm_kernel.specs.Answers.{IsAnswered}
 use Rattle.ktm_kernel.specs.Done.{Ends, IsCutOff, IsDone, LeavesEither}
 use Rattle.ktm_kernel.specs.Staging.{IsOverPlaces}
 use Rattle.ktm_kernel.specs.Stands.{IsCoreReady, machine_of}
+use Rattle.ktm_kernel.proofs.Fallen.{left-mapped}
 use Rattle.ktm_kernel.proofs.Images.{left-stands}
 use Rattle.ktm_kernel.proofs.Sizes.{calls-same, no-events}
 
@@ -51,7 +52,7 @@ module _ (seen : RowsSeen) (old new : CoreState) (o asked : Outcome) (over : IsO
     cut : IsCoreCutOff old o reply new before now → IsCutOff (machine_of old) asked reply (machine_of new) before now
     cut is = record {
       says = is.says;
-      state = seen-now (fallen old.now) is.state is.keeps.seen;
+      state = seen-now (left_behind old.now o) is.state is.keeps.seen ∙ left-mapped f old.now o asked over.same.leaves;
       units = is.keeps.units;
       image = is.keeps.image;
       disk = λ holds. IsSomeAnd-map now (LeavesEitherPlaces old.store.seen old.now.recorded (apply old.now o).recorded) (LeavesEither (machine_of old).now.recorded (apply (machine_of old).now asked).recorded) (is.disk holds) either-left;
@@ -62,18 +63,18 @@ module _ (seen : RowsSeen) (old new : CoreState) (o asked : Outcome) (over : IsO
     ends true is = cut is
 
   -- what touches nothing of the bytes touches nothing of the places
-  touches : (reply : Reply) → TouchesNothing asked reply → TouchesNothing o reply
-  touches reply (inl refused) = inl refused
-  touches reply (inr none) = inr (no-events f o.events asked.events over.same.leaves.events none)
+  touches : (owing : Bool) (reply : Reply) → TouchesNothing owing old.journal asked reply → TouchesNothing owing old.journal o reply
+  touches owing reply (inl refused) = inl refused
+  touches owing reply (inr none) = inr (no-events f o.events asked.events over.same.leaves.events none.0, none.1)
 
-  pub lifted : (before now : Option DiskState) (s t : DiskStatus) (reply : Reply) → IsCoreAnswered o (on old before s) (on new now t) reply
+  pub lifted : (completing owing : Bool) (before now : Option DiskState) (s t : DiskStatus) (reply : Reply) → IsCoreAnswered completing owing o (on old before s) (on new now t) reply
       → ((machine_of new).now.machine.is_up ≡ true → IsCoreReady (machine_of new) now t)
-      → IsAnswered asked (on (machine_of old) before s) (on (machine_of new) now t) reply
-  lifted before now s t reply is ready = record {
+      → IsAnswered completing owing asked (on (machine_of old) before s) (on (machine_of new) now t) reply
+  lifted completing owing before now s t reply is ready = record {
     ends = ends reply before now t.is_down is.ends;
     powered = record { power = is.powered.power; settled = is.powered.settled; image = is.powered.image };
     slots = is.slots;
-    calls = calls-same f (machine_of old) o.events asked.events s t t.is_down over.same.leaves.events over.few is.calls;
-    untouched = λ nothing. let un = is.untouched (touches reply nothing) in record { told = un.told; status = un.status };
+    calls = calls-same f completing (machine_of old) o.events asked.events s t t.is_down over.same.leaves.events over.few is.calls;
+    untouched = λ nothing. let un = is.untouched (touches owing reply nothing) in record { told = un.told; status = un.status };
     core = ready;
   }

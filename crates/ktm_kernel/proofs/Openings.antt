@@ -106,33 +106,25 @@ module _ (base : Durable) where
   pub safe_begins : (told : Option DiskState) → IsSomeAnd told (Begins base) → IsSomeAnd told (λ s. (image : List ℕ) → MayLeave s image → BeginsAs base image)
   safe_begins told tells = IsSomeAnd-map told (Begins base) _ tells (λ s begins image left. subst (λ (l : List ℕ). BeginsAs base l) (sym ((safe_law s image begins.0).0 left)) begins.1)
 
-  few_calls : (old new : DiskState) (a b c : DiskStatus) (x y : Bool) → Begins base old → Prepared old new → DeviceCalls (8 * NEW_UNITS + 65) a b x → DeviceCalls (4 * MOST_UNITS + 91) b c y
-      → (0 < length old.seen → b.calls ≤ a.calls + 1) → ((units image selector : ℕ) → IsHeaded units image selector new.seen → c.calls ≤ b.calls + (4 * units + 91))
-      → c.calls ≤ a.calls + (12 * base.units + 156)
-  few_calls old new a b c x y begins prepared first second one few =
-      let is = prepared_base base old new begins prepared in
-      let stands = is.1 in
+  few_calls : (old new : DiskState) (a b c : DiskStatus) (x : Bool) → Begins base old → Prepared old new → DeviceCalls 9 a b x
+      → ((units image selector : ℕ) → IsHeaded units image selector new.seen → c.calls ≤ b.calls + (4 * units + 91))
+      → c.calls ≤ a.calls + (4 * base.units + 100)
+  few_calls old new a b c x begins prepared first few =
+      let stands = (prepared_base base old new begins prepared).1 in
       let units : base.units ≡ stands.places.units = ap (λ (d : Durable). d.units) stands.is in
       let calls : c.calls ≤ b.calls + (4 * base.units + 91) =
       subst (λ n. c.calls ≤ b.calls + (4 * n + 91)) (sym units) (few stands.places.units stands.places.image stands.paged.is.selector stands.paged.is.formatted.headed) in
-      elim prepared [
-        | inl (none, all, made) ↦
-            let new_units : base.units ≡ NEW_UNITS = ap (λ (d : Durable). d.units) (begins_new base old.seen none begins.1) in
-            omega (arith, first.few, calls, new_units)
-        | inr (some, same) ↦
-            let before : b.calls ≤ a.calls + 1 = one some in
-            omega (arith, before, calls)
-      ]
+      omega (arith, first.few, calls)
 
-  opening_counts : (old new : Option DiskState) (a b c : DiskStatus) (x y : Bool) → IsSomeAnd old (Begins base) → Goes Prepared old new → DeviceCalls (8 * NEW_UNITS + 65) a b x → DeviceCalls (4 * MOST_UNITS + 91) b c y
-      → (IsSomeAnd old (λ s. 0 < length s.seen) → b.calls ≤ a.calls + 1) → ((units image selector : ℕ) → IsSomeAnd new (λ s. IsHeaded units image selector s.seen) → c.calls ≤ b.calls + (4 * units + 91))
+  opening_counts : (old new : Option DiskState) (a b c : DiskStatus) (x y : Bool) → IsSomeAnd old (Begins base) → Goes Prepared old new → DeviceCalls 9 a b x → DeviceCalls (4 * MOST_UNITS + 91) b c y
+      → ((units image selector : ℕ) → IsSomeAnd new (λ s. IsHeaded units image selector s.seen) → c.calls ≤ b.calls + (4 * units + 91))
       → OpeningCounts base.units a c
-  opening_counts None new a b c x y tells goes first second one few = absurd tells
-  opening_counts (Some old) None a b c x y tells goes first second one few = absurd goes
-  opening_counts (Some old) (Some new) a b c x y tells goes first second one few = record {
+  opening_counts None new a b c x y tells goes first second few = absurd tells
+  opening_counts (Some old) None a b c x y tells goes first second few = absurd goes
+  opening_counts (Some old) (Some new) a b c x y tells goes first second few = record {
     later = omega (arith, first.later, second.later);
     plan = second.plan ∙ first.plan;
-    few = few_calls old new a b c x y tells goes first second one few;
+    few = few_calls old new a b c x tells goes first few;
   }
 
   -- what begins a run is bad nowhere
@@ -183,13 +175,13 @@ cut_before base (Some old) (Some new) tells goes = elim goes [
 
 -- ---- an opening, by what the restart says
 
-module _ (states : StatesLaw) (bad_images : BadImagesLaw) (old mid new : Option DiskState) (s u t : DiskStatus) (b d : BuffersState) (goes : Goes Prepared old mid) (prepared : DeviceCalls (8 * NEW_UNITS + 65) s u false) where
-  pub opens : (r : Restarted) → IsStarted (on b mid u) (on d new t) r → DeviceCalls (4 * MOST_UNITS + 91) u t false → (IsSomeAnd old (λ s. 0 < length s.seen) → u.calls ≤ s.calls + 1)
+module _ (states : StatesLaw) (bad_images : BadImagesLaw) (old mid new : Option DiskState) (s u t : DiskStatus) (b d : BuffersState) (goes : Goes Prepared old mid) (prepared : DeviceCalls 9 s u false) where
+  pub opens : (r : Restarted) → IsStarted (on b mid u) (on d new t) r → DeviceCalls (4 * MOST_UNITS + 91) u t false
       → ((units image selector : ℕ) → IsSomeAnd mid (λ s. IsHeaded units image selector s.seen) → t.calls ≤ u.calls + (4 * units + 91)) → IsOpened r old new s t
-  opens r is calls one few = record {
+  opens r is calls few = record {
     stands = λ base tells. let start = start_of base tells in (start.stands, start.unworn);
     found = λ base tells. let start = start_of base tells in (start.events_are, start.in_doubt_are);
-    counts = λ base tells. opening_counts base _ _ _ _ _ _ _ tells goes prepared calls one few;
+    counts = λ base tells. opening_counts base _ _ _ _ _ _ _ tells goes prepared calls few;
     ready = is.ready;
     up = is.up;
     fresh = is.counts;
@@ -201,7 +193,7 @@ module _ (states : StatesLaw) (bad_images : BadImagesLaw) (old mid new : Option 
 
   pub not_opened : (most : ℕ) (fault : RestartFault) → NoStartLeaves (on b mid u) (on d new t) fault → (let r : Result ℕ RestartFault = Err fault in DeviceCalls most u t (restart_went_down r)) → NotOpenedLeaves old new s t (open_fault_of fault)
   not_opened most kernel.Down is calls = record {
-    went_down = (calls_law s u t (8 * NEW_UNITS + 65) most true prepared calls).cause refl;
+    went_down = (calls_law s u t 9 most true prepared calls).cause refl;
     leaves = λ base tells. inr (is.leaves base (tells_base base old mid tells goes));
   }
   not_opened most (kernel.Bad offset) is calls =

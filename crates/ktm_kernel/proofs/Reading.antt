@@ -129,8 +129,8 @@ on-err (Err fault) is = is
 
 -- ---- what a read leaves
 
-pub read-answered : (k : KernelState) (told : Option DiskState) (status : DiskStatus) (o : Outcome) (r : Result Reply NoMemory) → k.now.machine.is_up ≡ true → IsReady k told status → IfOk r (λ reply. o ≡ only_reply k.now reply)
-    → AnswerLeaves o (on k told status) (on k told status) r
-read-answered k told status o (Ok reply) up ready is =
-    nothing-answered k o told status reply up ready (sym (ap (λ (o : Outcome). o.reply) is)) (subst (λ (o : Outcome). apply k.now o ≡ k.now) (sym is) (apply-reply k.now reply))
-read-answered k told status o (Err fault) up ready is = record { told = refl; status = refl }
+pub read-answered : (completing owing : Bool) (k : KernelState) (told : Option DiskState) (status : DiskStatus) (o : Outcome) (r : Result Reply NoMemory) → k.now.machine.is_up ≡ true → IsReady k told status → IfOk r (λ reply. o ≡ only_reply k.now reply)
+    → AnswerLeaves completing owing o (on k told status) (on k told status) r
+read-answered completing owing k told status o (Ok reply) up ready is =
+    nothing-answered completing owing k o told status reply up ready (sym (ap (λ (o : Outcome). o.reply) is)) (subst (λ (o : Outcome). apply k.now o ≡ k.now) (sym is) (apply-reply k.now reply))
+read-answered completing owing k told status o (Err fault) up ready is = record { told = refl; status = refl }

@@ -15,7 +15,8 @@ use Rattle.ktm_world.specs.declared.reply.Reply.{Reply}
 use Rattle.ktm_world.specs.declared.reply.Reply.TheVariants.{Refused}
 use Rattle.ktm_world.specs.Values.{IsGiven}
 use Rattle.ktm_world.specs.Decide.{decide}
-use Rattle.ktm_world.specs.Outcome.{Outcome, apply}
+use Rattle.ktm_world.specs.Durable.{Durable}
+use Rattle.ktm_world.specs.Outcome.{Outcome, apply, only_reply}
 use Rattle.ktm_world.specs.Present.{Present}
 use Rattle.ktm_world.specs.World.{World, decide_tick, present}
 use Rattle.ktm_world.proofs.offered.Durables.{after_events-events}
@@ -25,19 +26,17 @@ use Rattle.ktm_records.specs.Spelling.{SpellingLaw, most_at_once}
 use Rattle.ktm_standing.specs.Laws.{KeptLaw, StandingLaw}
 use Rattle.ktm_standing.specs.Standing.{IsStanding, IsStandingNow}
 use Rattle.ktm_standing.proofs.offered.Decided.{decided_law}
-use Rattle.ktm_kernel.specs.Answers.{AnswerLeaves, CallLeaves, IsAnswered, IsLineAnswered}
-use Rattle.ktm_core.specs.Done.{fallen}
+use Rattle.ktm_core.specs.Debts.{completes, may_owe_more}
+use Rattle.ktm_core.specs.Done.{left_behind}
+use Rattle.ktm_kernel.specs.Answers.{AnswerLeaves, CallLeaves, IsAnswered, IsLineAnswered, completes_line, line_owes_more}
 use Rattle.ktm_kernel.specs.Done.{Ends, most_calls}
 use Rattle.ktm_kernel.specs.Reserved.{KeepsReserved}
 use Rattle.ktm_kernel.specs.Stands.{DoesLine, IsPowered, IsReady, KernelAt, KernelState}
+use Rattle.ktm_kernel.proofs.Fallen.{left-off, left-recorded, left-replied}
 use Rattle.ktm_kernel.proofs.Reserved.{call_reserved, tick_reserved}
-use Rattle.ktm_kernel.proofs.Worlds.{DoesCall, GoesOn, call_goes_on, down_call, down_tick, ended_line, tick_goes_on, tick_not_down}
+use Rattle.ktm_kernel.proofs.Worlds.{DoesCall, GoesOn, call_goes_on, down_call, down_refuses, down_tick, ended_line, tick_goes_on, tick_not_down}
 
 -- ---- a machine that is down
-
--- what is so of it is what is so once it is down
-is_fallen : (x : Present) → x.machine.is_up ≡ false → x ≡ fallen x
-is_fallen x off i = record x { machine = record x.machine { is_up = off i } }
 
 -- a machine that is down owes its disk nothing
 pub unpowered : (k : KernelState) (told : Option DiskState) (status : DiskStatus) → k.now.machine.is_up ≡ false → IsPowered k told status
@@ -65,7 +64,7 @@ off_ready k told status off = record {
 ends_standing : (is_down : Bool) (old new : KernelState) (o : Outcome) (reply : Reply) (before now : Option DiskState)
     → IsStandingNow (apply old.now o) → Ends is_down old o reply new before now → new.now.machine.is_up ≡ true → IsStandingNow new.now
 ends_standing false old new o reply before now standing done on = subst IsStandingNow (sym done.state) standing
-ends_standing true old new o reply before now standing cut on = let off = sym on ∙ ap (λ x. x.machine.is_up) cut.state in absurd (cc)
+ends_standing true old new o reply before now standing cut on = let off = sym on ∙ ap (λ (x : Present). x.machine.is_up) cut.state ∙ left-off old.now o in absurd (cc)
 
 -- few events more were recorded
 ends_counts : (is_down : Bool) (old new : KernelState) (o : Outcome) (reply : Reply) (before now : Option DiskState) → length o.events ≤ most_at_once → Ends is_down old o reply new before now
@@ -74,7 +73,7 @@ ends_counts false old new o reply before now few done =
     let then = ap (λ (x : Present). x.recorded.events) done.state in
     let all = after_events-events old.now.recorded o.events in
     omega (arith, few, then, all)
-ends_counts true old new o reply before now few cut = let then = ap (λ (x : Present). x.recorded.events) cut.state in omega (arith, then)
+ends_counts true old new o reply before now few cut = let then = ap (λ (x : Present). x.recorded.events) cut.state ∙ ap (λ (d : Durable). d.events) (left-recorded old.now o) in omega (arith, then)
 
 -- a reply that says that the machine is down has a cause
 down_cause : (most : ℕ) (is_down : Bool) (old new : KernelState) (o : Outcome) (reply : Reply) (before now : Option DiskState) (a b : DiskStatus)
@@ -88,7 +87,7 @@ down_cause most true old new o reply before now a b other on cut calls is = elim
 
 -- the reply and what is so then are the outcome's, or the machine went down and says so
 ends_says : (is_down : Bool) (old new : KernelState) (o : Outcome) (reply : Reply) (before now : Option DiskState) → Ends is_down old o reply new before now
-    → ((reply ≡ o.reply) × (new.now ≡ apply old.now o)) ⊎ ((reply ≡ Refused MachineDown) × (new.now ≡ fallen old.now))
+    → ((reply ≡ o.reply) × (new.now ≡ apply old.now o)) ⊎ ((reply ≡ Refused MachineDown) × (new.now ≡ left_behind old.now o))
 ends_says false old new o reply before now done = inl (done.says, done.state)
 ends_says true old new o reply before now cut = inr (cut.says, cut.state)
 
@@ -103,11 +102,11 @@ module _ (line : Line) (decides : Present → Outcome) (does : (w : World) (k : 
   -- while the machine is up, for each world that it stands for
   up_answered : ((w : World) → HasEventsLeft (present w) → IsStanding w → GoesOn w (decides (present w))) → (old new : OnDisk KernelState) → old.it.now.machine.is_up ≡ true → IsReady old.it old.told old.status
       → HasEventsLeft old.it.now → length (decides old.it.now).events ≤ most_at_once → IsStandingNow (apply old.it.now (decides old.it.now)) → (decides old.it.now).reply ≢ Refused MachineDown
-      → (reply : Reply) → KeepsReserved line old.it.now new.it.now → IsAnswered (decides old.it.now) old new reply → IsLineAnswered line (decides old.it.now) old new reply
+      → (reply : Reply) → KeepsReserved line old.it.now new.it.now → IsAnswered (completes_line line) (line_owes_more line) (decides old.it.now) old new reply → IsLineAnswered line (decides old.it.now) old new reply
   up_answered goes_on old new up ready left few standing other reply reserved answered = record {
     does = λ w at. does w new.it new.told reply (ended_line decides new.status.is_down old.it new.it reply old.told new.told up left goes_on answered.ends w at);
     says = ends_says new.status.is_down old.it new.it (decides old.it.now) reply old.told new.told answered.ends;
-    cause = down_cause (most_calls old.it (decides old.it.now).events) new.status.is_down old.it new.it (decides old.it.now) reply old.told new.told old.status new.status other (ready.powered.power up) answered.ends answered.calls;
+    cause = down_cause (most_calls (completes_line line) old.it (decides old.it.now).events) new.status.is_down old.it new.it (decides old.it.now) reply old.told new.told old.status new.status other (ready.powered.power up) answered.ends answered.calls;
     ready = record {
       powered = answered.powered;
       standing = ends_standing new.status.is_down old.it new.it (decides old.it.now) reply old.told new.told standing answered.ends;
@@ -122,10 +121,10 @@ module _ (line : Line) (decides : Present → Outcome) (does : (w : World) (k : 
 
   -- while it is down, when nothing is done
   down_answered : (old : OnDisk KernelState) → ((w : World) → KernelAt old.it old.told w → DoesCall w (decides (present w)) (Refused MachineDown) old.it old.told)
-      → old.it.now.machine.is_up ≡ false → IsReady old.it old.told old.status → IsLineAnswered line (decides old.it.now) old old (Refused MachineDown)
-  down_answered old stays off ready = record {
+      → old.it.now.machine.is_up ≡ false → decides old.it.now ≡ only_reply old.it.now (Refused MachineDown) → IsReady old.it old.told old.status → IsLineAnswered line (decides old.it.now) old old (Refused MachineDown)
+  down_answered old stays off refuses ready = record {
     does = λ w at. does w old.it old.told (Refused MachineDown) (stays w at);
-    says = inr (refl, is_fallen old.it.now off);
+    says = inr (refl, left-replied old.it.now (Refused MachineDown) off ∙ ap (left_behind old.it.now) (sym refuses));
     cause = λ is. inl off;
     ready = ready;
     calls = record { later = omega arith; counted = omega arith; few = omega arith; cause = λ refused. inl refused; down = or_same old.status.is_down; plan = refl; places = refl };
@@ -136,7 +135,7 @@ module _ (line : Line) (decides : Present → Outcome) (does : (w : World) (k : 
 
 -- a call of a process
 pub call_answered : StandingLaw → ReservedFilesLaw → KeptLaw → SpellingLaw → (process : Pid) (command : Command) → IsGiven command → (old new : OnDisk KernelState) → old.it.now.machine.is_up ≡ true → IsReady old.it old.told old.status
-    → HasEventsLeft old.it.now → (r : Result Reply NoMemory) → AnswerLeaves (decide old.it.now process command) old new r → CallLeaves process command old new r
+    → HasEventsLeft old.it.now → (r : Result Reply NoMemory) → AnswerLeaves (completes command) (may_owe_more command) (decide old.it.now process command) old new r → CallLeaves process command old new r
 call_answered law reserves keeps spelling process command can old new up ready left (Ok reply) answered =
     let kept = keeps old.it.now (ready.standing up) in
     up_answered (Process process command) (λ x. decide x process command) (λ w k told r does. does) (call_goes_on law process command can) old new up ready left
@@ -147,11 +146,11 @@ call_answered law reserves keeps spelling process command can old new up ready l
 pub call_down : (process : Pid) (command : Command) (old : OnDisk KernelState) → old.it.now.machine.is_up ≡ false → IsReady old.it old.told old.status
     → IsLineAnswered (Process process command) (decide old.it.now process command) old old (Refused MachineDown)
 call_down process command old off ready =
-    down_answered (Process process command) (λ x. decide x process command) (λ w k told r does. does) old (down_call old.it old.told process command off) off ready
+    down_answered (Process process command) (λ x. decide x process command) (λ w k told r does. does) old (down_call old.it old.told process command off) off (decided_law.refused old.it.now process command MachineDown (down_refuses old.it.now process command off)) ready
 
 -- the passing of time
 pub tick_answered : StandingLaw → ReservedFilesLaw → KeptLaw → SpellingLaw → (ms : ℕ) (old new : OnDisk KernelState) → old.it.now.machine.is_up ≡ true → IsReady old.it old.told old.status
-    → HasEventsLeft old.it.now → (reply : Reply) → IsAnswered (decide_tick old.it.now ms) old new reply → IsLineAnswered (Tick ms) (decide_tick old.it.now ms) old new reply
+    → HasEventsLeft old.it.now → (reply : Reply) → IsAnswered true false (decide_tick old.it.now ms) old new reply → IsLineAnswered (Tick ms) (decide_tick old.it.now ms) old new reply
 tick_answered law reserves keeps spelling ms old new up ready left reply answered =
     let kept = keeps old.it.now (ready.standing up) in
     up_answered (Tick ms) (λ x. decide_tick x ms) (λ w k told r does. does) (tick_goes_on law ms) old new up ready left
@@ -159,4 +158,4 @@ tick_answered law reserves keeps spelling ms old new up ready left reply answere
     (tick_reserved reserves ms new.status.is_down old.it new.it reply old.told new.told kept answered.ends) answered
 
 pub tick_down : (ms : ℕ) (old : OnDisk KernelState) → old.it.now.machine.is_up ≡ false → IsReady old.it old.told old.status → IsLineAnswered (Tick ms) (decide_tick old.it.now ms) old old (Refused MachineDown)
-tick_down ms old off ready = down_answered (Tick ms) (λ x. decide_tick x ms) (λ w k told r does. does) old (down_tick old.it old.told ms off) off ready
+tick_down ms old off ready = down_answered (Tick ms) (λ x. decide_tick x ms) (λ w k told r does. does) old (down_tick old.it old.told ms off) off (decided_law.no_time old.it.now ms off) ready

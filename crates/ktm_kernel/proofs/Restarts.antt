@@ -9,7 +9,8 @@ use Rattle.ktm_base.proofs.offered.ToldSteps.{IfSome-map, IfSome-step, IsSomeAnd
 use Rattle.ktm_alike.specs.Alike.{mapped_present}
 use Rattle.ktm_alike.specs.Laws.{AlikeLaw}
 use Rattle.ktm_content.specs.Places.{byte_at}
-use Rattle.ktm_core.specs.Core.{AreSoundFiles, ArePlacesStored, HoldsPlaces, PagesAgree, core_of}
+use Rattle.ktm_core.specs.Core.{AreSoundFiles, ArePlacesStored, HoldsPlaces, PagesAgree, core_of, log_left}
+use Rattle.ktm_core.specs.Debts.{DebtsLaw, debts}
 use Rattle.ktm_core.specs.Starting.{Begun, IsOnStart, ListsStart, LeavesOwnOrNot as LeavesPlaces, started as what_starts}
 use Rattle.ktm_core.proofs.offered.Places.{files-weaker, durable-weaker, recorded-each}
 use Rattle.ktm_each.specs.Each.{EachOfFiles}
@@ -30,7 +31,7 @@ use Rattle.ktm_core.specs.Loads.{IsBadImage, IsJournalOf, IsLoaded}
 use Rattle.ktm_core.specs.Loaded.{Loaded}
 use Rattle.ktm_core.specs.Logs.{IsSafeFor, JournalFor, PagedFor, StandsFor, bytes_seen}
 use Rattle.ktm_slots.specs.Owed.{owed_slots}
-use Rattle.ktm_standing.specs.Laws.{FreshLaw, StandingLaw}
+use Rattle.ktm_standing.specs.Laws.{FreshLaw, KeptLaw, StandingLaw}
 use Rattle.ktm_standing.specs.Standing.{IsStandingNow, fresh}
 use Rattle.ktm_store.specs.Store.{IsStoredAt, StoreState, page_at}
 use Rattle.ktm_store.proofs.offered.Holding.{byte-same}
@@ -258,18 +259,23 @@ module _ {Z : Type 0} (most : ℕ) (old mid : OnDisk (Vec ℕ Z)) (loaded : Load
           subst (λ (x : Present). owed_slots x ≤ n.tm.slots) (sym places_now)
           (subst (λ slots. owed_slots (fresh loaded.state) ≤ slots) (sym (ap (λ (k : MemoryState). k.tm.slots) b.leaves.journal)) begun.slots)
 
+      -- its log has room for what transactions may still record
+      room_left : FreshLaw → KeptLaw → DebtsLaw → debts (present_of n) + 1 ≤ log_left n.journal
+      room_left begins keeps owes = omega (arith, owes.most (present_of n) (keeps (present_of n) (standing_places begins)), b.leaves.left)
+
       sound_then : AreSoundFiles (page_count n.journal.units) (files_of n.files)
       sound_then =
           subst (λ u. AreSoundFiles (page_count u) (files_of n.files)) (sym b.leaves.units)
           (subst (AreSoundFiles (page_count m.journal.units)) (sym same_files) sound_begun)
 
-      core_ready : FreshLaw → IsCoreReady (machine_of (core_of n store)) new.told new.status
-      core_ready begins = record {
+      core_ready : FreshLaw → KeptLaw → DebtsLaw → IsCoreReady (machine_of (core_of n store)) new.told new.status
+      core_ready begins keeps owes = record {
         is = refl;
         ready = record {
           powered = record { power = λ up. b.leaves.synced.up; settled = λ up. b.leaves.synced.pending; image = λ up. b.leaves.headed; wanted = λ up. b.pages.wanted };
           standing = standing_places begins;
           slots = slots_here;
+          room = room_left begins keeps owes;
         };
         count = b.count ∙ ap page_count (sym b.leaves.units);
         sound = sound_then;
@@ -284,7 +290,7 @@ module _ {Z : Type 0} (most : ℕ) (old mid : OnDisk (Vec ℕ Z)) (loaded : Load
       standing mapped alike begins =
           subst IsStandingNow (sym (now_is alike begins)) (begins.stands (mapped_durable f loaded.state) ((mapped f refl).2.good loaded.state is.state.good) (texts-mapped f loaded.state is.state.texts) is.state.most unworn)
 
-      module _ (r : Restarted) (kernel : r.kernel ≡ machine_of (core_of n store)) (states : PlacesLaw) (seen : SeenLaw) (mapped : MappedLaw) (alike : AlikeLaw) (begins : FreshLaw) where
+      module _ (r : Restarted) (kernel : r.kernel ≡ machine_of (core_of n store)) (states : PlacesLaw) (seen : SeenLaw) (mapped : MappedLaw) (alike : AlikeLaw) (begins : FreshLaw) (keeps : KeptLaw) (owes : DebtsLaw) where
         -- the machine is this one
         by_machine : (P : KernelState → Type 0) → P (machine_of (core_of n store)) → P r.kernel
         by_machine P there = subst P (sym kernel) there
@@ -318,7 +324,7 @@ module _ {Z : Type 0} (most : ℕ) (old mid : OnDisk (Vec ℕ Z)) (loaded : Load
             };
             standing = λ up. by_machine (λ k. IsStandingNow k.now) (standing mapped alike begins);
             slots = λ up. by_machine (λ k. owed_slots k.now ≤ k.slots) slots_here;
-            core = λ up. by_machine (λ k. IsCoreReady k new.told new.status) (core_ready begins);
+            core = λ up. by_machine (λ k. IsCoreReady k new.told new.status) (core_ready begins keeps owes);
           };
           up = by_machine (λ k. k.now.machine.is_up ≡ true) (ap (λ (x : Present). x.machine.is_up) places_now);
           counts = by_machine (λ k. IsFreshlyCounted k.now) (subst IsFreshlyCounted (sym places_now) (own-counts spelling loaded.state is.state.good unworn));

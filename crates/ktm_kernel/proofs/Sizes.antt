@@ -1,17 +1,19 @@
 -- What is recorded of bytes takes as many device calls as what is recorded of their places.
-use Rattle.std.proofs.Common.{◌≡◌, ℕ, ◌+◌, ◌-◌, ◌*◌, ◌/◌, ◌≤◌, nat_lt, Bool, true, false, List, [], ◌∷◌, map, refl, sym, ◌∙◌, ap, arith, inl, inr}
+use Rattle.std.proofs.Common.{◌≡◌, ℕ, ◌+◌, ◌*◌, ◌/◌, ◌≤◌, nat_lt, Bool, true, false, List, [], ◌∷◌, map, refl, sym, ◌∙◌, ap, arith, inl, inr}
 use Rattle.std.specs.Prelude.{sum_by}
 use Rattle.std.proofs.Math.Nat.{min-le_right}
 use Rattle.std.proofs.lemmas.Bool.{cases_Bool}
 use Rattle.std.proofs.lemmas.List.{length-map}
 use Rattle.std.proofs.lemmas.List.Sums.{sum_by-cons}
 use Rattle.ktm_base.specs.Disk.{DeviceCalls, DiskStatus}
-use Rattle.ktm_core.specs.Done.{most_calls as most_core_calls}
-use Rattle.ktm_journal.specs.Append.{has_no_room}
+use Rattle.ktm_core.specs.Core.{log_left}
+use Rattle.ktm_core.specs.Debts.{most_debts}
+use Rattle.ktm_core.specs.Done.{lacks_room, most_calls as most_core_calls}
+use Rattle.ktm_journal.specs.Image.{JournalState}
 use Rattle.ktm_mapped.specs.Mapped.{mapped_change, mapped_contents, mapped_event, mapped_group, mapped_part}
 use Rattle.ktm_core.specs.Stored.{units_of_change, units_put}
 use Rattle.txf_laws.specs.Grammatical.{changes_of_event}
-use Rattle.ktm_world.specs.Groups.{Group, is_full}
+use Rattle.ktm_world.specs.Groups.{Group}
 use Rattle.ktm_world.specs.Sizes.{change_size, event_size, frame_size, part_size, put_size}
 use Rattle.ktm_world.specs.declared.change.Change.{Change}
 use Rattle.ktm_world.specs.declared.change.Change.TheVariants.{Make, Put, Cut, Move, Drop}
@@ -125,19 +127,20 @@ module _ (f : ℕ → ℕ) where
 
   -- ---- device calls
 
-  full-same : (left : ℕ) (events : Group) → is_full left (mapped_group f events) ≡ is_full left events
-  full-same left [] = refl
-  full-same left (e ∷ es) = ap (λ n. nat_lt left (n + 1)) (frame-same (e ∷ es))
+  lacks-same : (journal : JournalState) (events : Group) → lacks_room journal (mapped_group f events) ≡ lacks_room journal events
+  lacks-same journal [] = refl
+  lacks-same journal (e ∷ es) = ap (λ n. nat_lt (log_left journal) (n + most_debts journal.units + 1)) (frame-same (e ∷ es))
 
   -- what is recorded of the bytes takes no more
-  most-enough : (k : KernelState) (events asked : Group) → AreEventsSame f events asked → units_put events ≤ units_written k.now asked → most_core_calls k.journal events ≤ most_calls k asked
-  most-enough k events asked same few = elim (cases_Bool (is_write asked)) [
-    | inl write ↦ rw write (elim (cases_Bool (has_no_room k.journal events)) [
+  most-enough : (completing : Bool) (k : KernelState) (events asked : Group) → AreEventsSame f events asked → units_put events ≤ units_written k.now asked → most_core_calls completing k.journal events ≤ most_calls completing k asked
+  most-enough true k events asked same few = omega (arith, few)
+  most-enough false k events asked same few = elim (cases_Bool (is_write asked)) [
+    | inl write ↦ rw write (elim (cases_Bool (lacks_room k.journal events)) [
       | inl full ↦ rw full (omega (arith, few))
       | inr room ↦ rw room (omega (arith, few))
     ])
     | inr other ↦ rw other (elim same [
-      | inl is ↦ rw (ap (has_no_room k.journal) is ∙ full-same (k.journal.log.area.len - k.journal.log.end) events) (elim (cases_Bool (has_no_room k.journal events)) [
+      | inl is ↦ rw (ap (lacks_room k.journal) is ∙ lacks-same k.journal events) (elim (cases_Bool (lacks_room k.journal events)) [
         | inl full ↦ rw full (omega (arith, few))
         | inr room ↦ rw room (omega (arith, few))
       ])
@@ -145,6 +148,6 @@ module _ (f : ℕ → ℕ) where
     ])
   ]
 
-  pub calls-same : (k : KernelState) (events asked : Group) (s t : DiskStatus) (refused : Bool) → AreEventsSame f events asked → units_put events ≤ units_written k.now asked
-      → DeviceCalls (most_core_calls k.journal events) s t refused → DeviceCalls (most_calls k asked) s t refused
-  calls-same k events asked s t refused same few calls = more_calls (most_core_calls k.journal events) (most_calls k asked) s t refused (most-enough k events asked same few) calls
+  pub calls-same : (completing : Bool) (k : KernelState) (events asked : Group) (s t : DiskStatus) (refused : Bool) → AreEventsSame f events asked → units_put events ≤ units_written k.now asked
+      → DeviceCalls (most_core_calls completing k.journal events) s t refused → DeviceCalls (most_calls completing k asked) s t refused
+  calls-same completing k events asked s t refused same few calls = more_calls (most_core_calls completing k.journal events) (most_calls completing k asked) s t refused (most-enough completing k events asked same few) calls

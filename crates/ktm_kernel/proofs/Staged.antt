@@ -9,7 +9,7 @@ use Rattle.ktm_alike.specs.Alike.{mapped_present}
 use Rattle.ktm_content.specs.Places.{byte_at}
 use Rattle.ktm_core.specs.Core.{HoldsPlaces, core_of}
 use Rattle.ktm_core.proofs.offered.Places.{durable-both}
-use Rattle.ktm_core.specs.Done.{fallen}
+use Rattle.ktm_core.specs.Done.{TouchesNothing, left_behind}
 use Rattle.ktm_each.specs.Each.{EachOfDurable}
 use Rattle.ktm_journal.specs.Image.{JournalState}
 use Rattle.ktm_log.specs.OnDisk.{OnDisk, on}
@@ -63,6 +63,7 @@ module _ (seen : SeenLaw) (m : MemoryState) (old new : StoreState) (keeps : Keep
           powered = record { power = core.ready.powered.power; settled = core.ready.powered.settled; image = core.ready.powered.image; wanted = λ on. keeps.wanted ∙ core.ready.powered.wanted on };
           standing = core.ready.standing;
           slots = core.ready.slots;
+          room = core.ready.room;
         };
         count = keeps.count ∙ core.count;
         sound = core.sound;
@@ -96,27 +97,28 @@ ends-before false a b n o reply before now was done = record {
 }
 ends-before true a b n o reply before now was cut = record {
   says = cut.says;
-  state = cut.state ∙ ap fallen was.now;
+  state = cut.state ∙ ap (λ (x : Present). left_behind x o) was.now;
   units = cut.units ∙ ap (λ (j : JournalState). j.units) was.journal;
   image = cut.image ∙ ap (λ (j : JournalState). j.image) was.journal;
   disk = λ holds. subst (λ (x : Present). IsSomeAnd now (LeavesEither x.recorded (apply x o).recorded)) was.now (cut.disk (IsSomeAnd-map before (HoldsRecorded a) (HoldsRecorded b) holds was.disk));
 }
 
-pub leaves-before : (a b : KernelState) (o : Outcome) (before : Option DiskState) (s : DiskStatus) (new : OnDisk KernelState) (r : Result Reply NoMemory) → IsAsItWas a b → AnswerLeaves o (on b before s) new r → AnswerLeaves o (on a before s) new r
-leaves-before a b o before s new (Ok reply) was is = record {
+pub leaves-before : (completing owing : Bool) (a b : KernelState) (o : Outcome) (before : Option DiskState) (s : DiskStatus) (new : OnDisk KernelState) (r : Result Reply NoMemory) → IsAsItWas a b
+    → AnswerLeaves completing owing o (on b before s) new r → AnswerLeaves completing owing o (on a before s) new r
+leaves-before completing owing a b o before s new (Ok reply) was is = record {
   ends = ends-before new.status.is_down a b new.it o reply before new.told was is.ends;
   powered = is.powered;
   slots = is.slots;
-  calls = subst (λ most. DeviceCalls most s new.status new.status.is_down) (λ i. most_calls (record a { now = was.now i; journal = was.journal i }) o.events) is.calls;
-  untouched = λ nothing. let un = is.untouched nothing in record { told = un.told; status = un.status };
+  calls = subst (λ most. DeviceCalls most s new.status new.status.is_down) (λ i. most_calls completing (record a { now = was.now i; journal = was.journal i }) o.events) is.calls;
+  untouched = λ nothing. let un = is.untouched (subst (λ (j : JournalState). TouchesNothing owing j o reply) (sym was.journal) nothing) in record { told = un.told; status = un.status };
   core = is.core;
 }
-leaves-before a b o before s new (Err fault) was is = record { told = is.told; status = is.status }
+leaves-before completing owing a b o before s new (Err fault) was is = record { told = is.told; status = is.status }
 
 -- an answer that changed nothing
-pub nothing-answered : (k : KernelState) (o : Outcome) (told : Option DiskState) (status : DiskStatus) (reply : Reply) → k.now.machine.is_up ≡ true → IsReady k told status → reply ≡ o.reply → apply k.now o ≡ k.now
-    → AnswerLeaves o (on k told status) (on k told status) (Ok reply)
-nothing-answered k o told status reply up ready says same = record {
+pub nothing-answered : (completing owing : Bool) (k : KernelState) (o : Outcome) (told : Option DiskState) (status : DiskStatus) (reply : Reply) → k.now.machine.is_up ≡ true → IsReady k told status → reply ≡ o.reply → apply k.now o ≡ k.now
+    → AnswerLeaves completing owing o (on k told status) (on k told status) (Ok reply)
+nothing-answered completing owing k o told status reply up ready says same = record {
   ends = subst (λ b. Ends b k o reply k told told) (sym (ready.powered.power up)) (record { is = (ready.core up).is; says = says; state = sym same; units = refl; image = refl; disk = λ holds. holds });
   powered = ready.powered;
   slots = ready.slots;
@@ -130,9 +132,9 @@ nothing-answered k o told status reply up ready says same = record {
     or-same false = refl
 
 -- what is refused is answered so
-pub refused-answered : (k : KernelState) (told : Option DiskState) (status : DiskStatus) (refusal : Refusal) → k.now.machine.is_up ≡ true → IsReady k told status → (outcome : Present → Outcome) → IsStaged k.core.now k.core.store (Refuse refusal) outcome
-    → AnswerLeaves (outcome k.now) (on k told status) (on k told status) (Ok (Refused refusal))
-refused-answered k told status refusal up ready outcome same = nothing-answered k (outcome k.now) told status (Refused refusal) up ready says stays
+pub refused-answered : (completing owing : Bool) (k : KernelState) (told : Option DiskState) (status : DiskStatus) (refusal : Refusal) → k.now.machine.is_up ≡ true → IsReady k told status → (outcome : Present → Outcome) → IsStaged k.core.now k.core.store (Refuse refusal) outcome
+    → AnswerLeaves completing owing (outcome k.now) (on k told status) (on k told status) (Ok (Refused refusal))
+refused-answered completing owing k told status refusal up ready outcome same = nothing-answered completing owing k (outcome k.now) told status (Refused refusal) up ready says stays
   where
     now : k.now ≡ mapped_present (byte_at k.core.store.seen) k.core.now
     now = ap (λ (l : KernelState). l.now) (ready.core up).is
@@ -144,8 +146,9 @@ refused-answered k told status refusal up ready outcome same = nothing-answered 
     stays = subst (λ (x : Present). apply x (outcome x) ≡ x) (sym now) (same.leaves.comes_to ∙ ap (mapped_present (byte_at k.core.store.seen)) (apply-reply k.core.now (Refused refusal)))
 
 -- what was staged is answered as of the machine before
-pub staged-leaves : (a b : KernelState) (outcome : Present → Outcome) (before : Option DiskState) (s : DiskStatus) (new : OnDisk KernelState) (r : Result Reply NoMemory) → IsAsItWas a b → AnswerLeaves (outcome b.now) (on b before s) new r → AnswerLeaves (outcome a.now) (on a before s) new r
-staged-leaves a b outcome before s new r was leaves = leaves-before a b (outcome a.now) before s new r was (subst (λ (x : Present). AnswerLeaves (outcome x) (on b before s) new r) was.now leaves)
+pub staged-leaves : (completing owing : Bool) (a b : KernelState) (outcome : Present → Outcome) (before : Option DiskState) (s : DiskStatus) (new : OnDisk KernelState) (r : Result Reply NoMemory) → IsAsItWas a b
+    → AnswerLeaves completing owing (outcome b.now) (on b before s) new r → AnswerLeaves completing owing (outcome a.now) (on a before s) new r
+staged-leaves completing owing a b outcome before s new r was leaves = leaves-before completing owing a b (outcome a.now) before s new r was (subst (λ (x : Present). AnswerLeaves completing owing (outcome x) (on b before s) new r) was.now leaves)
 
 -- what is so is so out of memory
 pub on-err : {T E P : Type 0} (r : Result T E) → P → OnErr r P

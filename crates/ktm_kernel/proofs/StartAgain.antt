@@ -15,11 +15,11 @@ use Rattle.ktm_world.specs.declared.command.Line.TheVariants.{Restart}
 use Rattle.ktm_world.specs.declared.reply.Reply.{Reply}
 use Rattle.ktm_world.specs.declared.reply.Reply.TheVariants.{BadImage, Refused, Restarted}
 use Rattle.ktm_world.specs.Durable.{Durable, is_worn, stand}
-use Rattle.ktm_world.specs.World.{World, present, own_group, opened, possible_logs, interrupted_restart, found_worn, is_worn_log, with_own}
+use Rattle.ktm_world.specs.World.{World, own_group, opened, possible_logs, interrupted_restart, found_worn, is_worn_log, with_own}
 use Rattle.ktm_laws.specs.Running.{is_good_log}
 use Rattle.ktm_laws.proofs.offered.PossibleLogs.{contains-passes}
 use Rattle.ktm_standing.specs.Laws.{StandingLaw}
-use Rattle.ktm_world.specs.Logs.{Group, down, is_up}
+use Rattle.ktm_world.specs.Logs.{Group, is_up}
 use Rattle.ktm_world.specs.Transcript.{Step, interrupted, found, worn, RestartDoes, StartDoes}
 use Rattle.ktm_world.proofs.offered.Durables.{stand-append, stand-units}
 use Rattle.ktm_log.specs.OnDisk.{on}
@@ -33,20 +33,18 @@ use Rattle.ktm_kernel.specs.Stands.{KernelState, HasFallen, StandsBy, LeavesStat
 use Rattle.ktm_kernel.proofs.Possible.{first_is, Contains-filter, Contains-map, in_first, in_second}
 use Rattle.ktm_kernel.proofs.Ready.{off_ready}
 
--- what is so now of a machine that is down is the same, whatever is possible on its disk
-off_present : (w : World) → is_up w.power ≡ false → (may : List (List Group)) → present w ≡ present (record w { power = down may })
-off_present w off may i = record (present w) { machine = record { is_up = off i } }
-
 pub power_law : StandingLaw → PowerLaw
 power_law law k old new w off at = (
   λ restored. record {
     off = off;
-    now = fallen.now;
+    down = fallen.off;
+    recorded = fallen.recorded;
     standing = fallen.standing;
     disk = IsSomeAnd-step old new (LeavesStates w) _ fallen.disk restored (λ a b leaves back. (back.safe, leaves b.seen back.left));
   },
   λ failed. record {
-    now = fallen.now ∙ off_present w off (possible_logs (interrupted_restart w));
+    off = fallen.off;
+    recorded = fallen.recorded;
     standing = law.interrupted_restarts w fallen.standing;
     disk = IsSomeAnd-step old new (LeavesStates w) (LeavesStates (interrupted_restart w)) fallen.disk failed (λ a b leaves again image may.
         let (log, possible, stands) = leaves image ((images_power_law a b image may).1 again) in
@@ -86,7 +84,8 @@ module _ (law : StandingLaw) (k : KernelState) (told now : Option DiskState) (w 
     interrupted_restart w,
     off_does interrupted (Refused MachineDown) (interrupted_restart w) (refl, refl),
     record {
-      now = at.now ∙ off_present w at.off (possible_logs (interrupted_restart w));
+      off = at.down;
+      recorded = at.recorded;
       standing = law.interrupted_restarts w at.standing;
       disk = IsSomeAnd-map now (LeavesOwnOrNot (stand w.base log)) (LeavesStates (interrupted_restart w)) leaves (λ s either image may. elim (either image may) [
         | inl without ↦ (log, in_first (possible_logs w) _ log possible, without)
@@ -105,7 +104,8 @@ module _ (law : StandingLaw) (k : KernelState) (told now : Option DiskState) (w 
     found_worn w log,
     off_does (worn log) (Refused ImageWorn) (found_worn w log) (record { possible = possible; worn = is }, refl, refl),
     record {
-      now = at.now ∙ off_present w at.off (log ∷ []);
+      off = at.down;
+      recorded = at.recorded;
       standing = law.worn_restarts w log (record { possible = possible; worn = is }) at.standing;
       disk = IsSomeAnd-map now (IsSafeFor (stand w.base log)) (LeavesStates (found_worn w log)) holds
           (λ s held image may. (log, first_is log [], subst (λ (l : List ℕ). StandsFor (stand w.base log) l) (sym ((safe_law s image held.0).0 may)) held.1));

@@ -16,7 +16,7 @@ use Rattle.ktm_world.specs.declared.reply.Reply.TheVariants.{Refused, Done}
 use Rattle.ktm_world.specs.Values.{IsGiven}
 use Rattle.ktm_world.specs.Decide.{command_tests, decide, refusal_of}
 use Rattle.ktm_world.specs.Durable.{Durable, stand}
-use Rattle.ktm_world.specs.Logs.{Group, Power, up, down, is_up, as_groups, prefixes_from}
+use Rattle.ktm_world.specs.Logs.{Group, up, is_up, as_groups, prefixes_from}
 use Rattle.ktm_world.specs.Outcome.{Outcome, apply, first_refusal}
 use Rattle.ktm_world.specs.Present.{Present}
 use Rattle.ktm_world.specs.Transcript.{Step, answered, interrupted, CallDoes, CrashDoes}
@@ -28,18 +28,10 @@ use Rattle.ktm_standing.proofs.offered.Decided.{decided_law, done_tick}
 use Rattle.ktm_kernel.specs.Stands.{KernelState, Stands, StandsBy, KernelAt, LeavesStates, DoesLine}
 use Rattle.ktm_core.specs.Done.{fallen}
 use Rattle.ktm_kernel.specs.Done.{IsDone, IsCutOff, Ends, LeavesEither}
+use Rattle.ktm_kernel.proofs.Fallen.{left-off, left-recorded}
 use Rattle.ktm_kernel.proofs.Left.{left_up}
+use Rattle.ktm_kernel.proofs.offered.Standing.{stands_up, up_is}
 use Rattle.ktm_kernel.proofs.Possible.{log_possible, groups_possible}
-
--- what is so is that of the world, on or off
-pub now_is : (power : Power) (k : KernelState) (told : Option DiskState) (w : World) → StandsBy (is_up power) k told w → k.now ≡ present w
-now_is up k told w stands = stands.now
-now_is (down may) k told w fallen = fallen.now
-
--- a machine that is up stands for a world that is up
-pub up_by : (power : Power) (k : KernelState) (told : Option DiskState) (w : World) → w.power ≡ power → StandsBy (is_up power) k told w → k.now.machine.is_up ≡ true → (w.power ≡ up) × Stands k told w
-up_by up k told w is stands on = (is, stands)
-up_by (down may) k told w is fallen on = let off = sym on ∙ ap (λ x. x.machine.is_up) fallen.now ∙ ap is_up is in absurd (cc)
 
 -- where the machine is up the passing of time does not say that it is down
 pub tick_not_down : (x : Present) (ms : ℕ) → x.machine.is_up ≡ true → (decide_tick x ms).reply ≢ Refused MachineDown
@@ -103,17 +95,27 @@ module _ (old new : KernelState) (o : Outcome) (reply : Reply) (before now : Opt
       kept log there = subst (λ n. Contains (prefixes_from n (w.log ++ as_groups o.events)) log) (sym stands.standing.running.kept) there
 
   pub cut_line : IsCutOff old o reply new before now → DoesCall w o reply new now
-  cut_line cut = (interrupted, interrupted_by w o, (ap is_up on, cut.says, refl), record { now = cut.state ∙ ap fallen stands.now; standing = keeps.falls; disk = left cut })
+  cut_line cut = (
+    interrupted,
+    interrupted_by w o,
+    (ap is_up on, cut.says, refl),
+    record {
+      off = ap (λ (x : Present). x.machine.is_up) cut.state ∙ left-off old.now o;
+      recorded = ap (λ (x : Present). x.recorded) cut.state ∙ left-recorded old.now o ∙ ap (λ (x : Present). x.recorded) stands.now;
+      standing = keeps.falls;
+      disk = left cut;
+    },
+  )
 
 -- by whether the disk is down then, for what is decided on what is so now
 pub ended_line : (f : Present → Outcome) (is_down : Bool) (old new : KernelState) (reply : Reply) (before now : Option DiskState) → old.now.machine.is_up ≡ true → HasEventsLeft old.now
     → ((w : World) → HasEventsLeft (present w) → IsStanding w → GoesOn w (f (present w)))
     → Ends is_down old (f old.now) reply new before now → (w : World) → KernelAt old before w → DoesCall w (f (present w)) reply new now
 ended_line f false old new reply before now on counts keeps done w at =
-    let (power, stands) = up_by w.power old before w refl at on in
+    let (power, stands) = stands_up old before w at on in
     done_line old new (f (present w)) reply before now w power stands (keeps w (subst (λ (x : Present). HasEventsLeft x) stands.now counts) stands.standing) (subst (λ x. IsDone old (f x) reply new before now) stands.now done)
 ended_line f true old new reply before now on counts keeps cut w at =
-    let (power, stands) = up_by w.power old before w refl at on in
+    let (power, stands) = stands_up old before w at on in
     cut_line old new (f (present w)) reply before now w power stands (keeps w (subst (λ (x : Present). HasEventsLeft x) stands.now counts) stands.standing) (subst (λ x. IsCutOff old (f x) reply new before now) stands.now cut)
 
 -- ---- a machine that was down
@@ -122,17 +124,17 @@ ended_line f true old new reply before now on counts keeps cut w at =
 down_line : (o : Outcome) (k : KernelState) (told : Option DiskState) (w : World) → o.reply ≡ Refused MachineDown → extend w o ≡ w → KernelAt k told w → DoesCall w o (Refused MachineDown) k told
 down_line o k told w says same at = (answered, extend w o, (sym says, refl), subst (λ v. KernelAt k told v) (sym same) at)
 
-down_refuses : (x : Present) (process : Pid) (command : Command) → x.machine.is_up ≡ false → refusal_of x process command ≡ Some MachineDown
+pub down_refuses : (x : Present) (process : Pid) (command : Command) → x.machine.is_up ≡ false → refusal_of x process command ≡ Some MachineDown
 down_refuses x process command off = ap (λ b. first_refusal ((not b, MachineDown) ∷ command_tests x process command)) off
 
 pub down_call : (k : KernelState) (told : Option DiskState) (process : Pid) (command : Command) → k.now.machine.is_up ≡ false → (w : World) → KernelAt k told w → DoesCall w (decide (present w) process command) (Refused MachineDown) k told
 down_call k told process command off w at =
-    let refuses = down_refuses (present w) process command (ap (λ x. x.machine.is_up) (sym (now_is w.power k told w at)) ∙ off) in
+    let refuses = down_refuses (present w) process command (sym (up_is k told w at) ∙ off) in
     down_line (decide (present w) process command) k told w (ap (λ (o : Outcome). o.reply) (decided_law.refused (present w) process command MachineDown refuses)) (refusal_law.0 w process command MachineDown refuses) at
 
 pub down_tick : (k : KernelState) (told : Option DiskState) (ms : ℕ) → k.now.machine.is_up ≡ false → (w : World) → KernelAt k told w → DoesCall w (decide_tick (present w) ms) (Refused MachineDown) k told
 down_tick k told ms off w at =
-    let down : is_up w.power ≡ false = ap (λ x. x.machine.is_up) (sym (now_is w.power k told w at)) ∙ off in
+    let down : is_up w.power ≡ false = sym (up_is k told w at) ∙ off in
     down_line (decide_tick (present w) ms) k told w (ap (λ (o : Outcome). o.reply) (decided_law.no_time (present w) ms down)) (refusal_law.1 w ms down) at
 
 -- ---- a crash
@@ -141,9 +143,9 @@ down_tick k told ms off w at =
 pub crash_line : StandingLaw → RowsSeen → PagesLaw → (k : KernelState) → k.now.machine.is_up ≡ true → (told : Option DiskState) (w : World) → KernelAt k told w
     → DoesLine w (Some Crash) Done (record k { now = fallen k.now; core = record k.core { now = fallen k.core.now } }) told
 crash_line law seen pages k on told w at =
-    let (power, stands) = up_by w.power k told w refl at on in (
+    let (power, stands) = stands_up k told w at on in (
       answered,
       crashed w,
       subst (λ p. CrashDoes (is_up p) w answered Done (crashed w)) (sym power) (refl, refl),
-      record { now = ap fallen stands.now; standing = law.crashes w stands.standing; disk = left_up seen pages k told w power stands },
+      record { off = refl; recorded = ap (λ (x : Present). x.recorded) stands.now; standing = law.crashes w stands.standing; disk = left_up seen pages k told w power stands },
     )

@@ -9,7 +9,7 @@ use Rattle.ktm_log.specs.OnDisk.{OnDisk}
 use Rattle.ktm_slots.specs.Owed.{owed_slots}
 use Rattle.ktm_world.specs.declared.command.Command.{Command}
 use Rattle.ktm_world.specs.declared.command.Line.{Line}
-use Rattle.ktm_world.specs.declared.command.Line.TheVariants.{Process, Restart}
+use Rattle.ktm_world.specs.declared.command.Line.TheVariants.{Process, Restart, Tick}
 use Rattle.ktm_world.specs.declared.reply.Reply.{Reply}
 use Rattle.ktm_world.specs.declared.reply.Reply.TheVariants.{BadImage, Refused, Restarted}
 use Rattle.ktm_world.specs.Decide.{decide}
@@ -19,21 +19,22 @@ use Rattle.ktm_world.specs.World.{World}
 use Rattle.ktm_records.specs.Spelling.{most_at_once}
 use Rattle.ktm_core.specs.Recorded.{IsUntouched}
 use Rattle.ktm_kernel.specs.Restarts.{IsFreshlyCounted}
-use Rattle.ktm_core.specs.Done.{TouchesNothing, fallen}
+use Rattle.ktm_core.specs.Debts.{completes, may_owe_more}
+use Rattle.ktm_core.specs.Done.{TouchesNothing, left_behind}
 use Rattle.ktm_kernel.specs.Done.{Ends, most_calls}
 use Rattle.ktm_kernel.specs.Reserved.{KeepsReserved}
 use Rattle.ktm_kernel.specs.Stands.{DoesLine, FoundAt, HoldsRecorded, IsCoreReady, IsPowered, IsReady, KernelAt, KernelState, machine_of}
 
 -- ---- while the machine is up
 
--- an outcome was answered, whatever world it is for
-pub record IsAnswered (o : Outcome) (old new : OnDisk KernelState) (reply : Reply) : Type 0 where
+-- an outcome was answered, whatever world it is for: of a command that completes a transaction or not, and that may owe more or not
+pub record IsAnswered (completing owing : Bool) (o : Outcome) (old new : OnDisk KernelState) (reply : Reply) : Type 0 where
   pub ends : Ends new.status.is_down old.it o reply new.it old.told new.told
   pub powered : IsPowered new.it new.told new.status
   -- there is room for all notifications that may come to be sent without a call that makes room
   pub slots : new.it.now.machine.is_up ≡ true → owed_slots new.it.now ≤ new.it.slots
-  pub calls : DeviceCalls (most_calls old.it o.events) old.status new.status new.status.is_down
-  pub untouched : TouchesNothing o reply → IsUntouched old new
+  pub calls : DeviceCalls (most_calls completing old.it o.events) old.status new.status new.status.is_down
+  pub untouched : TouchesNothing owing old.it.journal o reply → IsUntouched old new
   pub core : new.it.now.machine.is_up ≡ true → IsCoreReady new.it new.told new.status
 
 -- out of memory: nothing has changed but pages that were free, and there is room for no fewer notifications
@@ -47,22 +48,33 @@ pub record IsAsItWas (old new : KernelState) : Type 0 where
   pub disk : (s : DiskState) → HoldsRecorded old s → HoldsRecorded new s
 
 -- what that leaves; out of memory the disk is as it was
-abbrev pub AnswerLeaves : Outcome → OnDisk KernelState → OnDisk KernelState → Result Reply NoMemory → Type 0
-AnswerLeaves o old new (Ok reply) = IsAnswered o old new reply
-AnswerLeaves o old new (Err fault) = IsUntouched old new
+abbrev pub AnswerLeaves : Bool → Bool → Outcome → OnDisk KernelState → OnDisk KernelState → Result Reply NoMemory → Type 0
+AnswerLeaves completing owing o old new (Ok reply) = IsAnswered completing owing o old new reply
+AnswerLeaves completing owing o old new (Err fault) = IsUntouched old new
 
 -- ---- a line that is decided: a call of a process, or the passing of time
 
+-- does the line complete a transaction: a call on the way to its end, or time that passes
+abbrev pub completes_line : Line → Bool
+completes_line (Process process command) = completes command
+completes_line (Tick ms) = true
+completes_line line = false
+
+-- may the line owe more
+abbrev pub line_owes_more : Line → Bool
+line_owes_more (Process process command) = may_owe_more command
+line_owes_more line = false
+
 -- it was answered by this outcome, for each world that the machine stands for; one that is refused, but for MACHINE_DOWN, and one that records
--- nothing left the disk as it was
+-- nothing and makes no room left the disk as it was
 pub record IsLineAnswered (line : Line) (o : Outcome) (old new : OnDisk KernelState) (reply : Reply) : Type 0 where
   pub does : (w : World) → KernelAt old.it old.told w → DoesLine w (Some line) reply new.it new.told
-  -- on whatever disk: the outcome came, or the machine is down and is otherwise as it was
-  pub says : ((reply ≡ o.reply) × (new.it.now ≡ apply old.it.now o)) ⊎ ((reply ≡ Refused MachineDown) × (new.it.now ≡ fallen old.it.now))
+  -- on whatever disk: the outcome came, or the machine is down and is otherwise as it was, or as a command left it that records nothing
+  pub says : ((reply ≡ o.reply) × (new.it.now ≡ apply old.it.now o)) ⊎ ((reply ≡ Refused MachineDown) × (new.it.now ≡ left_behind old.it.now o))
   pub cause : reply ≡ Refused MachineDown → (old.it.now.machine.is_up ≡ false) ⊎ Rose old.status.downs new.status.downs
   pub ready : IsReady new.it new.told new.status
-  pub calls : DeviceCalls (most_calls old.it o.events) old.status new.status new.status.is_down
-  pub untouched : TouchesNothing o reply → IsUntouched old new
+  pub calls : DeviceCalls (most_calls (completes_line line) old.it o.events) old.status new.status new.status.is_down
+  pub untouched : TouchesNothing (line_owes_more line) old.it.journal o reply → IsUntouched old new
   -- few events more were recorded
   pub counts : new.it.now.recorded.events ≤ old.it.now.recorded.events + most_at_once
   -- while the machine is up, what undecided transactions did to the files stays reserved for them

@@ -3,10 +3,9 @@ use Rattle.std.specs.Prelude.{◌≡◌, ◌⊎◌, ℕ, ◌+◌, ◌/◌, ◌||
 use Rattle.ktm_base.specs.declared.limits.TheConstants.{UNIT_BYTES}
 use Rattle.ktm_base.specs.declared.refusal.Refusal.TheVariants.{MachineDown}
 use Rattle.ktm_base.specs.Disk.{DiskState, MayLeave}
-use Rattle.ktm_core.specs.Done.{fallen, page_calls}
+use Rattle.ktm_core.specs.Done.{lacks_room, left_behind, page_calls}
 use Rattle.ktm_core.specs.Logs.{StandsFor}
 use Rattle.ktm_core.specs.Stored.{units_put}
-use Rattle.ktm_journal.specs.Append.{has_no_room}
 use Rattle.ktm_journal.specs.Image.{page_count}
 use Rattle.ktm_paged.specs.Meaning.{first_unit, size_before, units_from}
 use Rattle.ktm_world.specs.declared.change.Change.{Change}
@@ -37,7 +36,7 @@ pub record IsDone (old : KernelState) (o : Outcome) (reply : Reply) (new : Kerne
 -- the power went: its group may be there or not
 pub record IsCutOff (old : KernelState) (o : Outcome) (reply : Reply) (new : KernelState) (before now : Option DiskState) : Type 0 where
   pub says : reply ≡ Refused MachineDown
-  pub state : new.now ≡ fallen old.now
+  pub state : new.now ≡ left_behind old.now o
   pub units : new.journal.units ≡ old.journal.units
   pub image : new.journal.image ≡ old.journal.image
   pub disk : IsSomeAnd before (HoldsRecorded old) → IsSomeAnd now (LeavesEither old.now.recorded (apply old.now o).recorded)
@@ -64,7 +63,7 @@ abbrev pub units_written : Present → List Event → ℕ
 units_written x (Plain change ∷ []) = units_touched (size_before x.files.tree change) change
 units_written x events = units_put events
 
--- how many device calls record events at most: those for the pages of the units that they write, of which there are no more than the disk has, four, and six more for a snapshot of all that was
--- recorded before, where the log has no room for them, or may have none, as for the pages of a plain write
-abbrev pub most_calls : KernelState → List Event → ℕ
-most_calls k events = page_calls (min (units_written k.now events) (page_count k.journal.units)) + (if is_write events || has_no_room k.journal events then 10 else 4)
+-- how many device calls a command makes at most: those for the pages of the units that its events write, of which there are no more than the disk has, and four; and six more for a snapshot of all
+-- that was recorded before, where the log has no room beside the greatest debts, or may have none, as for the pages of a plain write; but none where it completes a transaction, for which room was kept
+abbrev pub most_calls : Bool → KernelState → List Event → ℕ
+most_calls completing k events = page_calls (min (units_written k.now events) (page_count k.journal.units)) + (if completing then 4 else if is_write events || lacks_room k.journal events then 10 else 4)

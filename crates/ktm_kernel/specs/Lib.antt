@@ -12,6 +12,7 @@ pub mod Opened
 pub use Rattle.ktm_core.specs.Back
 pub use Rattle.ktm_core.specs.Bad
 pub use Rattle.ktm_core.specs.Completions
+pub use Rattle.ktm_core.specs.Debts
 pub use Rattle.ktm_core.specs.Done as CoreDone
 pub use Rattle.ktm_core.specs.Loads
 pub use Rattle.ktm_core.specs.Logs

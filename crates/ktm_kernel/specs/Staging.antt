@@ -5,6 +5,7 @@ use Rattle.ktm_base.specs.declared.id.Pid.{Pid}
 use Rattle.ktm_base.specs.declared.fault.NoMemory.{NoMemory}
 use Rattle.ktm_base.specs.declared.refusal.Refusal.{Refusal}
 use Rattle.ktm_content.specs.Places.{byte_at}
+use Rattle.ktm_core.specs.Answers.{asked_completes, asked_owes_more}
 use Rattle.ktm_core.specs.Core.{AreSoundFiles, CoreState, IsSoundFor}
 use Rattle.ktm_each.specs.Each.{EachOfFiles}
 use Rattle.ktm_journal.specs.Image.{page_count}
@@ -63,12 +64,14 @@ pub record IsOverPlaces (f : ℕ → ℕ) (x : Present) (o asked : Outcome) : Ty
   pub same : IsSameOutcome f x o asked
   pub few : units_put o.events ≤ units_written (mapped_present f x) asked.events
 
--- what is to be asked can be, over places that are sound and held, and comes to what the command comes to over the bytes
+-- what is to be asked can be, over places that are sound and held, and comes to what the command comes to over the bytes; it completes no transaction, and may owe more
 pub record MayAsk (x : Present) (store : StoreState) (asked : Asked) (outcome : Outcome) : Type 0 where
   pub can : CanBeAsked x asked
   pub sound : IsSoundFor (length store.marks.held) x asked
   pub held : ArePutsHeld store.marks x asked
   pub comes_to : IsOverPlaces (byte_at store.seen) x (decided x asked) outcome
+  pub completes : asked_completes asked ≡ false
+  pub owes : asked_owes_more asked ≡ true
 
 -- what was staged is to be asked, or the command is refused over the bytes
 abbrev pub IsStaged : Present → StoreState → Staged → (Present → Outcome) → Type 0

@@ -45,9 +45,10 @@ pub record Stands (k : KernelState) (told : Option DiskState) (w : World) : Type
 abbrev pub LeavesStates : World → DiskState → Type 0
 LeavesStates w s = (image : List ℕ) → MayLeave s image → (log : List Group) × Contains (possible_logs w) log × StandsFor (stand w.base log) image
 
--- a machine that is down stands for the world
+-- a machine that is down stands for the world: it tells what was recorded, and nothing else of what it has is ever used
 pub record HasFallen (k : KernelState) (told : Option DiskState) (w : World) : Type 0 where
-  pub now : k.now ≡ present w
+  pub off : k.now.machine.is_up ≡ false
+  pub recorded : k.now.recorded ≡ (present w).recorded
   pub standing : IsStanding w
   pub disk : IsSomeAnd told (LeavesStates w)
 
@@ -89,7 +90,8 @@ pub record IsReady (k : KernelState) (told : Option DiskState) (status : DiskSta
 -- a machine that is down, whose disk has the power again, is safe, and stands for the state that one of the possible logs comes to
 pub record FoundAt (k : KernelState) (told : Option DiskState) (w : World) : Type 0 where
   pub off : is_up w.power ≡ false
-  pub now : k.now ≡ present w
+  pub down : k.now.machine.is_up ≡ false
+  pub recorded : k.now.recorded ≡ (present w).recorded
   pub standing : IsStanding w
   pub disk : IsSomeAnd told (λ s. IsSafe s × ((log : List Group) × Contains (possible_logs w) log × StandsFor (stand w.base log) s.seen))
 

@@ -3,7 +3,9 @@ ghost use Rattle.std.specs.Prelude.{◌≡◌, ◌≤◌, true, false, [], Optio
 ghost use Rattle.ktm_alike.specs.Alike.{mapped_present};
 ghost use Rattle.ktm_base.specs.Disk.{DiskState};
 ghost use Rattle.ktm_content.specs.Places.{byte_at};
+ghost use Rattle.ktm_core.specs.Answers.{asked_completes, asked_owes_more};
 ghost use Rattle.ktm_core.specs.Core.{IsSoundFor};
+ghost use Rattle.ktm_core.specs.Debts.{completes, may_owe_more};
 ghost use Rattle.ktm_core.specs.Done.{fallen};
 ghost use Rattle.ktm_journal.specs.Image.{page_count};
 ghost use Rattle.ktm_kernel.specs.Answers.{AnswerLeaves, CallLeaves, IsAsItWas, IsLineAnswered};
@@ -96,9 +98,12 @@ impl Kernel {
     }
 
     /// Answers a call of a process, with any command of the grammar. After MACHINE_DOWN the machine is down. A call that is
-    /// refused, but for MACHINE_DOWN, and one that records nothing make no device call; one that records something makes four,
-    /// six more where the log has no room for it, one for each page of the files that it records, and one more behind each 64 of
-    /// these and behind the last. A plain write records the pages that its bytes touch, and those of the gap in front of them.
+    /// refused, but for MACHINE_DOWN, makes no device call. One that records something makes four, one for each page of the files
+    /// that it records, and one more behind each 64 of these and behind the last. A plain write records the pages that its bytes
+    /// touch, and those of the gap in front of them. The log keeps room for all that transactions under way may still record: so
+    /// a call that completes a transaction, as `complete` answers it, makes no more. Any other call that records something makes
+    /// six more, for a snapshot, where the log has no room for it beside the greatest debts. One that records nothing makes none,
+    /// but where it may owe more and the log has no room for the greatest debts it makes these six.
     /// Out of memory the machine and its disk are as they were, but for the bytes of pages that were free.
     pub fn call<D: Disk>(
         &mut self,
@@ -126,7 +131,8 @@ impl Kernel {
     /// Answers a call on the way to the end of a transaction, or one that tells of it, as `call` answers its command: CommitTransaction,
     /// RollbackTransaction, each answer of an enlistment, the requests of its superior, CloseHandle, Exit, GetTransactionInformation and
     /// GetNotificationResourceManager. It takes no memory: a commit that was accepted ends by the votes of its enlistments, and nothing on
-    /// its way is ever out of memory. MACHINE_DOWN comes where the machine is down, or where its disk goes down in the call.
+    /// its way is ever out of memory. It makes at most four device calls beside those of its pages, and never a snapshot.
+    /// MACHINE_DOWN comes where the machine is down, or where its disk goes down in the call.
     pub fn complete<D: Disk>(&mut self, disk: &mut D, process: Pid, completion: Completion) -> Reply
         requires ready { IsReady self.old (D.told disk.old) (D.status disk.old) }
         requires counts { HasEventsLeft self.old.now }
@@ -141,7 +147,7 @@ impl Kernel {
     }
 
     /// So many milliseconds pass, and the transactions roll back whose timeouts are reached then, in order of creation; what that
-    /// records is one group. While the machine is down no time passes. It takes no memory.
+    /// records is one group, with at most four device calls. While the machine is down no time passes. It takes no memory.
     pub fn tick<D: Disk>(&mut self, disk: &mut D, ms: u32) -> Reply
         requires ready { IsReady self.old (D.told disk.old) (D.status disk.old) }
         requires counts { HasEventsLeft self.old.now }
@@ -172,7 +178,7 @@ impl Kernel {
         requires sound { IsSoundFor (page_count self.old.core.journal.units) self.old.core.now asked }
         requires held { AreHeldFor self.old.core asked }
         ensures leaves { (o : Outcome) → IsOverPlaces (byte_at self.old.core.store.seen) self.old.core.now (decided self.old.core.now asked) o
-            → AnswerLeaves o (on self.old (D.told disk.old) (D.status disk.old)) (on self.new (D.told disk.new) (D.status disk.new)) result }
+            → AnswerLeaves (asked_completes asked) (asked_owes_more asked) o (on self.old (D.told disk.old) (D.status disk.old)) (on self.new (D.told disk.new) (D.status disk.new)) result }
         ensures no_memory { OnErr result (IsAsItWas self.old self.new) }
         ensures enough { asked_takes_memory self.old.core.now asked ≡ false → IsOk result }
     {
@@ -206,7 +212,7 @@ impl Kernel {
         requires counts { HasEventsLeft self.old.now }
         requires staged { (outcome : Present → Outcome) × IsStaged self.old.core.now self.old.core.store staged outcome }
         ensures leaves { (outcome : Present → Outcome) → IsStaged self.old.core.now self.old.core.store staged outcome
-            → AnswerLeaves (outcome self.old.now) (on self.old (D.told disk.old) (D.status disk.old)) (on self.new (D.told disk.new) (D.status disk.new)) result }
+            → AnswerLeaves false true (outcome self.old.now) (on self.old (D.told disk.old) (D.status disk.old)) (on self.new (D.told disk.new) (D.status disk.new)) result }
         ensures no_memory { OnErr result (IsAsItWas self.old self.new) }
         ensures enough { asks staged ≡ false → IsOk result }
     {
@@ -229,7 +235,7 @@ impl Kernel {
         requires ready { IsReady self.old (D.told disk.old) (D.status disk.old) }
         requires counts { HasEventsLeft self.old.now }
         requires command { IsCommand (WriteFile file offset bytes) }
-        ensures leaves { AnswerLeaves (model_decide self.old.now process (WriteFile file offset bytes)) (on self.old (D.told disk.old) (D.status disk.old)) (on self.new (D.told disk.new) (D.status disk.new)) result }
+        ensures leaves { AnswerLeaves false true (model_decide self.old.now process (WriteFile file offset bytes)) (on self.old (D.told disk.old) (D.status disk.old)) (on self.new (D.told disk.new) (D.status disk.new)) result }
         ensures no_memory { OnErr result (IsAsItWas self.old self.new) }
         ensures enough { takes_memory self.old.now process (WriteFile file offset bytes) ≡ false → IsOk result }
     {
@@ -260,7 +266,7 @@ impl Kernel {
         requires ready { IsReady self.old (D.told disk.old) (D.status disk.old) }
         requires counts { HasEventsLeft self.old.now }
         requires command { IsCommand (SetEndOfFile file size) }
-        ensures leaves { AnswerLeaves (model_decide self.old.now process (SetEndOfFile file size)) (on self.old (D.told disk.old) (D.status disk.old)) (on self.new (D.told disk.new) (D.status disk.new)) result }
+        ensures leaves { AnswerLeaves false true (model_decide self.old.now process (SetEndOfFile file size)) (on self.old (D.told disk.old) (D.status disk.old)) (on self.new (D.told disk.new) (D.status disk.new)) result }
         ensures no_memory { OnErr result (IsAsItWas self.old self.new) }
         ensures enough { takes_memory self.old.now process (SetEndOfFile file size) ≡ false → IsOk result }
     {
@@ -282,7 +288,7 @@ impl Kernel {
         requires ready { IsReady self.old (D.told disk.old) (D.status disk.old) }
         requires counts { HasEventsLeft self.old.now }
         requires command { IsCommand command }
-        ensures leaves { AnswerLeaves (model_decide self.old.now process command) (on self.old (D.told disk.old) (D.status disk.old)) (on self.new (D.told disk.new) (D.status disk.new)) result }
+        ensures leaves { AnswerLeaves (completes command) (may_owe_more command) (model_decide self.old.now process command) (on self.old (D.told disk.old) (D.status disk.old)) (on self.new (D.told disk.new) (D.status disk.new)) result }
         ensures no_memory { OnErr result (IsAsItWas self.old self.new) }
         ensures enough { takes_memory self.old.now process command ≡ false → IsOk result }
     {

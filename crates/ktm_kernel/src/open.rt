@@ -23,8 +23,7 @@ fn prepare<D: Disk>(disk: &mut D) -> Result<(), Down>
     ensures err { OnErr result (Goes (λ old new. (old.seen ≡ []) ⊎ (new ≡ old)) (D.told disk.old) (D.told disk.new)) }
     ensures pending { OnOk result ((D.status disk.new).pending ≡ 0) }
     ensures up { OnOk result ((D.status disk.new).is_down ≡ false) }
-    ensures calls { DeviceCalls (8 * NEW_UNITS + 65) (D.status disk.old) (D.status disk.new) (is_err result) }
-    ensures few { IsSomeAnd (D.told disk.old) (λ s. 0 < length s.seen) → (D.status disk.new).calls ≤ (D.status disk.old).calls + 1 }
+    ensures calls { DeviceCalls 9 (D.status disk.old) (D.status disk.new) (is_err result) }
 {
     law_of_new_images();
     let Ok(len) = disk.len() else {

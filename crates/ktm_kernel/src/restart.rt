@@ -20,14 +20,14 @@ use crate::kernel::Kernel;
 use ktm_alike::law_of_alike_presents;
 use ktm_base::{Disk, Down, NoMemory, Refusal};
 use ktm_core::{
-    Core, Memory, Starting, events_in, in_doubt, is_worn, law_of_bad_images, law_of_states, load,
-    load_pages, prepare, record_start,
+    Core, Memory, Starting, events_in, in_doubt, is_worn, law_of_bad_images, law_of_debts,
+    law_of_states, load, load_pages, prepare, record_start,
 };
 use ktm_event::Events;
 use ktm_journal::LoadFault;
 use ktm_mapped::law_of_mapped_states;
 use ktm_records::law_of_spelling;
-use ktm_standing::{law_of_fresh, law_of_standing};
+use ktm_standing::{law_of_fresh, law_of_kept, law_of_standing};
 use ktm_store::Store;
 use ktm_units::law_of_units;
 use ktm_world::Reply;
@@ -176,6 +176,8 @@ impl Kernel {
         ensures few { (units image selector : ℕ) → IsSomeAnd (D.told disk.old) (λ s. IsHeaded units image selector s.seen) → (D.status disk.new).calls ≤ (D.status disk.old).calls + (4 * units + 91) }
     {
         law_of_fresh();
+        law_of_kept();
+        law_of_debts();
         law_of_standing();
         law_of_states();
         law_of_spelling();

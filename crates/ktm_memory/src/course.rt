@@ -18,13 +18,15 @@ ghost use Rattle.txf_volume.specs.Commit.{MayCommit};
 ghost use Rattle.txf_volume.specs.Held.{files_of};
 
 use crate::memory::Memory;
+use crate::uncounted::{carry_uncounted, finish_uncounted};
 use ktm_base::Id;
 use ktm_course::{commits, is_undecided, records_files};
-use ktm_participant::finish;
 use ktm_phase::step;
 use ktm_trace::Recording;
 use ktm_world::{PhaseInput, Seen, Step, Transaction};
 use kv_rm::KvRm;
+use std::marker::Brand;
+use std::sync::ledger::Blank;
 use txf_volume::Files;
 
 // What the transaction changed of the files is committed or undone, and it holds nothing of them.
@@ -32,7 +34,7 @@ fn finish_files(files: &mut Files, id: Id, commits: bool)
     requires { commits ≡ true → MayCommit (files_of files.old) id }
     ensures { files_of files.new ≡ (if commits then files_committed (files_of files.old) id else forgotten (files_of files.old) id) }
 {
-    if !finish(files, id, commits) {
+    if !finish_uncounted::<Files, Brand>(files, id, commits, Blank::new(1)) {
         files.forget(id);
     }
 }
@@ -42,7 +44,7 @@ fn finish_keys(keys: &mut KvRm, id: Id, commits: bool)
     ensures store { keys.new.store ≡ (if commits then stored_all keys.old.store (own_settings keys.old.own id) else keys.old.store) }
     ensures own { keys.new.own ≡ without_own keys.old.own id }
 {
-    let _ = finish(keys, id, commits);
+    let _ = finish_uncounted::<KvRm, Brand>(keys, id, commits, Blank::new(1));
 }
 
 impl Memory {
@@ -129,8 +131,15 @@ impl Memory {
             self.next_node = self.files.next_after(t.id, self.next_node);
         }
         self.trace.record(recording, steps);
-        self.tm
-            .carry_out(t, caller, recording.has_files, recording.has_keys, steps);
+        carry_uncounted::<Brand>(
+            &mut self.tm,
+            t,
+            caller,
+            recording.has_files,
+            recording.has_keys,
+            steps,
+            Blank::new(1),
+        );
         self.release(t.id, commits(steps));
     }
 

@@ -16,6 +16,7 @@ mod record;
 mod routed;
 mod settle;
 mod settlement;
+mod uncounted;
 mod undone;
 
 pub use extent::Extent;

@@ -1,12 +1,9 @@
-// Recording what a command has to record, and the room for it.
-ghost use Rattle.std.specs.Prelude.{◌≡◌, ◌+◌, ◌^◌, ◌≤◌, false, length, not, IfSome};
-ghost use Rattle.ktm_event.specs.Kept.{Holds};
-ghost use Rattle.ktm_journal.specs.Append.{has_no_room};
+// Recording what a command has to record.
+ghost use Rattle.std.specs.Prelude.{◌≡◌, ◌+◌, ◌^◌, ◌≤◌, false, length, IfSome};
 ghost use Rattle.ktm_journal.specs.Compact.{CompactLeaves};
 ghost use Rattle.ktm_journal.specs.Image.{IsHeaded};
 ghost use Rattle.ktm_log.specs.OnDisk.{on};
 ghost use Rattle.ktm_memory.specs.Recorded.{RecordingLeaves};
-ghost use Rattle.ktm_world.specs.Groups.{Group};
 ghost use Rattle.ktm_world.specs.Sizes.{area_len};
 
 use crate::memory::Memory;
@@ -26,13 +23,6 @@ impl Memory {
             return Ok(());
         }
         self.journal.append(disk, events)
-    }
-
-    /// Has the log room for the events as one group, or are there none.
-    pub fn has_room(&self, events: &Events) -> bool
-        ensures { (group : Group) → Holds events.now group → result ≡ not (has_no_room self.now.journal group) }
-    {
-        events.is_empty() || (events.body().len() as u64) < self.journal.left()
     }
 
     /// Counts the events in the journal, where a snapshot is to stand for what they make.

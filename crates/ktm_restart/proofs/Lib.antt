@@ -1,13 +1,11 @@
-mod Past
-mod OwnDones
 mod Spelled
 mod PagedLogs
 mod Folds
-mod Taking
-mod Made
 mod Giving
 mod Meant
 mod Readings
+mod SettingsApplied
+mod GroupReadings
 mod LogLoads
 mod GoodLogs
 mod Replays

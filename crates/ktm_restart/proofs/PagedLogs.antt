@@ -108,10 +108,10 @@ has-none tree (Undo transaction) none = refl
 has-none tree (Done transaction done) none = refl
 
 module _ (count : ℕ) (s : Durable) (event : Event) (none : changes_of_event event ≡ []) where
-  same-after : paged_after s event ≡ after_event s event
+  pub same-after : paged_after s event ≡ after_event s event
   same-after = ap (after_event s) (means-itself s.tree event none)
 
-  applies-itself : IsApart s → event_applies s event ≡ true → PagedApplies count s event
+  pub applies-itself : IsApart s → event_applies s event ≡ true → PagedApplies count s event
   applies-itself (owner, owned) applies = record {
     paged = has-none s.tree event none;
     below = subst (λ (cs : List Change). All (λ page. page < count) (flat_map pages_in cs)) (sym none) (All-nil (λ page. page < count));

@@ -1,9 +1,7 @@
 -- What a state that is read comes to, by an event over the places of bytes, and by one as it is recorded.
 use Rattle.std.specs.Prelude.{nat_lt}
-use Rattle.std.proofs.Common.{◌≡◌, ℕ, ◌<◌, Bool, true, false, List, [], ◌∷◌, Option, Some, None, All, length, get_or, refl, sym, ◌∙◌, ap, subst, inl, inr}
-use Rattle.std.specs.List.{list_all}
-use Rattle.std.proofs.lemmas.Bool.{and_from, and_parts, cases_Bool, lt-ltb, ltb-true, true≢false}
-use Rattle.std.proofs.lemmas.List.Elements.{All-cons, All-head, All-nil, All-tail}
+use Rattle.std.proofs.Common.{◌≡◌, ℕ, ◌<◌, Bool, true, false, List, Some, None, All, length, sym, ◌∙◌, ap, subst, inl, inr}
+use Rattle.std.proofs.lemmas.Bool.{cases_Bool}
 use Rattle.ktm_journal.specs.Image.{page_count}
 use Rattle.ktm_owners.specs.declared.owners.Named.{Named}
 use Rattle.ktm_owners.specs.declared.owners.Owner.{Owner}
@@ -11,9 +9,9 @@ use Rattle.ktm_owners.specs.Owners.{AreAllNamedBy, AreOwnersOf, AreThere, Begins
 use Rattle.ktm_owners.proofs.offered.Events.{changes-there, event-begins, event-known, event-shared, given-length}
 use Rattle.ktm_owners.proofs.offered.Pages.{below-pages, pages-below}
 use Rattle.ktm_paged.specs.Meaning.{has_event_its_pages, meant_event, pages_in, pages_of_event}
-use Rattle.ktm_paged.specs.Paged.{GroupApplies, IsApart, IsPlainlyMade, LieBelow, PagedApplies, PutLiesBelow, paged_after, paged_after_all}
+use Rattle.ktm_paged.specs.Paged.{IsApart, IsPlainlyMade, LieBelow, PagedApplies, PutLiesBelow, paged_after}
 use Rattle.ktm_paged.proofs.offered.LyingStates.{event-lies, event-made, event-puts}
-use Rattle.ktm_restart.specs.Logs.{AppliesTo, IsOnPages}
+use Rattle.ktm_restart.specs.Logs.{IsOnPages}
 use Rattle.ktm_restart.proofs.Giving.{given-false, given-true}
 use Rattle.ktm_restart.proofs.Meant.{all-flat}
 use Rattle.ktm_restart.specs.Reading.{IsReadWell, ReadingState, is_event_below, event_if_paged}
@@ -22,7 +20,6 @@ use Rattle.txf_laws.specs.GoodStates.{GoodStatesLaw}
 use Rattle.txf_laws.specs.Grammatical.{changes_of_event, is_grammatical}
 use Rattle.ktm_world.specs.declared.event.Event.{Event}
 use Rattle.ktm_world.specs.Durable.{Durable, after_event, event_applies}
-use Rattle.ktm_world.specs.Logs.{Group}
 use Rattle.ktm_world.specs.Tree.{Tree}
 use Rattle.ktm_world.proofs.offered.Durables.{after_event-units}
 
@@ -111,41 +108,3 @@ pub state-well : (s : Durable) (count : ℕ) (owners : List Owner) → IsGoodSta
 state-well s count owners good below count_is many known =
     let here = subst (λ n. LieBelow n s) count_is below in
     (record { below = here; apart = (byte_with owners, known) }, record { good = good; below = here; many = many ∙ count_is; known = known })
-
--- ---- groups
-
--- some events of a group were read, and those that are left come to what all come to
-pub record GroupReadSoFar (first : Durable) (all left : Group) (r : ReadingState) : Type 0 where
-  pub applies : GroupApplies (page_count first.units) r.state left → GroupApplies (page_count first.units) first all
-  pub back : GroupApplies (page_count first.units) first all → GroupApplies (page_count first.units) r.state left
-  pub after : paged_after_all r.state left ≡ paged_after_all first all
-  pub units : r.state.units ≡ first.units
-  pub grammatical : list_all is_grammatical left ≡ true
-  pub well : IsReadWell r
-
-pub none-read : (r : ReadingState) (all : Group) → IsReadWell r → list_all is_grammatical all ≡ true → GroupReadSoFar r.state all all r
-none-read r all well grammatical = record { applies = λ is. is; back = λ is. is; after = refl; units = refl; grammatical = grammatical; well = well }
-
-module _ (first : Durable) (all : Group) (r : ReadingState) where
-  module _ (event : Event) (left : Group) (so : GroupReadSoFar first all (event ∷ left) r) where
-    pub next-grammatical : is_grammatical event ≡ true
-    next-grammatical = (and_parts (is_grammatical event) (list_all is_grammatical left) so.grammatical).0
-
-    pub one-read : (next : ReadingState) → PagedApplies (page_count r.state.units) r.state event → next.state ≡ paged_after r.state event → IsReadWell next → GroupReadSoFar first all left next
-    one-read next applies is well = record {
-      applies = λ rest. so.applies (here, subst (λ (s : Durable). GroupApplies (page_count first.units) s left) is rest);
-      back = λ whole. subst (λ (s : Durable). GroupApplies (page_count first.units) s left) (sym is) (so.back whole).1;
-      after = ap (λ (s : Durable). paged_after_all s left) is ∙ so.after;
-      units = ap (λ (s : Durable). s.units) is ∙ after_event-units r.state (meant_event r.state.tree event) ∙ so.units;
-      grammatical = (and_parts (is_grammatical event) (list_all is_grammatical left) so.grammatical).1;
-      well = well;
-    }
-      where
-        here : PagedApplies (page_count first.units) r.state event
-        here = subst (λ n. PagedApplies (page_count n) r.state event) so.units applies
-
-    pub one-bad : ¬ PagedApplies (page_count r.state.units) r.state event → ¬ AppliesTo first all
-    one-bad bad whole = bad (subst (λ n. PagedApplies (page_count n) r.state event) (sym so.units) (so.back whole).0)
-
-  pub all-read : GroupReadSoFar first all [] r → AppliesTo first all × (r.state ≡ paged_after_all first all)
-  all-read so = (so.applies tt, so.after)

@@ -1,6 +1,6 @@
 -- What was read as bytes spells the groups that it holds.
-use Rattle.std.proofs.Common.{ℕ, zero, suc, ◌+◌, Bool, true, false, if◌then◌else◌, length, take, drop, None, Some, List, [], ◌∷◌}
-use Rattle.std.specs.List.{AllByRecursion}
+use Rattle.std.proofs.Common.{ℕ, zero, suc, ◌+◌, ◌-◌, Bool, true, false, if◌then◌else◌, length, take, drop, None, Some, List, [], ◌∷◌}
+use Rattle.std.specs.List.{AllByRecursion, slice_range}
 use Rattle.ktm_base.specs.Bytes.{AreBytes}
 use Rattle.ktm_log.specs.Log.{followed, payloads_in, payloads_up_to, size_at}
 use Rattle.ktm_world.specs.Logs.{Group}
@@ -16,6 +16,9 @@ bytes_left : (n : ℕ) (bytes : List ℕ) → AreBytes bytes → AreBytes (drop 
 bytes_left zero bytes all = all
 bytes_left (suc n) [] all = tt
 bytes_left (suc n) (b ∷ bytes) all = bytes_left n bytes all.1
+
+pub slice_bytes : (bytes : List ℕ) (at end : ℕ) → AreBytes bytes → AreBytes (slice_range bytes at end)
+slice_bytes bytes at end all = bytes_taken (end - at) (drop at bytes) (bytes_left at bytes all)
 
 -- a payload that is there if the test holds, and those that follow it
 followed_bytes : (is : Bool) (payload : List ℕ) (rest : List ℕ → List (List ℕ)) → AreBytes payload → ((p : List ℕ) → AllByRecursion AreBytes (rest p))

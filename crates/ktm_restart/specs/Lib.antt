@@ -1,7 +1,6 @@
 pub mod Logs
 pub mod Bad
 pub mod Payloads
-pub mod Replayed
 pub mod Reading
 pub mod Loads
 pub mod Starts

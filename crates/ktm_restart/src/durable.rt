@@ -10,26 +10,11 @@ ghost use Rattle.ktm_world.specs.World.{own_group};
 ghost use Rattle.txf_tree.specs.TreeState.{tree_of, versions_of};
 
 use crate::own::{push_all_own, push_boot};
-use crate::replayed::Replayed;
-use ktm_base::{Bytes, Id};
+use ktm_base::Id;
 use ktm_event::Events;
-use ktm_keyed::KeyedList;
+use ktm_replayed::{DurableParts, Replayed};
 use ktm_world::Recorded;
 use std::marker::Model;
-use txf_durable::FilesRead;
-
-/// What a machine starts from.
-#[derive(Drop)]
-pub struct DurableParts {
-    /// The committed files, of which none was changed since.
-    pub files: FilesRead,
-    /// The committed keys, by rising key.
-    pub keys: KeyedList<Bytes>,
-    /// The durable resource managers, by rising Id.
-    pub managers: Vec<Id>,
-    /// The transactions that are not over, by rising Id.
-    pub transactions: Vec<Recorded>,
-}
 
 /// What an image stands for, over the places of bytes. The groups of its log are applied in place to the state of its snapshot: neither
 /// a change nor a key or a value is copied.

@@ -10,9 +10,9 @@ mod naming;
 mod own;
 mod reading;
 mod replay;
-mod replayed;
 
-pub use durable::{Durable, DurableParts};
+pub use durable::Durable;
+pub use ktm_replayed::DurableParts;
 pub use laws::{
     law_of_bad_images, law_of_bad_places, law_of_journals, law_of_new_images, law_of_states,
 };

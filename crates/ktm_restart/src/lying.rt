@@ -6,8 +6,8 @@ ghost use Rattle.ktm_world.specs.Tree.{bytes_or_none};
 ghost use Rattle.txf_tree.specs.Children.{node_seen};
 ghost use Rattle.txf_tree.specs.TreeState.{tree_of};
 
-use crate::replayed::Replayed;
 use ktm_owners::lies_below;
+use ktm_replayed::Replayed;
 use ktm_waiting::changes_in;
 use ktm_world::{Change, Recorded, RecordedPart};
 use txf_tree::{NodeRef, Tree, bytes_in};

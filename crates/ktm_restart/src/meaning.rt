@@ -1,7 +1,7 @@
 // What an event means that is recorded with pages.
 ghost use Rattle.std.specs.Prelude.{◌≡◌, Some, None, if◌then◌else◌, map, nat_lt, true};
 ghost use Rattle.std.specs.List.{list_all};
-ghost use Rattle.ktm_paged.specs.Meaning.{begins_file, has_work_pages, meant as meaning, meant_part, pages_in};
+ghost use Rattle.ktm_paged.specs.Meaning.{begins_file, has_its_pages, has_work_pages, meant as meaning, meant_part, pages_in, size_before};
 ghost use Rattle.ktm_restart.specs.Reading.{event_if_paged, is_event_below};
 ghost use Rattle.ktm_world.specs.Durable.{changes_in as changes_of_part};
 ghost use Rattle.txf_tree.specs.TreeState.{tree_of};
@@ -12,7 +12,7 @@ use ktm_paged::{meant, pages_of};
 use ktm_waiting::changes_in;
 use ktm_world::{Change, Event, Part};
 use std::mem::replace;
-use txf_tree::{Tree, node_of};
+use txf_tree::Tree;
 
 // Are the pages that a change names among the first so many.
 fn is_below(count: usize, change: &Change) -> bool
@@ -97,13 +97,24 @@ fn part_meant(part: Part) -> Option<Part>
     }
 }
 
+// How many bytes the file of a change has, where that plays a part in what the change means.
+fn size_for(tree: &Tree, change: &Change) -> u64
+    ensures has { has_its_pages result change.now ≡ has_its_pages (size_before (tree_of tree.now) change.now) change.now }
+    ensures meant { meaning result change.now ≡ meaning (size_before (tree_of tree.now) change.now) change.now }
+{
+    match change {
+        Change::Put { node, .. } | Change::Cut { node, .. } => tree.size(*node),
+        _ => 0,
+    }
+}
+
 /// What an event means where these are the committed files, if it has its pages. No page number is copied.
 pub(crate) fn event_meant(tree: &Tree, event: Event) -> Option<Event>
     ensures { result ≡ event_if_paged (tree_of tree.now) event }
 {
     match event {
         Event::Plain { change } => {
-            let size = tree.size(node_of(&change));
+            let size = size_for(tree, &change);
             let change = meant(size, change)?;
             Some(Event::Plain { change })
         }

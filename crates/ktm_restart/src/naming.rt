@@ -6,9 +6,9 @@ ghost use Rattle.txf_laws.specs.Grammatical.{changes_of_event};
 ghost use Rattle.txf_tree.specs.Children.{node_seen};
 ghost use Rattle.txf_tree.specs.TreeState.{tree_of};
 
-use crate::replayed::Replayed;
 use ktm_base::NoMemory;
 use ktm_owners::{Owner, Owners};
+use ktm_replayed::Replayed;
 use ktm_waiting::changes_in;
 use ktm_world::{Event, Recorded, RecordedPart};
 use txf_tree::{NodeRef, Tree};

@@ -1,33 +1,28 @@
 // The state of an image while its log is read, over the places of bytes, with the owner of each page.
-ghost use Rattle.std.specs.Prelude.{◌≡◌, ◌<◌, ◌≤◌, IfOk, Ok, All, false, true, length, slice_set};
-ghost use Rattle.std.specs.List.{list_all};
-ghost use Rattle.ktm_base.specs.declared.limits.TheConstants.{MOST_UNITS};
+ghost use Rattle.std.specs.Prelude.{◌≡◌, ℕ, ◌<◌, ◌≤◌, [], IfOk, Ok, All, false, true, length, slice_set};
 ghost use Rattle.ktm_journal.specs.Image.{page_count};
 ghost use Rattle.ktm_owners.specs.Owners.{AreOwnersOf, AreThere, BeginsUnit, LeavesGiven, all_given, may_give};
-ghost use Rattle.ktm_paged.specs.Paged.{IsApart, IsPlainlyMade, LieBelow, PagedApplies, PutLiesBelow, paged_after, paged_after_all};
-ghost use Rattle.ktm_restart.specs.Logs.{AppliesTo, IsOnPages};
-ghost use Rattle.ktm_restart.specs.Reading.{IsReadWell, ReadsOn};
-ghost use Rattle.ktm_saved.specs.Saved.{state_of};
+ghost use Rattle.ktm_paged.specs.Paged.{IsApart, IsPlainlyMade, LieBelow, PagedApplies, PutLiesBelow, paged_after};
+ghost use Rattle.ktm_replayed.specs.Settings.{IsSingleAt};
+ghost use Rattle.ktm_restart.specs.Logs.{IsOnPages};
+ghost use Rattle.ktm_restart.specs.Reading.{EventLeaves, IsReadWell, ReadsOn};
 ghost use Rattle.txf_laws.specs.GoodState.{IsGoodState};
 ghost use Rattle.txf_laws.specs.Grammatical.{changes_of_event, is_grammatical};
-ghost use Rattle.ktm_waiting.specs.Waiting.{AreHeld};
 ghost use Rattle.ktm_world.specs.Durable.{after_event, event_applies};
-ghost use Rattle.txf_tree.specs.TreeState.{tree_of};
 
 use crate::durable::Durable;
 use crate::lying::lie_below;
 use crate::meaning::{event_meant, is_event_below};
 use crate::naming::{name_event, name_state};
-use crate::replayed::Replayed;
-use ktm_base::NoMemory;
-use ktm_journal::page_count;
+use ktm_base::{Id, NoMemory};
+use ktm_event::{EventFault, read_event};
 use ktm_owners::{Named, Owners, is_same_unit};
 use ktm_paged::law_of_paged_records;
-use ktm_saved::Saved;
+use ktm_replayed::{Replayed, settings_alone};
 use ktm_world::Event;
 use std::alloc::Global;
 use std::marker::Model;
-use txf_laws::law_of_good_states;
+use txf_laws::{law_of_good_states, law_of_grammar};
 
 /// What a snapshot and the events that were read so far come to, over the places of bytes, and the owner of each page.
 #[derive(Drop)]
@@ -100,36 +95,40 @@ fn is_on_pages(replayed: &Replayed, owners: &mut Owners) -> Result<bool, NoMemor
 }
 
 impl Reading {
-    /// The good state of a snapshot of an image with so many units and this number, if it is on pages. It takes the memory for the
-    /// owners before.
-    #[tactic(none)]
-    pub(crate) fn from(
-        alloc: Global,
-        saved: Saved,
-        units: u32,
-        image: u16,
-    ) -> Result<Option<Self>, NoMemory>
-        requires most { units ≤ MOST_UNITS }
-        requires held { AreHeld saved.waiting (tree_of saved.files.tree) saved.transactions.transactions }
-        requires good { IsGoodState (state_of units image saved) }
-        ensures { IfOk result (ReadsOn (state_of units image saved)) }
+    /// A state, with owners of pages.
+    pub(crate) fn new(replayed: Replayed, owners: Owners) -> Self
+        ensures { result ≡ record { state = replayed.state; owners = owners.owners } }
     {
-        let owners = Owners::new(alloc, page_count(units))?;
-        Reading::on_pages(Replayed::from(alloc, saved, units, image), owners)
+        Reading { replayed, owners }
     }
 
-    // The good state that was replayed, if it is on pages. The owners have no page before.
-    fn on_pages(replayed: Replayed, mut owners: Owners) -> Result<Option<Self>, NoMemory>
-        requires good { IsGoodState replayed.state }
-        requires many { length owners.owners ≡ page_count replayed.state.units }
-        ensures { IfOk result (ReadsOn replayed.state) }
+    // Does the good state of a snapshot lie on pages of its image. The owners have no page before, and then have all of these.
+    fn is_on_pages(&mut self) -> Result<bool, NoMemory>
+        requires good { IsGoodState self.old.state }
+        requires many { length self.old.owners ≡ page_count self.old.state.units }
+        ensures on { result ≡ Ok true → (self.new.state ≡ self.old.state) × IsOnPages self.new.state × IsReadWell self.new }
+        ensures off { result ≡ Ok false → ¬ IsOnPages self.old.state }
     {
-        if !is_on_pages(&replayed, &mut owners)? {
-            drop(owners);
-            drop(replayed);
-            return Ok(None);
+        is_on_pages(&self.replayed, &mut self.owners)
+    }
+
+    /// The good state of a snapshot, if it is on pages. The owners have no page before.
+    pub(crate) fn if_on_pages(mut self) -> Result<Option<Self>, NoMemory>
+        requires good { IsGoodState self.state }
+        requires many { length self.owners ≡ page_count self.state.units }
+        ensures { IfOk result (ReadsOn self.state) }
+    {
+        match self.is_on_pages() {
+            Ok(true) => Ok(Some(self)),
+            Ok(false) => {
+                drop(self);
+                Ok(None)
+            }
+            Err(NoMemory) => {
+                drop(self);
+                Err(NoMemory)
+            }
         }
-        Ok(Some(Reading { replayed, owners }))
     }
 
     /// The state that was read.
@@ -160,9 +159,9 @@ impl Reading {
         Ok(give_named(&self.replayed, &mut self.owners))
     }
 
-    /// Applies an event as it is recorded. It answers false where it does not apply; what is read is then of no use, as it is where
-    /// memory runs out.
-    pub(crate) fn apply(&mut self, event: Event) -> Result<bool, NoMemory>
+    // Applies an event as it is recorded. It answers false where it does not apply; what is read is then of no use, as it is where
+    // memory runs out.
+    fn apply(&mut self, event: Event) -> Result<bool, NoMemory>
         requires well { IsReadWell self.old }
         requires grammatical { is_grammatical event ≡ true }
         ensures applies { result ≡ Ok true → PagedApplies (page_count self.old.state.units) self.old.state event }
@@ -179,20 +178,60 @@ impl Reading {
         }
     }
 
-    /// Applies a group of events as they are recorded, one after another. It answers false where the group does not apply; what is
-    /// read is then of no use, as it is where memory runs out.
-    pub(crate) fn apply_group(&mut self, events: Vec<Event>) -> Result<bool, NoMemory>
-        requires well { IsReadWell self.old }
-        requires grammatical { list_all is_grammatical events.items ≡ true }
-        ensures applies { result ≡ Ok true → AppliesTo self.old.state events.items }
-        ensures after { result ≡ Ok true → (self.new.state ≡ paged_after_all self.old.state events.items) × IsReadWell self.new }
-        ensures bad { result ≡ Ok false → ¬ AppliesTo self.old.state events.items }
+    // Reads the event at a place of the bytes, and applies it as it is recorded, up to the place that is answered.
+    fn apply_read(
+        &mut self,
+        alloc: Global,
+        bytes: &[u8],
+        at: usize,
+    ) -> Result<Option<usize>, NoMemory>
+        requires { IsReadWell self.old }
+        ensures { IfOk result (EventLeaves bytes.now at self.old self.new) }
     {
-        for event in events {
-            if !self.apply(event)? {
-                return Ok(false);
+        law_of_grammar();
+        let (event, end) = match read_event(alloc, bytes, at) {
+            Ok(read) => read,
+            Err(EventFault::NotAnEvent) => return Ok(None),
+            Err(EventFault::NoMemory) => return Err(NoMemory),
+        };
+        if !self.apply(event)? {
+            return Ok(None);
+        }
+        Ok(Some(end))
+    }
+
+    // Applies the event that a transaction commits alone the settings which lie at a place, and gives the place behind them.
+    fn apply_settings(
+        &mut self,
+        transaction: Id,
+        bytes: &[u8],
+        settings: usize,
+    ) -> Result<Option<usize>, NoMemory>
+        requires well { IsReadWell self.old }
+        requires none { self.old.state.transactions ≡ [] }
+        ensures { (at : ℕ) → IsSingleAt bytes.now at transaction settings → IfOk result (EventLeaves bytes.now at self.old self.new) }
+    {
+        law_of_grammar();
+        law_of_good_states();
+        self.replayed.apply_settings(transaction, bytes, settings)
+    }
+
+    /// Applies the event at a place of the bytes as it is recorded, and gives the place behind it. There is none where no event lies
+    /// there that applies; what is read is then of no use, as it is where memory runs out.
+    pub(crate) fn apply_at(
+        &mut self,
+        alloc: Global,
+        bytes: &[u8],
+        at: usize,
+    ) -> Result<Option<usize>, NoMemory>
+        requires { IsReadWell self.old }
+        ensures { IfOk result (EventLeaves bytes.now at self.old self.new) }
+    {
+        if self.replayed.has_no_transactions() {
+            if let Some((transaction, settings)) = settings_alone(bytes, at) {
+                return self.apply_settings(transaction, bytes, settings);
             }
         }
-        Ok(true)
+        self.apply_read(alloc, bytes, at)
     }
 }

@@ -19,11 +19,13 @@ ghost use Rattle.ktm_restart.specs.Starts.{IsReading, ReadsReading, ReplayLeaves
 use crate::durable::Durable;
 use crate::reading::Reading;
 use ktm_base::{Disk, NoMemory};
-use ktm_event::{EventFault, read_group};
-use ktm_journal::{Header, Journal, LoadFault, read_snapshot};
+use ktm_codec::u32_at;
+use ktm_journal::{Header, Journal, LoadFault, page_count, read_snapshot};
 use ktm_log::{first_payload, frame_len};
+use ktm_owners::Owners;
 use ktm_paged::law_of_paged_records;
 use ktm_records::law_of_spelling;
+use ktm_replayed::Replayed;
 use ktm_saved::read_state;
 use ktm_snapshot::law_of_states;
 use std::alloc::Global;
@@ -36,19 +38,27 @@ pub struct Loaded {
     pub state: Durable,
 }
 
-// Makes of the state what a payload says, if it is a group that applies.
+// Makes of the state what a payload says, if it is a group that applies. Its events are applied where they lie, one behind another.
 fn apply(alloc: Global, state: &mut Reading, payload: &[u8]) -> Result<bool, NoMemory>
     requires { IsReadWell state.old }
     ensures good { result ≡ Ok true → (events : Group) × IsGroupOf events payload.now × AppliesTo state.old.state events × (state.new.state ≡ paged_after_all state.old.state events) }
     ensures well { result ≡ Ok true → IsReadWell state.new }
     ensures bad { result ≡ Ok false → IsBadPayload state.old.state payload.now }
 {
-    law_of_grammar();
-    match read_group(alloc, payload) {
-        Ok(events) => state.apply_group(events),
-        Err(EventFault::NotAnEvent) => Ok(false),
-        Err(EventFault::NoMemory) => Err(NoMemory),
+    let Some((count, start)) = u32_at(payload, 0) else {
+        return Ok(false);
+    };
+    let mut end = start;
+    'events: for _ in 0..count {
+        let Some(next) = state.apply_at(alloc, payload, end)? else {
+            return Ok(false);
+        };
+        end = next;
     }
+    if count == 0 || end != payload.len() {
+        return Ok(false);
+    }
+    Ok(true)
 }
 
 // Makes of the state of a snapshot what the payloads of the log behind it say, which are read where they lie in its bytes.
@@ -131,7 +141,8 @@ fn load_log<D: Disk>(
     }
 }
 
-// The good state that stands in the bytes of a snapshot of an image with so many units and this number, if it is on pages.
+// The good state that stands in the bytes of a snapshot of an image with so many units and this number, if it is on pages. The memory
+// for the owners of pages is taken before, while nothing else would have to be given back.
 fn read_reading(
     alloc: Global,
     bytes: &[u8],
@@ -142,8 +153,12 @@ fn read_reading(
     ensures { IfOk result (λ read. ReadsReading units image bytes.now read) }
 {
     law_of_states();
+    let owners = Owners::new(alloc, page_count(units))?;
     match read_state(alloc, bytes, units, image) {
-        Ok(Some(saved)) => Reading::from(alloc, saved, units, image),
+        Ok(Some(saved)) => {
+            let reading = Reading::new(Replayed::from(alloc, saved, units, image), owners);
+            reading.if_on_pages()
+        }
         Ok(None) => Ok(None),
         Err(NoMemory) => Err(NoMemory),
     }

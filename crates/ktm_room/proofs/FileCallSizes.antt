@@ -24,8 +24,8 @@ use Rattle.ktm_world.specs.FileUses.{nodes_used, units_used}
 use Rattle.ktm_world.proofs.offered.Lookups.{node_at-there, remade}
 use Rattle.ktm_records.specs.FileCallsMade.{IsRightCall}
 use Rattle.ktm_steps.proofs.offered.Ways.{if_cases}
-use Rattle.ktm_room.proofs.ChangeSizes.{name-size}
-use Rattle.ktm_room.proofs.CourseSizes.{one-sized, sizes}
+use Rattle.ktm_room.proofs.offered.ChangeSizes.{name-size}
+use Rattle.ktm_room.proofs.offered.CourseSizes.{one-sized, sizes}
 use Rattle.txf_laws.proofs.offered.CommittedUnits.{file-found, node_units, suits-applies, tree_units}
 use Rattle.txf_laws.proofs.offered.Elements.{find-in}
 use Rattle.txf_laws.proofs.offered.Sums.{sum-one}

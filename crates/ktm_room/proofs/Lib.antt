@@ -1,13 +1,11 @@
-mod ChangeSizes
 mod CommandSizes
-mod CourseSizes
 mod FileCallSizes
 mod FrameLaws
 mod GivenBytes
 mod OwnedSizes
 mod RestartSizes
-mod SettingSizes
 mod StateSizes
 mod TickSizes
 mod TransactionSizes
 mod UndoSizes
+pub mod offered

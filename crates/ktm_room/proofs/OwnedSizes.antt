@@ -20,8 +20,8 @@ use Rattle.txf_laws.proofs.offered.Sums.{sum-one}
 use Rattle.ktm_owned.proofs.offered.OwnSettings.{own_settings-found, own_settings-good}
 use Rattle.ktm_records.specs.Kept.{IsKept}
 use Rattle.ktm_records.proofs.offered.NoMore.{Fits, fits-within}
-use Rattle.ktm_room.proofs.ChangeSizes.{changes-size}
-use Rattle.ktm_room.proofs.SettingSizes.{settings-size}
+use Rattle.ktm_room.proofs.offered.ChangeSizes.{changes-size}
+use Rattle.ktm_room.proofs.offered.SettingSizes.{settings-size}
 
 module _ (x : Present) (kept : IsKept x) where
   within : Fits x

@@ -11,7 +11,7 @@ use Rattle.ktm_world.specs.World.{done_if, own_events, own_group}
 use Rattle.txf_laws.specs.GoodState.{IsGoodState}
 use Rattle.ktm_records.proofs.offered.DurableLimits.{limits-kept}
 use Rattle.ktm_room.specs.Frames.{FitsEmptyLog}
-use Rattle.ktm_room.proofs.CourseSizes.{one-sized, sizes}
+use Rattle.ktm_room.proofs.offered.CourseSizes.{one-sized, sizes}
 
 done-size : (is : Bool) (id : Id) (done : DonePart) → sizes (done_if is id done) ≤ 9 + done_size done
 done-size true id done = let one = one-sized (Done id done) in omega (arith, one)

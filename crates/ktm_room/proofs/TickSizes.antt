@@ -17,7 +17,7 @@ use Rattle.ktm_records.proofs.offered.NoMore.{fits-within}
 use Rattle.ktm_standing.specs.Effects.{undo_of}
 use Rattle.ktm_standing.proofs.offered.Undone.{tick_records}
 use Rattle.ktm_room.specs.Frames.{FitsEmptyLog}
-use Rattle.ktm_room.proofs.CourseSizes.{if-sized, sizes}
+use Rattle.ktm_room.proofs.offered.CourseSizes.{if-sized, sizes}
 
 -- one that may be rolled back is live
 rolling-live : (t : Transaction) → may_roll_back t ≡ true → is_live t ≡ true

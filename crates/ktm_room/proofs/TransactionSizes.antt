@@ -21,9 +21,9 @@ use Rattle.txf_laws.specs.GoodState.{enlisted, enlisted_in, superiors_in}
 use Rattle.txf_laws.proofs.offered.GoodTransactions.{Core, waits}
 use Rattle.txf_laws.proofs.offered.WaitingChanges.{no_changes-left, no_changes_part, no_settings-left, settings-of-good}
 use Rattle.ktm_snapshot.specs.Sizes.{marked_size, superior_size, transaction_size}
-use Rattle.ktm_room.proofs.ChangeSizes.{changes-size}
+use Rattle.ktm_room.proofs.offered.ChangeSizes.{changes-size}
 use Rattle.ktm_room.proofs.GivenBytes.{given-units}
-use Rattle.ktm_room.proofs.SettingSizes.{settings-size}
+use Rattle.ktm_room.proofs.offered.SettingSizes.{settings-size}
 
 -- ---- parts
 

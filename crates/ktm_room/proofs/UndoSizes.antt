@@ -21,7 +21,7 @@ use Rattle.ktm_world.specs.Transactions.{is_active, transaction_at}
 use Rattle.ktm_records.proofs.offered.AgreementOfCourses.{arrival}
 use Rattle.ktm_records.proofs.offered.AgreementOfRollbacks.{rollback-undone}
 use Rattle.ktm_steps.proofs.offered.Ways.{if_cases}
-use Rattle.ktm_room.proofs.CourseSizes.{if-sized, sizes}
+use Rattle.ktm_room.proofs.offered.CourseSizes.{if-sized, sizes}
 
 -- ---- one handle
 

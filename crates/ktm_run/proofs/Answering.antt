@@ -14,15 +14,14 @@ use Rattle.ktm_base.specs.Count.{Rose}
 use Rattle.ktm_base.specs.Disk.{DiskState, DiskStatus, DeviceCalls}
 use Rattle.ktm_base.specs.Power.{after_off, planned, Restored, NotRestored}
 use Rattle.ktm_base.specs.Told.{Goes}
-use Rattle.ktm_kernel.specs.CoreDone.{page_calls}
-use Rattle.ktm_journal.specs.Append.{has_no_room}
+use Rattle.ktm_kernel.proofs.offered.Standing.{stands_up, up_is}
+use Rattle.ktm_kernel.specs.CoreDone.{lacks_room, page_calls}
 use Rattle.ktm_journal.specs.Image.{page_count}
 use Rattle.ktm_kernel.specs.Done.{is_write, most_calls, units_written}
-use Rattle.ktm_kernel.specs.Stands.{KernelState, Stands, StandsBy, KernelAt, FoundAt, FoundLaw, DoesLine, LeavesStates, LeftLaw, PowerLaw}
+use Rattle.ktm_kernel.specs.Stands.{KernelState, Stands, KernelAt, FoundAt, FoundLaw, DoesLine, LeavesStates, LeftLaw, PowerLaw}
 use Rattle.ktm_kernel.specs.Stored.{units_put}
 use Rattle.ktm_courses.specs.SoundCourse.{IsSoundCourse}
 use Rattle.ktm_standing.specs.Effects.{undo_of}
-use Rattle.ktm_standing.specs.Standing.{IsStanding}
 use Rattle.ktm_standing.proofs.offered.Undone.{tick_records}
 use Rattle.ktm_run.proofs.Counting.{RoseBy-none}
 use Rattle.ktm_run.specs.Plan.{calls_of, plan_of, falls_of, RoseBy}
@@ -49,18 +48,9 @@ use Rattle.ktm_world.specs.Phases.{event_if}
 use Rattle.ktm_world.proofs.offered.Durables.{stand-units}
 use Rattle.ktm_world.specs.Logs.{is_up}
 
--- what is so now of a machine that stands for a world
-stands_of : (b : Bool) (k : KernelState) (told : Option DiskState) (w : World) → StandsBy b k told w → (k.now ≡ present w) × IsStanding w
-stands_of true k told w stands = (stands.now, stands.standing)
-stands_of false k told w fallen = (fallen.now, fallen.standing)
-
--- a machine is up where its world is
-pub up_of : (k : KernelState) (told : Option DiskState) (w : World) → KernelAt k told w → k.now.machine.is_up ≡ is_up w.power
-up_of k told w at = ap (λ (x : Present). x.machine.is_up) (stands_of (is_up w.power) k told w at).0
-
 -- the world of a machine that is down is down
 pub off_of : (k : KernelState) (told : Option DiskState) (w : World) → k.now.machine.is_up ≡ false → KernelAt k told w → is_up w.power ≡ false
-off_of k told w off at = sym (up_of k told w at) ∙ off
+off_of k told w off at = sym (up_is k told w at) ∙ off
 
 -- ---- the counts of one line
 
@@ -139,12 +129,12 @@ undo_puts_none clock (t ∷ ts) = go (is_due clock t && t.is_recorded) (undo_put
     go false rest = rest
 
 -- the passing of time puts none
-tick_puts_none : (x : Present) (ms : ℕ) → IsSoundCourse x → PutNone (decide_tick x ms).events
-tick_puts_none x ms course = go x.machine.is_up
+tick_puts_none : (x : Present) (ms : ℕ) → (x.machine.is_up ≡ true → IsSoundCourse x) → PutNone (decide_tick x ms).events
+tick_puts_none x ms course = go x.machine.is_up refl
   where
-    go : (b : Bool) → PutNone (refuse_or x (first_refusal ((not b, MachineDown) ∷ [])) (tick x ms)).events
-    go true = subst PutNone (sym (tick_records x ms course)) (undo_puts_none (later x.transactions.clock ms) x.transactions.items)
-    go false = (refl, refl)
+    go : (b : Bool) → x.machine.is_up ≡ b → PutNone (refuse_or x (first_refusal ((not b, MachineDown) ∷ [])) (tick x ms)).events
+    go true on = subst PutNone (sym (tick_records x ms (course on))) (undo_puts_none (later x.transactions.clock ms) x.transactions.items)
+    go false off = (refl, refl)
 
 -- a machine that is up has the units of its world
 units_of : (k : KernelState) (told : Option DiskState) (w : World) → Stands k told w → k.journal.units ≡ w.base.units
@@ -154,8 +144,9 @@ units_of k (Some s) w stands =
     ∙ ap (λ (x : Present). x.recorded.units) stands.now ∙ ap (λ (d : Durable). d.units) (sym stands.standing.running.comes_to) ∙ stand-units w.base w.log
 
 -- an outcome is recorded with few device calls
-few_of_units : (k : KernelState) (events : List Event) → most_calls k events ≤ 3 * k.journal.units + 76
-few_of_units k events = elim (is_write events || has_no_room k.journal events) as (λ t. page_calls (min (units_written k.now events) (page_count k.journal.units)) + cond t 10 4 ≤ 3 * k.journal.units + 76)
+few_of_units : (completing : Bool) (k : KernelState) (events : List Event) → most_calls completing k events ≤ 3 * k.journal.units + cond completing 70 76
+few_of_units true k events = omega arith
+few_of_units false k events = elim (is_write events || lacks_room k.journal events) as (λ t. page_calls (min (units_written k.now events) (page_count k.journal.units)) + cond t 10 4 ≤ 3 * k.journal.units + 76)
     [ true ↦ omega arith | false ↦ omega arith ]
 
 -- what changes no bytes writes as many units as it puts
@@ -166,25 +157,30 @@ written_of_none x (Plain (Cut node size pages) ∷ []) (none, other) = absurd (c
 written_of_none x (Plain change ∷ []) none = refl
 written_of_none x (event ∷ events) none = none.0
 
--- ten, where it puts no bytes
-few_of_none : (k : KernelState) (events : List Event) → PutNone events → most_calls k events ≤ 10
-few_of_none k events none =
-    subst (λ n. page_calls (min n (page_count k.journal.units)) + cond (is_write events || has_no_room k.journal events) 10 4 ≤ 10) (sym (written_of_none k.now events none))
-    (elim (is_write events || has_no_room k.journal events) as (λ t. page_calls (min 0 (page_count k.journal.units)) + cond t 10 4 ≤ 10) [ true ↦ omega arith | false ↦ omega arith ])
+-- ten, where it puts no bytes, and four where it completes a transaction
+few_of_none : (completing : Bool) (k : KernelState) (events : List Event) → PutNone events → most_calls completing k events ≤ cond completing 4 10
+few_of_none true k events none =
+    subst (λ n. page_calls (min n (page_count k.journal.units)) + 4 ≤ 4) (sym (written_of_none k.now events none)) (omega arith)
+few_of_none false k events none =
+    subst (λ n. page_calls (min n (page_count k.journal.units)) + cond (is_write events || lacks_room k.journal events) 10 4 ≤ 10) (sym (written_of_none k.now events none))
+    (elim (is_write events || lacks_room k.journal events) as (λ t. page_calls (min 0 (page_count k.journal.units)) + cond t 10 4 ≤ 10) [ true ↦ omega arith | false ↦ omega arith ])
 
-pub few_calls : (k : KernelState) (told : Option DiskState) (events : List Event) → (k.now.machine.is_up ≡ false → events ≡ []) → (w : World) → KernelAt k told w → most_calls k events ≤ 3 * w.base.units + 76
-few_calls k told events quiet w at = go (is_up w.power) refl at
+pub few_calls : (completing : Bool) (k : KernelState) (told : Option DiskState) (events : List Event) → (k.now.machine.is_up ≡ false → events ≡ []) → (w : World) → KernelAt k told w → most_calls completing k events ≤ 3 * w.base.units + cond completing 70 76
+few_calls completing k told events quiet w at = go k.now.machine.is_up refl
   where
-    go : (b : Bool) → is_up w.power ≡ b → StandsBy b k told w → most_calls k events ≤ 3 * w.base.units + 76
-    go true on stands = subst (λ n. most_calls k events ≤ 3 * n + 76) (units_of k told w stands) (few_of_units k events)
-    go false off fallen =
-        let few = few_of_none k [] (refl, refl) in
-        subst (λ (es : List Event). most_calls k es ≤ 3 * w.base.units + 76) (sym (quiet (up_of k told w at ∙ off))) (omega (arith, few))
+    none_few : (b : Bool) → most_calls b k [] ≤ 3 * w.base.units + cond b 70 76
+    none_few true = let few = few_of_none true k [] (refl, refl) in omega (arith, few)
+    none_few false = let few = few_of_none false k [] (refl, refl) in omega (arith, few)
 
-pub few_later_calls : (k : KernelState) (told : Option DiskState) (ms : ℕ) (w : World) → KernelAt k told w → most_calls k (decide_tick k.now ms).events ≤ 10
-few_later_calls k told ms w at =
-    let (is, standing) = stands_of (is_up w.power) k told w at in
-    few_of_none k (decide_tick k.now ms).events (tick_puts_none k.now ms (subst IsSoundCourse (sym is) standing.running.now.sound.course))
+    go : (b : Bool) → k.now.machine.is_up ≡ b → most_calls completing k events ≤ 3 * w.base.units + cond completing 70 76
+    go true on = subst (λ n. most_calls completing k events ≤ 3 * n + cond completing 70 76) (units_of k told w (stands_up k told w at on).1) (few_of_units completing k events)
+    go false off = subst (λ (es : List Event). most_calls completing k es ≤ 3 * w.base.units + cond completing 70 76) (sym (quiet off)) (none_few completing)
+
+pub few_later_calls : (k : KernelState) (told : Option DiskState) (ms : ℕ) (w : World) → KernelAt k told w → most_calls true k (decide_tick k.now ms).events ≤ 4
+few_later_calls k told ms w at = few_of_none true k (decide_tick k.now ms).events (tick_puts_none k.now ms sound)
+  where
+    sound : k.now.machine.is_up ≡ true → IsSoundCourse k.now
+    sound on = let (power, there) = stands_up k told w at on in subst IsSoundCourse (sym there.now) there.standing.running.now.sound.course
 
 -- a line that changed nothing
 pub not_executed : LeftLaw → (k n : KernelState) (before now : Option DiskState) (a b : DiskStatus) (line : List ℕ) → now ≡ before → b ≡ a → (w : World) → KernelAt k before w

@@ -3,6 +3,7 @@ use Rattle.std.specs.Prelude.{ℕ, ◌+◌, ◌-◌, ◌*◌, ◌^◌, ◌≤◌
 use Rattle.ktm_base.specs.declared.power.PowerCall.{PowerCall}
 use Rattle.ktm_base.specs.declared.power.PowerCall.TheVariants.{Arm, Off, Power}
 use Rattle.ktm_base.specs.declared.refusal.Refusal.TheVariants.{MachineUp}
+use Rattle.ktm_kernel.specs.Debts.{completes}
 use Rattle.ktm_world.specs.declared.command.Line.{Line}
 use Rattle.ktm_world.specs.declared.command.Line.TheVariants.{Tick, Cut, Crash, Restart, Process}
 use Rattle.ktm_world.specs.declared.reply.Reply.{Reply}
@@ -58,12 +59,13 @@ falls (line ∷ lines) (step ∷ steps) (reply ∷ replies) = falls_of line step
 abbrev pub RoseBy : ℕ → ℕ → ℕ → Type 0
 RoseBy n before now = min (before + n) (2 ^ 64 - 1) ≤ now
 
--- the most device calls of a line, on an image of so many units: a call of a process and the passing of time record with four, and with six more
--- where the log has no room, a call also writes the bytes that it puts, a restart reads the image and records that it started, and no other line makes any
+-- the most device calls of a line, on an image of so many units: a call of a process records with four, and with six more where the log has not enough
+-- room, which it always has for what completes a transaction, and also writes the bytes that it puts; the passing of time records with four; a restart reads
+-- the image and records that it started; and no other line makes any
 abbrev pub calls_of : ℕ → Option Line → ℕ
 calls_of units None = 0
-calls_of units (Some (Process process command)) = 3 * units + 76
-calls_of units (Some (Tick ms)) = 10
+calls_of units (Some (Process process command)) = 3 * units + (if completes command then 70 else 76)
+calls_of units (Some (Tick ms)) = 4
 calls_of units (Some (Cut calls)) = 0
 calls_of units (Some Crash) = 0
 calls_of units (Some (Restart pick)) = 4 * units + 91

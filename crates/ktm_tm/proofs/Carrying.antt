@@ -1,5 +1,5 @@
 -- Steps that are carried out one after another.
-use Rattle.std.proofs.Common.{true≢false, ◌≡◌, inl, inr, ℕ, zero, suc, Bool, true, List, [], ◌∷◌, ◌++◌, length, map, Option, Some, None, refl, sym, ◌∙◌, ap, arith, length-append}
+use Rattle.std.proofs.Common.{true≢false, ◌≡◌, inl, inr, ℕ, zero, suc, ◌+◌, Bool, true, List, [], ◌∷◌, ◌++◌, length, map, Option, Some, None, refl, sym, ◌∙◌, ap, arith, length-append}
 use Rattle.std.specs.Prelude.{is_some}
 use Rattle.std.specs.List.{list_all, list_any}
 use Rattle.std.proofs.lemmas.Bool.{and_from, and_parts, cases_Bool}
@@ -18,7 +18,7 @@ use Rattle.ktm_manager.proofs.offered.Served.{served_nothing, served_twice, ther
 use Rattle.ktm_world.specs.Transactions.{same_id}
 use Rattle.ktm_tm.specs.declared.steps.Going.{Going}
 use Rattle.ktm_tm.specs.Listed.{AreRecoveredBehind}
-use Rattle.ktm_tm.specs.Steps.{After, after, after_all, only, with_answer, Carries, Leaves}
+use Rattle.ktm_tm.specs.Steps.{After, after, after_all, only, visits_all, visits_of, with_answer, Carries, Leaves}
 
 -- ---- enlistments keep their Ids and those of their resource managers, and stay recovered
 
@@ -143,6 +143,13 @@ next_left g step rest t t' es es' ms ms' all was base left carried =
       enlistment_room = carried.enlistment_room ∙ left.enlistment_room;
       manager_room = carried.manager_room ∙ left.manager_room;
     }
+
+-- what the rest of the steps visits is left to visit once one is carried out
+pub next_visited : (g : Going) (step : Step) (rest : List Step) (t t' : Transaction) (es es' : EnlistmentsState) (ms ms' : ManagersState) (before after' all : ℕ)
+    → before + visits_all g (step ∷ rest) t es.enlistments ≡ all → Carries (after g step t es.enlistments) t' es es' ms ms' → after' ≡ before + visits_of step t.id g.caller es.enlistments → after' + visits_all g rest t' es'.enlistments ≡ all
+next_visited g step rest t t' es es' ms ms' before after' all left carried counted =
+    let same = ap (λ t. visits_all g rest t es'.enlistments) carried.transaction ∙ ap (visits_all g rest (after g step t es.enlistments).transaction) carried.enlistments in
+    omega (arith, left, same, counted)
 
 -- none is left
 pub none_left : (g : Going) (t : Transaction) (es : EnlistmentsState) (ms : ManagersState) (all : After) (was : EnlistmentsState) (base : ManagersState) → Leaves g [] t es ms all was base → Carries all t was es base ms

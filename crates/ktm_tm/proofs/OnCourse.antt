@@ -1,5 +1,5 @@
 -- The steps of a transaction, and the courses of the model on which it stands.
-use Rattle.std.proofs.Common.{◌≡◌, inl, inr, ◌||◌, Bool, true, false, List, [], ◌∷◌, ◌++◌, map, Option, Some, None, refl, sym, ◌∙◌, ap, subst, append_assoc}
+use Rattle.std.proofs.Common.{◌≡◌, inl, inr, ◌||◌, Bool, true, false, List, [], ◌∷◌, ◌++◌, map, Option, Some, None, refl, sym, ◌∙◌, ap, subst, append_assoc, arith}
 use Rattle.std.specs.Prelude.{filter, is_some}
 use Rattle.std.specs.List.{list_any}
 use Rattle.std.proofs.lemmas.Bool.{cases_Bool}
@@ -23,7 +23,7 @@ use Rattle.ktm_enlist.specs.Counts.{parts, AreCounts}
 use Rattle.ktm_enlist.specs.Telling.{asked}
 use Rattle.ktm_tm.specs.declared.steps.Going.{Going}
 use Rattle.ktm_tm.specs.Courses.{caller_of, GoesBy, IsCourseIn}
-use Rattle.ktm_tm.specs.Steps.{After, after, after_all, ends, records, with_answer}
+use Rattle.ktm_tm.specs.Steps.{After, after, after_all, ends, records, visits_all, visits_of, visits_on, with_answer}
 use Rattle.ktm_tm.specs.TmState.{TmState}
 
 -- the steps on this course go by this
@@ -135,18 +135,39 @@ run_after g c (step ∷ steps) on =
           ∙ append_assoc c.sent a.sent (after_all g steps a.transaction a.enlistments).sent;
     }
 
+-- the steps on a course visit as many as those that are carried out
+run_visits : (g : Going) (c : Course) (steps : List Step) → IsOn g c → visits_on steps c ≡ visits_all g steps c.transaction c.enlistments
+run_visits g c [] on = refl
+run_visits g c (step ∷ steps) on =
+    let first = step_after g c step on in
+    let rest = run_visits g (carried step c) steps (step_on g c step on) in
+    let a = after g step c.transaction c.enlistments in
+    let same : visits_all g steps (carried step c).transaction (carried step c).enlistments ≡ visits_all g steps a.transaction a.enlistments =
+    ap (λ (t : Transaction). visits_all g steps t (carried step c).enlistments) first.transaction ∙ ap (visits_all g steps a.transaction) first.enlistments in
+    let here = ap (λ (o : Option Id). visits_of step c.transaction.id o c.enlistments) on.calls in
+    omega (arith, rest, same, here)
+
+-- the course is one on which the steps go by this
+course_on : (tm : TmState) (t : Transaction) (caller : Option Id) (has_files has_keys : Bool) (g : Going) (c : Course) → GoesBy tm caller has_files has_keys g → IsCourseIn tm t caller has_files has_keys c → IsOn g c
+course_on tm t caller has_files has_keys g c goes is = record {
+  calls = ap id_of is.calls ∙ goes.calls;
+  durable = ap (λ ms. is_of_durable ms c.caller) is.managers ∙ ap (is_of_durable tm.managers) is.calls ∙ goes.durable;
+  files = is.files ∙ goes.files;
+  keys = is.keys ∙ goes.keys;
+}
+
 -- what is so after the steps on a course is what is carried out
 pub course_after : (tm : TmState) (t : Transaction) (caller : Option Id) (has_files has_keys : Bool) (g : Going) (c : Course) (steps : List Step) → GoesBy tm caller has_files has_keys g → IsCourseIn tm t caller has_files has_keys c
     → IsAfter c (run steps c) (after_all g steps t tm.now.enlistments)
 course_after tm t caller has_files has_keys g c steps goes is =
-    let on : IsOn g c = record {
-      calls = ap id_of is.calls ∙ goes.calls;
-      durable = ap (λ ms. is_of_durable ms c.caller) is.managers ∙ ap (is_of_durable tm.managers) is.calls ∙ goes.durable;
-      files = is.files ∙ goes.files;
-      keys = is.keys ∙ goes.keys;
-    } in
     subst (λ (t : Transaction). IsAfter c (run steps c) (after_all g steps t tm.now.enlistments)) is.transaction
-    (subst (λ (es : List Enlistment). IsAfter c (run steps c) (after_all g steps c.transaction es)) is.enlistments (run_after g c steps on))
+    (subst (λ (es : List Enlistment). IsAfter c (run steps c) (after_all g steps c.transaction es)) is.enlistments (run_after g c steps (course_on tm t caller has_files has_keys g c goes is)))
+
+-- as many are visited by the steps on a course as by what is carried out
+pub course_visits : (tm : TmState) (t : Transaction) (caller : Option Id) (has_files has_keys : Bool) (g : Going) (c : Course) (steps : List Step) → GoesBy tm caller has_files has_keys g → IsCourseIn tm t caller has_files has_keys c
+    → visits_on steps c ≡ visits_all g steps t tm.now.enlistments
+course_visits tm t caller has_files has_keys g c steps goes is =
+    run_visits g c steps (course_on tm t caller has_files has_keys g c goes is) ∙ ap (λ (t : Transaction). visits_all g steps t c.enlistments) is.transaction ∙ ap (visits_all g steps t) is.enlistments
 
 -- all that was sent after the steps on a course is what their carrying out sends, since nothing was sent before
 pub course_sent : (tm : TmState) (t : Transaction) (caller : Option Id) (has_files has_keys : Bool) (g : Going) (c : Course) (steps : List Step) → GoesBy tm caller has_files has_keys g → IsCourseIn tm t caller has_files has_keys c

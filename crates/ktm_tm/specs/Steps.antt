@@ -1,5 +1,5 @@
 -- What the steps of a transaction make of it and of the enlistments, and what they send.
-use Rattle.std.specs.Prelude.{◌≡◌, ◌+◌, ◌||◌, Bool, true, List, [], ◌∷◌, ◌++◌, length, map, filter, is_some, Option, Some, None, if◌then◌else◌}
+use Rattle.std.specs.Prelude.{◌≡◌, ℕ, ◌+◌, ◌||◌, Bool, true, List, [], ◌∷◌, ◌++◌, length, map, filter, is_some, Option, Some, None, if◌then◌else◌}
 use Rattle.std.specs.List.{list_all, list_any}
 use Rattle.ktm_base.specs.declared.id.Id.{Id}
 use Rattle.ktm_base.specs.declared.notify.Notify.{Notify}
@@ -11,12 +11,12 @@ use Rattle.ktm_world.specs.declared.step.Fact.{Fact}
 use Rattle.ktm_world.specs.declared.step.Owed.{Owed}
 use Rattle.ktm_world.specs.declared.step.Step.{Step}
 use Rattle.ktm_world.specs.declared.step.Who.{Who}
-use Rattle.ktm_world.specs.Enlistments.{Enlistment, Sent, has_id, is_unfinished, superior_of, tell, with_enlistments}
+use Rattle.ktm_world.specs.Enlistments.{Enlistment, Sent, has_id, id_of, is_unfinished, superior_of, tell, with_enlistments}
 use Rattle.ktm_world.specs.Outcome.{served}
-use Rattle.ktm_world.specs.Phases.{end_notice}
-use Rattle.ktm_world.specs.Steps.{answered, is_one_of}
+use Rattle.ktm_world.specs.Phases.{Course, end_notice}
+use Rattle.ktm_world.specs.Steps.{answered, carried, is_one_of}
 use Rattle.ktm_enlist.specs.Enlistments.{EnlistmentsState}
-use Rattle.ktm_enlist.specs.Telling.{asked, has_manager}
+use Rattle.ktm_enlist.specs.Telling.{asked, has_manager, visited}
 use Rattle.ktm_manager.specs.Managers.{ManagersState}
 use Rattle.ktm_tm.specs.declared.steps.Going.{Going}
 
@@ -75,6 +75,24 @@ sent_before sent a = record a { sent = sent ++ a.sent }
 abbrev pub after_all : Going → List Step → Transaction → List Enlistment → After
 after_all g [] t es = only t es
 after_all g (step ∷ steps) t es = sent_before (after g step t es).sent (after_all g steps (after g step t es).transaction (after g step t es).enlistments)
+
+-- how many enlistments of the transaction a step visits to tell those that it tells, where this one calls
+abbrev pub visits_of : Step → Id → Option Id → List Enlistment → ℕ
+visits_of (Step.Tell who kind) id caller es = visited id caller who es
+visits_of (Step.Ask who kind owed) id caller es = visited id caller who es
+visits_of (Step.End outcome) id caller es = visited id caller Who.Superior es
+visits_of (Step.EndWhereFinished outcome) id caller es = if list_any (is_unfinished id) es then 0 else visited id caller Who.Superior es
+visits_of _ id caller es = 0
+
+-- how many the steps visit, one after another
+abbrev pub visits_all : Going → List Step → Transaction → List Enlistment → ℕ
+visits_all g [] t es = 0
+visits_all g (step ∷ steps) t es = visits_of step t.id g.caller es + visits_all g steps (after g step t es).transaction (after g step t es).enlistments
+
+-- how many the steps of a course visit
+abbrev pub visits_on : List Step → Course → ℕ
+visits_on [] c = 0
+visits_on (step ∷ steps) c = visits_of step c.transaction.id (id_of c.caller) c.enlistments + visits_on steps (carried step c)
 
 -- this has been carried out on the enlistments and the resource managers, and this is the transaction then
 pub record Carries (a : After) (t : Transaction) (es es' : EnlistmentsState) (ms ms' : ManagersState) : Type 0 where

@@ -7,13 +7,16 @@ ghost use Rattle.ktm_world.specs.Phases.{Course};
 ghost use Rattle.ktm_world.specs.Steps.{run, seen};
 ghost use Rattle.ktm_world.specs.Transactions.{change_at};
 ghost use Rattle.ktm_tm.specs.Courses.{caller_of, GoesBy, IsCourseIn};
+ghost use Rattle.ktm_tm.specs.Steps.{visits_on};
 ghost use Rattle.ktm_tm.specs.TmState.{KeepsRoom};
 
 use crate::steps::{Going, carry_all};
 use crate::tm::Tm;
 use ktm_base::Id;
+use ktm_counted::Steps;
 use ktm_phase::Enlistment;
 use ktm_world::{Seen, Step, Transaction};
+use std::sync::ledger::Ledger;
 
 impl Tm {
     /// What counts of the transaction, where the files and the keys take part or not.
@@ -64,23 +67,32 @@ impl Tm {
     }
 
     /// The transaction goes on by these steps, where this enlistment calls, and the files and the keys take part or not. It takes
-    /// no memory.
-    pub fn carry_out(
+    /// no memory. Each enlistment that is visited to tell it is counted.
+    pub fn carry_out<L: Ledger>(
         &mut self,
         t: Transaction,
         caller: Option<Id>,
         has_files: bool,
         has_keys: bool,
         steps: &[Step],
+        visits: &mut Steps<L>,
     )
         requires slots { (c : Course) → IsCourseIn self.old t caller has_files has_keys c → length (run steps.now c).sent ≤ self.old.slots }
         ensures now { (c : Course) → IsCourseIn self.old t caller has_files has_keys c → self.new.now ≡ record self.old.now { items = change_at self.old.now.items t.id (λ u. (run steps.now c).transaction); enlistments = (run steps.now c).enlistments } }
         ensures managers { (c : Course) → IsCourseIn self.old t caller has_files has_keys c → self.new.managers ≡ map (served None (run steps.now c).sent) self.old.managers }
         ensures slots { (c : Course) → IsCourseIn self.old t caller has_files has_keys c → self.new.slots + length (run steps.now c).sent ≡ self.old.slots }
         ensures room { KeepsRoom self.old self.new }
+        ensures counted { (c : Course) → IsCourseIn self.old t caller has_files has_keys c → visits.new ≡ visits.old + visits_on steps.now c }
     {
         let going = self.going(caller, has_files, has_keys);
-        let then = carry_all(&mut self.enlistments, &mut self.managers, going, t, steps);
+        let then = carry_all(
+            &mut self.enlistments,
+            &mut self.managers,
+            going,
+            t,
+            steps,
+            visits,
+        );
         self.arrive(then);
     }
 }

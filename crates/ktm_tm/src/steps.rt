@@ -3,13 +3,15 @@ ghost use Rattle.std.specs.Prelude.{◌≡◌, ◌+◌, ◌≤◌, None, length,
 ghost use Rattle.std.specs.List.{list_all};
 ghost use Rattle.ktm_world.specs.Outcome.{served};
 ghost use Rattle.ktm_world.specs.Phases.{end_notice};
-ghost use Rattle.ktm_enlist.specs.Telling.{has_manager};
-ghost use Rattle.ktm_tm.specs.Steps.{after, after_all, ends, records, told_those, with_answer, Carries};
+ghost use Rattle.ktm_enlist.specs.Telling.{has_manager, visited};
+ghost use Rattle.ktm_tm.specs.Steps.{after, after_all, ends, records, told_those, visits_all, visits_of, with_answer, Carries};
 
 use ktm_base::{Id, Notify};
+use ktm_counted::Steps;
 use ktm_enlist::Enlistments;
 use ktm_manager::Managers;
 use ktm_world::{Answered, Fact, Owed, Phase, Step, Transaction, TransactionOutcome, Who};
+use std::sync::ledger::Ledger;
 
 /// What the steps of a call go by: the enlistment that calls, if one does, whether its resource manager is durable, and whether
 /// the files and the keys take part.
@@ -44,8 +46,8 @@ fn records(enlistments: &Enlistments, g: Going, t: &Transaction, fact: Fact) -> 
     }
 }
 
-// Those enlistments are told, and owe an answer from then on, if there is one to owe.
-fn tell(
+// Those enlistments are told, and owe an answer from then on, if there is one to owe. Each that is visited is a step.
+fn tell<L: Ledger>(
     enlistments: &mut Enlistments,
     managers: &mut Managers,
     g: Going,
@@ -53,26 +55,30 @@ fn tell(
     who: Who,
     kind: Notify,
     owed: Option<Owed>,
+    visits: &mut Steps<L>,
 ) -> Transaction
     requires there { list_all (has_manager managers.old.managers) enlistments.old.enlistments ≡ true }
     requires spare { length (told_those g who kind owed t enlistments.old.enlistments).sent ≤ managers.old.spare }
-    ensures { Carries (told_those g who kind owed t enlistments.old.enlistments) result enlistments.old enlistments.new managers.old managers.new }
+    ensures carries { Carries (told_those g who kind owed t enlistments.old.enlistments) result enlistments.old enlistments.new managers.old managers.new }
+    ensures counted { visits.new ≡ visits.old + visited t.id g.caller who enlistments.old.enlistments }
 {
-    enlistments.tell(managers, t.id, g.caller, who, kind, owed);
+    enlistments.tell(managers, t.id, g.caller, who, kind, owed, visits);
     t
 }
 
-// The transaction has ended with this outcome, and its superior is told.
-fn end(
+// The transaction has ended with this outcome, and its superior is told. Each enlistment that is visited is a step.
+fn end<L: Ledger>(
     enlistments: &mut Enlistments,
     managers: &mut Managers,
     g: Going,
     t: Transaction,
     outcome: TransactionOutcome,
+    visits: &mut Steps<L>,
 ) -> Transaction
     requires there { list_all (has_manager managers.old.managers) enlistments.old.enlistments ≡ true }
     requires spare { length (ends g outcome t enlistments.old.enlistments).sent ≤ managers.old.spare }
-    ensures { Carries (ends g outcome t enlistments.old.enlistments) result enlistments.old enlistments.new managers.old managers.new }
+    ensures carries { Carries (ends g outcome t enlistments.old.enlistments) result enlistments.old enlistments.new managers.old managers.new }
+    ensures counted { visits.new ≡ visits.old + visited t.id g.caller Who.Superior enlistments.old.enlistments }
 {
     let t = Transaction {
         outcome,
@@ -87,6 +93,7 @@ fn end(
         Who::Superior,
         end_notice(outcome),
         None,
+        visits,
     )
 }
 
@@ -100,17 +107,19 @@ fn answer(enlistments: &mut Enlistments, caller: Option<Id>, answer: Answered)
     }
 }
 
-// Carries out a step.
-fn carry(
+// Carries out a step. Each enlistment that is visited is counted.
+fn carry<L: Ledger>(
     enlistments: &mut Enlistments,
     managers: &mut Managers,
     g: Going,
     t: Transaction,
     step: Step,
+    visits: &mut Steps<L>,
 ) -> Transaction
     requires there { list_all (has_manager managers.old.managers) enlistments.old.enlistments ≡ true }
     requires spare { length (after g step t enlistments.old.enlistments).sent ≤ managers.old.spare }
-    ensures { Carries (after g step t enlistments.old.enlistments) result enlistments.old enlistments.new managers.old managers.new }
+    ensures carries { Carries (after g step t enlistments.old.enlistments) result enlistments.old enlistments.new managers.old managers.new }
+    ensures counted { visits.new ≡ visits.old + visits_of step t.id g.caller enlistments.old.enlistments }
 {
     match step {
         Step::Record(fact) => Transaction {
@@ -118,40 +127,44 @@ fn carry(
             ..t
         },
         Step::Commit => t,
-        Step::Tell(who, kind) => tell(enlistments, managers, g, t, who, kind, None),
-        Step::Ask(who, kind, owed) => tell(enlistments, managers, g, t, who, kind, Some(owed)),
+        Step::Tell(who, kind) => tell(enlistments, managers, g, t, who, kind, None, visits),
+        Step::Ask(who, kind, owed) => {
+            tell(enlistments, managers, g, t, who, kind, Some(owed), visits)
+        }
         Step::Change(answered) => {
             answer(enlistments, g.caller, answered);
             t
         }
         Step::Enter(phase) => Transaction { phase, ..t },
         Step::Decide(outcome) => Transaction { outcome, ..t },
-        Step::End(outcome) => end(enlistments, managers, g, t, outcome),
+        Step::End(outcome) => end(enlistments, managers, g, t, outcome, visits),
         Step::EndWhereFinished(outcome) => {
             if enlistments.has_unfinished(t.id) {
                 t
             } else {
-                end(enlistments, managers, g, t, outcome)
+                end(enlistments, managers, g, t, outcome, visits)
             }
         }
     }
 }
 
-/// Carries out the steps, one after another, and gives the transaction as it is then.
-pub fn carry_all(
+/// Carries out the steps, one after another, and gives the transaction as it is then. Each enlistment that is visited is counted.
+pub fn carry_all<L: Ledger>(
     enlistments: &mut Enlistments,
     managers: &mut Managers,
     g: Going,
     t: Transaction,
     steps: &[Step],
+    visits: &mut Steps<L>,
 ) -> Transaction
     requires there { list_all (has_manager managers.old.managers) enlistments.old.enlistments ≡ true }
     requires spare { length (after_all g steps.now t enlistments.old.enlistments).sent ≤ managers.old.spare }
-    ensures { Carries (after_all g steps.now t enlistments.old.enlistments) result enlistments.old enlistments.new managers.old managers.new }
+    ensures carries { Carries (after_all g steps.now t enlistments.old.enlistments) result enlistments.old enlistments.new managers.old managers.new }
+    ensures counted { visits.new ≡ visits.old + visits_all g steps.now t enlistments.old.enlistments }
 {
     let mut t = t;
     for step in steps {
-        t = carry(enlistments, managers, g, t, *step);
+        t = carry(enlistments, managers, g, t, *step, visits);
     }
     t
 }

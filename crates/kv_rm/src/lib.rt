@@ -5,6 +5,7 @@ mod call;
 mod count;
 mod held;
 mod list;
+mod make;
 mod own;
 mod participant;
 mod rm;

@@ -1,11 +1,13 @@
 // The manager as a participant of transactions.
-ghost use Rattle.std.specs.Prelude.{◌≡◌};
+ghost use Rattle.std.specs.Prelude.{◌≡◌, length};
 ghost use Rattle.ktm_world.specs.Keys.{own_settings, stored_all, without_own};
 ghost use Rattle.kv_rm.specs.Participant.{has_own};
 
 use crate::rm::KvRm;
 use ktm_base::Id;
+use ktm_counted::Steps;
 use ktm_participant::Participant;
+use std::sync::ledger::Ledger;
 
 /// What a transaction has set, which is ready to be committed or undone.
 pub struct PreparedSettings {
@@ -18,6 +20,8 @@ impl Participant for KvRm {
     ghost owner = { λ p. p.transaction };
 
     ghost has_work = { λ keys id. has_own keys.own id };
+
+    ghost work_of = { λ keys id. length (own_settings keys.own id) };
 
     ghost may_commit = { λ keys id. Unit {0} };
 
@@ -33,10 +37,10 @@ impl Participant for KvRm {
         }
     }
 
-    /// Makes the transaction's settings in the store, in order.
-    fn commit(&mut self, prepared: PreparedSettings) {
+    /// Makes the transaction's settings in the store, in order. Each setting is a step.
+    fn commit<L: Ledger>(&mut self, prepared: PreparedSettings, steps: &mut Steps<L>) {
         let PreparedSettings { transaction } = prepared;
-        self.commit_own(transaction);
+        self.commit_own(transaction, steps);
     }
 
     /// Forgets what the transaction has set.

@@ -20,13 +20,16 @@ use crate::call::{KvCall, Room};
 use crate::count::{Counts, Kind};
 use crate::held::HeldKeys;
 use crate::list::keys_with;
+use crate::make::make_all;
 use crate::own::{OwnList, Seat};
 use crate::setting_list::SettingList;
 use ktm_base::{Bytes, Id, NoMemory, Refusal, Text, TextList};
+use ktm_counted::Steps;
 use ktm_keyed::KeyedList;
-use ktm_world::{Entry, Reply, Setting, is_bad_key, is_bad_value, make_all};
+use ktm_world::{Entry, Reply, Setting, is_bad_key, is_bad_value};
 use std::alloc::Global;
 use std::marker::Model;
+use std::sync::ledger::Ledger;
 
 // Where a setting goes, if it is for a transaction, and the counts once it is made.
 #[derive(Clone, Copy)]
@@ -380,9 +383,10 @@ impl KvRm {
         self.own.has(transaction)
     }
 
-    // Makes the transaction's settings in the store, in order. It takes no memory.
-    pub(crate) fn commit_own(&mut self, transaction: Id)
-        ensures { self.new ≡ record { store = stored_all self.old.store (own_settings self.old.own transaction); own = without_own self.old.own transaction } }
+    // Makes the transaction's settings in the store, in order. It takes no memory. Each setting is a step.
+    pub(crate) fn commit_own<L: Ledger>(&mut self, transaction: Id, steps: &mut Steps<L>)
+        ensures keys { self.new ≡ record { store = stored_all self.old.store (own_settings self.old.own transaction); own = without_own self.old.own transaction } }
+        ensures counted { steps.new ≡ steps.old + length (own_settings self.old.own transaction) }
     {
         let settings = take(
             self.alloc,
@@ -391,7 +395,7 @@ impl KvRm {
             &mut self.held,
             transaction,
         );
-        make_all(&mut self.store, settings);
+        make_all(&mut self.store, settings, steps);
     }
 
     // Forgets what the transaction has set.

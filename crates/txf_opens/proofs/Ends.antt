@@ -1,7 +1,7 @@
 -- Lemmas on the open files of one transaction.
-use Rattle.std.proofs.Common.{◌≡◌, ℕ, ◌≤◌, ◌<◌, ◌==◌, ◌&&◌, Bool, true, false, not, eqb, List, [], ◌∷◌, length, filter, Option, Some, refl, sym, ap, ◌∙◌, inl, inr, arith}
+use Rattle.std.proofs.Common.{◌≡◌, ℕ, ◌+◌, ◌≤◌, ◌<◌, ◌==◌, ◌&&◌, Bool, true, false, not, eqb, List, [], ◌∷◌, count_by, length, filter, Option, Some, refl, sym, ap, ◌∙◌, inl, inr, arith}
 use Rattle.std.specs.List.{list_any}
-use Rattle.std.proofs.lemmas.Bool.{cases_Bool, and_parts, or_parts, eqb-true, eq-eqb}
+use Rattle.std.proofs.lemmas.Bool.{cases_Bool, and_parts, or_parts, eqb-true, eq-eqb, not-false}
 use Rattle.std.proofs.lemmas.Option.{same_Some}
 use Rattle.ktm_base.specs.declared.id.Id.{Id}
 use Rattle.ktm_world.specs.Conflicts.{same_group}
@@ -15,11 +15,11 @@ use Rattle.txf_opens.specs.declared.file.OpenFile.{OpenFile as Kept}
 use Rattle.txf_opens.specs.Indexed.{is_any, opens_of, IsIndex, IsNumberOf}
 use Rattle.txf_opens.specs.Names.{group_bytes, group_name, number_name}
 use Rattle.txf_opens.specs.Acts.{open_of}
-use Rattle.txf_opens.specs.OpensState.{is_not_of, is_other_number}
+use Rattle.txf_opens.specs.OpensState.{is_not_of, is_other_number, is_own}
 use Rattle.txf_opens.proofs.Adding.{one_number}
 use Rattle.txf_opens.proofs.Bytes.{begins_group, group_begins, is_of-group, same_group-true}
 use Rattle.txf_opens.proofs.Found.{found_at}
-use Rattle.txf_opens.proofs.Listed.{any_from, none_passes}
+use Rattle.txf_opens.proofs.Listed.{any_from, count_cons, count_no, count_yes, count-there, none_passes}
 
 group_of : (id : Id) (other : Option Id) → is_of id other ≡ true → same_group other (Some id) ≡ true
 group_of id other same =
@@ -55,6 +55,9 @@ number_of_it items numbers groups id key file by_number by_group distinct first 
           let same : e ≡ file = same_Some e file (sym e_there ∙ ap (value_at items) same_key ∙ there) in
           let is : is_of id e.transaction ≡ true = ap (λ (f : Kept). is_of id f.transaction) same ∙ own in
           absurd (let no : not (is_of id e.transaction) ≡ false = ap not is in cc));
+      once =
+          count-there (λ o. o.number == file.number) items key file distinct (λ k e e_there so.
+          one_number items numbers key file by_number there k e e_there (eqb-true e.number file.number so)) there (eq-eqb file.number file.number refl);
     }
 
 -- to close a file of the transaction leaves those that are not of it
@@ -74,6 +77,30 @@ filter-closed id n (o ∷ os) own =
             | inl kept ↦ rw kept (ap (λ l. o ∷ l) rest)
             | inr gone ↦ rw gone rest
           ])
+    ]
+
+-- with a file of the transaction one fewer is left of it
+pub count-closed : (id : Id) (n : ℕ) (os : List OpenFile) → list_any (λ o. o.number == n && not (is_of id o.transaction)) os ≡ false
+    → count_by (is_own id) (filter (is_other_number n) os) + count_by (λ o. o.number == n) os ≡ count_by (is_own id) os
+count-closed id n [] own = refl
+count-closed id n (o ∷ os) own =
+    let parts = or_parts (eqb o.number n && not (is_of id o.transaction)) (list_any (λ o. o.number == n && not (is_of id o.transaction)) os) own in
+    let rest = count-closed id n os parts.1 in
+    elim (cases_Bool (eqb o.number n)) [
+      | inl same ↦
+          let gone : filter (is_other_number n) (o ∷ os) ≡ filter (is_other_number n) os = rw same refl in
+          let is : is_of id o.transaction ≡ true = not-false (is_of id o.transaction) (rw same at parts.0) in
+          omega (arith, rest, ap (count_by (is_own id)) gone, count_yes (is_own id) o os is, count_yes (λ o. o.number == n) o os same)
+      | inr other ↦
+          let stays : filter (is_other_number n) (o ∷ os) ≡ o ∷ filter (is_other_number n) os = rw other refl in
+          omega (
+            arith,
+            rest,
+            ap (count_by (is_own id)) stays,
+            count_cons (is_own id) o os,
+            count_cons (is_own id) o (filter (is_other_number n) os),
+            count_no (λ o. o.number == n) o os other,
+          )
     ]
 
 length-filter : (p : OpenFile → Bool) (os : List OpenFile) → length (filter p os) ≤ length os

@@ -1,7 +1,8 @@
 -- Lemmas on the open files in order, each with its key.
-use Rattle.std.proofs.Common.{◌≡◌, Bool, true, false, not, List, [], ◌∷◌, filter, Some, None, refl, sym, ap, ◌∙◌, inl, inr}
+use Rattle.std.proofs.Common.{◌≡◌, ◌+◌, Bool, true, false, cond, not, List, [], ◌∷◌, count_by, filter, Some, None, refl, sym, ap, ◌∙◌, inl, inr, arith}
 use Rattle.std.specs.List.{list_any, find}
 use Rattle.std.proofs.lemmas.Bool.{cases_Bool, or_cases, or_left, or_right, or_parts}
+use Rattle.std.proofs.lemmas.List.Sums.{sum_by-cons}
 use Rattle.std.proofs.lemmas.Option.{same_Some}
 use Rattle.ktm_world.specs.Files.{OpenFile}
 use Rattle.ktm_links.specs.declared.list.Key.{Key}
@@ -76,6 +77,14 @@ other_passes_not p x xs key only other =
       | inr not_so ↦ not_so
     ]
 
+-- where the first one has the key, none behind it passes
+none_behind : (p : OpenFile → Bool) (x : Item Kept) (xs : List (Item Kept)) (key : Key) → AreDistinct (x ∷ xs) → IsOnly p (x ∷ xs) key → same_key x.key key ≡ true → list_any p (opens_of xs) ≡ false
+none_behind p x xs key distinct only same =
+    none_passes p xs distinct.1 (λ k v is yes.
+    let here = only k v (value_at-behind x xs k v distinct is) yes in
+    let gone : value_at xs k ≡ None = ap (value_at xs) (here ∙ sym (same_key-true x.key key same)) ∙ distinct.0 in
+    absurd (cc))
+
 pub find-there : (p : OpenFile → Bool) (items : List (Item Kept)) (key : Key) (e : Kept) → AreDistinct items → IsOnly p items key → value_at items key ≡ Some e → p (open_of e) ≡ true
     → find p (opens_of items) ≡ Some (open_of e)
 find-there p [] key e distinct only there so = absurd (cc)
@@ -111,13 +120,40 @@ filter-without p (x ∷ xs) key e distinct only there so =
       | inl same ↦
           let value : x.value ≡ e = same_Some x.value e (rw same at there) in
           let passes : p (open_of x.value) ≡ true = ap (λ (k : Kept). p (open_of k)) value ∙ so in
-          let none = none_passes p xs distinct.1 (λ k v is yes.
-          let here = only k v (value_at-behind x xs k v distinct is) yes in
-          let gone : value_at xs k ≡ None = ap (value_at xs) (here ∙ sym (same_key-true x.key key same)) ∙ distinct.0 in
-          absurd (cc)) in
-          rw (same, passes) (sym (filter-none p (opens_of xs) none))
+          rw (same, passes) (sym (filter-none p (opens_of xs) (none_behind p x xs key distinct only same)))
       | inr other ↦
           rw (other, other_passes_not p x xs key only other)
           (ap (λ l. open_of x.value ∷ l)
           (filter-without p xs key e distinct.1 (IsOnly-behind p x xs key distinct only) (rw other at there) so))
+    ]
+
+-- ---- how many pass
+pub count_cons : (p : OpenFile → Bool) (o : OpenFile) (os : List OpenFile) → count_by p (o ∷ os) ≡ cond (p o) 1 0 + count_by p os
+count_cons p o os = sum_by-cons (λ x. cond (p x) 1 0) o os
+
+pub count_yes : (p : OpenFile → Bool) (o : OpenFile) (os : List OpenFile) → p o ≡ true → count_by p (o ∷ os) ≡ 1 + count_by p os
+count_yes p o os so = count_cons p o os ∙ ap (λ b. cond b 1 0 + count_by p os) so
+
+pub count_no : (p : OpenFile → Bool) (o : OpenFile) (os : List OpenFile) → p o ≡ false → count_by p (o ∷ os) ≡ count_by p os
+count_no p o os not_so = count_cons p o os ∙ ap (λ b. cond b 1 0 + count_by p os) not_so ∙ omega arith
+
+pub count-none : (p : OpenFile → Bool) (os : List OpenFile) → list_any p os ≡ false → count_by p os ≡ 0
+count-none p [] none = refl
+count-none p (o ∷ os) none =
+    let parts = or_parts (p o) (list_any p os) none in
+    count_no p o os parts.0 ∙ count-none p os parts.1
+
+-- one alone passes
+pub count-there : (p : OpenFile → Bool) (items : List (Item Kept)) (key : Key) (e : Kept) → AreDistinct items → IsOnly p items key → value_at items key ≡ Some e → p (open_of e) ≡ true
+    → count_by p (opens_of items) ≡ 1
+count-there p [] key e distinct only there so = absurd (cc)
+count-there p (x ∷ xs) key e distinct only there so =
+    elim (cases_Bool (same_key x.key key)) [
+      | inl same ↦
+          let value : x.value ≡ e = same_Some x.value e (rw same at there) in
+          let passes : p (open_of x.value) ≡ true = ap (λ (k : Kept). p (open_of k)) value ∙ so in
+          count_yes p (open_of x.value) (opens_of xs) passes ∙ ap (λ n. 1 + n) (count-none p (opens_of xs) (none_behind p x xs key distinct only same))
+      | inr other ↦
+          count_no p (open_of x.value) (opens_of xs) (other_passes_not p x xs key only other)
+          ∙ count-there p xs key e distinct.1 (IsOnly-behind p x xs key distinct only) (rw other at there) so
     ]

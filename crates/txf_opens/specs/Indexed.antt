@@ -1,5 +1,5 @@
 -- How the maps from names stand to the open files. No public clause cites this module.
-use Rattle.std.specs.Prelude.{◌≡◌, ℕ, ◌<◌, ◌≤◌, ◌^◌, ◌==◌, ◌&&◌, not, Bool, true, false, List, Some, None, map, min}
+use Rattle.std.specs.Prelude.{◌≡◌, ℕ, ◌<◌, ◌≤◌, ◌^◌, ◌==◌, ◌&&◌, not, Bool, true, false, List, Some, None, count_by, map, min}
 use Rattle.std.specs.List.{list_any}
 use Rattle.ktm_base.specs.declared.id.Id.{Id}
 use Rattle.ktm_world.specs.Conflicts.{lets_read, lets_write, reads, writes}
@@ -121,3 +121,4 @@ pub record IsIndexed (items : List (Item Kept)) (numbers groups : List (NamedIte
 pub record IsNumberOf (opens : List OpenFile) (transaction : Id) (number : ℕ) : Type 0 where
   pub there : list_any (λ o. o.number == number) opens ≡ true
   pub own : list_any (λ o. o.number == number && not (is_of transaction o.transaction)) opens ≡ false
+  pub once : count_by (λ o. o.number == number) opens ≡ 1

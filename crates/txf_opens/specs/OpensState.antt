@@ -21,6 +21,10 @@ opened number node transaction access share = record { number = number; node = n
 abbrev pub is_other_number : ℕ → OpenFile → Bool
 is_other_number number o = not (o.number == number)
 
+-- is the open file of the transaction
+abbrev pub is_own : Id → OpenFile → Bool
+is_own transaction o = is_of transaction o.transaction
+
 -- is the open file not of the transaction
 abbrev pub is_not_of : Id → OpenFile → Bool
 is_not_of transaction o = not (is_of transaction o.transaction)

@@ -1,12 +1,12 @@
 // The open files.
-ghost use Rattle.std.specs.Prelude.{◌≡◌, ◌<◌, ◌≤◌, ◌+◌, ◌-◌, ◌^◌, ◌++◌, ◌∷◌, ◌==◌, ◌&&◌, ◌||◌, not, [], filter, find, is_none, is_some, length, min, IfNone, IfSome, IsOk, OnOk, false};
+ghost use Rattle.std.specs.Prelude.{◌≡◌, ◌<◌, ◌≤◌, ◌+◌, ◌-◌, ◌^◌, ◌++◌, ◌∷◌, ◌==◌, ◌&&◌, ◌||◌, not, [], count_by, filter, find, is_none, is_some, length, min, IfNone, IfSome, IsOk, OnOk, false};
 ghost use Rattle.std.specs.List.{list_any};
 ghost use Rattle.std.specs.Option.{option_map};
 ghost use Rattle.ktm_world.specs.Conflicts.{is_open_in, is_shared, lets_read, lets_write, opened_in, reads, violates_sharing, writes};
 ghost use Rattle.ktm_world.specs.Transactions.{is_of};
 ghost use Rattle.txf_opens.specs.Indexed.{IsNumberOf};
 ghost use Rattle.txf_opens.specs.Acts.{open_of};
-ghost use Rattle.txf_opens.specs.OpensState.{is_not_of, is_other_number, is_other_writer, opened};
+ghost use Rattle.txf_opens.specs.OpensState.{is_not_of, is_other_number, is_other_writer, is_own, opened};
 
 use crate::file::{OpenFile, asks_write, is_same_group, lets_read, lets_write, reads};
 use crate::index::{add, has_under, take};
@@ -15,10 +15,12 @@ use crate::name::{
 };
 use crate::uses::{Uses, first_writer_from, first_writer_under};
 use ktm_base::{Id, NoMemory};
+use ktm_counted::Steps;
 use ktm_links::{Chains, Key, List, first_under, key_under, number_bytes};
 use ktm_world::{Access, ShareMode};
 use std::alloc::Global;
 use std::marker::Model;
+use std::sync::ledger::Ledger;
 
 /// The open files of all processes, in the order in which they were opened.
 #[derive(Drop)]
@@ -177,14 +179,16 @@ impl Opens {
         Some(file.number)
     }
 
-    /// Closes the files that are open in the transaction, and no others.
-    pub fn end_group(&mut self, transaction: Id)
+    /// Closes the files that are open in the transaction, and no others. Each file that is closed is a step.
+    pub fn end_group<L: Ledger>(&mut self, transaction: Id, steps: &mut Steps<L>)
         ensures opens { self.new.opens ≡ filter (is_not_of transaction) self.old.opens }
         ensures last { self.new.last ≡ self.old.last }
         ensures spare { self.old.spare ≤ self.new.spare }
+        ensures counted { steps.new ≡ steps.old + count_by (is_own transaction) self.old.opens }
     {
         while let Some(number) = self.first_of(transaction) {
             self.close(number);
+            steps.tick();
         }
     }
 

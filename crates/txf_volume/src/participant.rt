@@ -1,5 +1,6 @@
 // The files as a participant of transactions.
-ghost use Rattle.std.specs.Prelude.{◌≡◌, is_some};
+ghost use Rattle.std.specs.Prelude.{◌≡◌, is_some, length};
+ghost use Rattle.ktm_world.specs.Files.{own_changes};
 ghost use Rattle.txf_laws.specs.FileEffects.{forgotten};
 ghost use Rattle.txf_laws.specs.Reservations.{files_committed};
 ghost use Rattle.txf_volume.specs.Commit.{MayCommit};
@@ -7,7 +8,9 @@ ghost use Rattle.txf_volume.specs.Held.{files_of, overlay_in};
 
 use crate::files::Files;
 use ktm_base::Id;
+use ktm_counted::Steps;
 use ktm_participant::Participant;
+use std::sync::ledger::Ledger;
 
 /// What a transaction changed, which is ready to be committed or undone.
 pub struct PreparedChanges {
@@ -20,6 +23,8 @@ impl Participant for Files {
     ghost owner = { λ p. p.transaction };
 
     ghost has_work = { λ files id. is_some (overlay_in files.overlays id) };
+
+    ghost work_of = { λ files id. length (own_changes (files_of files).table.own id) };
 
     ghost may_commit = { λ files id. MayCommit (files_of files) id };
 
@@ -35,10 +40,11 @@ impl Participant for Files {
         }
     }
 
-    /// Commits what the transaction changed, and ends what it held, first opened and had open. It copies no byte.
-    fn commit(&mut self, prepared: PreparedChanges) {
+    /// Commits what the transaction changed, and ends what it held, first opened and had open. It copies no byte. Each change is a
+    /// step, in the form in which it is committed: a file is cut to nothing, and then gets its bytes, where it has any.
+    fn commit<L: Ledger>(&mut self, prepared: PreparedChanges, steps: &mut Steps<L>) {
         let PreparedChanges { transaction } = prepared;
-        self.commit_transaction(transaction);
+        self.commit_transaction(transaction, steps);
     }
 
     /// Ends what it changed, held, first opened and had open.

@@ -15,6 +15,7 @@ ghost use Rattle.txf_laws.specs.FileEffects.{forgotten, IsNextOpen, IsNotOpened,
 ghost use Rattle.txf_volume.specs.Transacted.{changed_by, first_opened, opened_by, CanAdd, CanOwn, HasRoom, HasTreeRoom};
 ghost use Rattle.txf_volume.specs.Uses.{IsSteady};
 
+use crate::ends::close_all;
 use crate::files::{Files, fixed_bytes};
 use ktm_base::{Id, NoMemory};
 use ktm_world::Change;
@@ -192,7 +193,7 @@ impl Files {
         let _ = self.overlays.take(&mut self.counts, transaction);
         self.reserve.release(transaction);
         self.versions.release(transaction);
-        self.opens.end_group(transaction);
+        close_all(&mut self.opens, transaction);
     }
 
     /// The changes are those of a transaction that is brought back by a restart: they are its own from now on, behind those of

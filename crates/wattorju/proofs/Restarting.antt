@@ -1,5 +1,5 @@
 -- A restart of a machine that is down, on a disk whose power is given back.
-use Rattle.std.proofs.Common.{◌≡◌, ℕ, Bool, true, false, Option, Result, Ok, Err, sym, ◌∙◌, ap, subst, refl}
+use Rattle.std.proofs.Common.{◌≡◌, ℕ, false, Option, Result, Ok, Err, sym, ◌∙◌, ap, subst, refl}
 use Rattle.ktm_base.specs.declared.fault.NoMemory.{NoMemory}
 use Rattle.ktm_base.specs.declared.refusal.Refusal.TheVariants.{ImageWorn, MachineDown}
 use Rattle.ktm_base.specs.Count.{Rose}
@@ -8,6 +8,7 @@ use Rattle.ktm_base.specs.Power.{NotRestored, Restored}
 use Rattle.ktm_base.specs.Told.{Goes}
 use Rattle.ktm_base.proofs.offered.Images.{safe_law}
 use Rattle.ktm_base.proofs.offered.ToldSteps.{IsSomeAnd-map}
+use Rattle.ktm_kernel.proofs.offered.Standing.{up_is}
 use Rattle.ktm_kernel.specs.Answers.{IfUnwrittenBy, IsAsBefore, StartAgainLeaves}
 use Rattle.ktm_kernel.specs.Stands.{FoundAt, HasFallen, KernelAt, KernelState, LeavesStates, PowerLaw, StandsBy}
 use Rattle.ktm_log.specs.OnDisk.{on}
@@ -16,23 +17,19 @@ use Rattle.ktm_world.specs.declared.reply.Reply.{Reply}
 use Rattle.ktm_world.specs.declared.reply.Reply.TheVariants.{BadImage, Refused}
 use Rattle.ktm_world.specs.Durable.{stand}
 use Rattle.ktm_world.specs.Logs.{is_up}
-use Rattle.ktm_world.specs.Present.{Present}
 use Rattle.ktm_world.specs.Transcript.{RestartDoes, interrupted}
-use Rattle.ktm_world.specs.World.{World, interrupted_restart, present}
+use Rattle.ktm_world.specs.World.{World, interrupted_restart}
 use Rattle.wattorju.specs.Restarts.{IsPoweredOnly, IsRestarted}
 
--- what the machine holds is the world's
-now_of : (up : Bool) (k : KernelState) (told : Option DiskState) (w : World) → StandsBy up k told w → k.now ≡ present w
-now_of true k told w at = at.now
-now_of false k told w at = at.now
-
+-- the world of a machine that is down is down
 off_of : (k : KernelState) (told : Option DiskState) (w : World) → k.now.machine.is_up ≡ false → KernelAt k told w → is_up w.power ≡ false
-off_of k told w off at = ap (λ (x : Present). x.machine.is_up) (sym (now_of (is_up w.power) k told w at)) ∙ off
+off_of k told w off at = sym (up_is k told w at) ∙ off
 
 -- a machine whose disk was found safe stands for the same world
 found_stands : (k : KernelState) (told : Option DiskState) (w : World) → FoundAt k told w → KernelAt k told w
 found_stands k told w at = subst (λ up. StandsBy up k told w) (sym at.off) (let fallen : HasFallen k told w = record {
-  now = at.now;
+  off = at.down;
+  recorded = at.recorded;
   standing = at.standing;
   disk = IsSomeAnd-map told _ (LeavesStates w) at.disk (λ s both image may.
       let (safe, held) = both in

@@ -10,12 +10,12 @@ use Rattle.ktm_base.specs.declared.refusal.Refusal.{Refusal}
 use Rattle.ktm_base.specs.declared.refusal.Refusal.TheVariants.{MachineDown}
 use Rattle.ktm_base.specs.Disk.{DiskState}
 use Rattle.ktm_base.proofs.offered.ToldSteps.{IsSomeAnd-map}
+use Rattle.ktm_kernel.proofs.offered.Standing.{recorded_is, stands_up, up_is}
 use Rattle.ktm_kernel.specs.Answers.{CallLeaves, IsAsItWas}
 use Rattle.ktm_kernel.specs.Stands.{HoldsRecorded, KernelAt, KernelState, LeavesStates, StandsBy}
 use Rattle.ktm_laws.specs.Running.{HasEventsLeft, IsRunning, LawfulWorldsLaw}
 use Rattle.ktm_log.specs.OnDisk.{OnDisk}
 use Rattle.ktm_records.specs.Kept.{IsKept}
-use Rattle.ktm_standing.specs.Standing.{IsStanding}
 use Rattle.ktm_world.specs.declared.change.Change.{Change}
 use Rattle.ktm_world.specs.declared.command.Command.{Command}
 use Rattle.ktm_world.specs.declared.event.Event.{Event}
@@ -23,7 +23,7 @@ use Rattle.ktm_world.specs.declared.reply.Reply.{Reply}
 use Rattle.ktm_world.specs.Changes.{changed_all}
 use Rattle.ktm_world.specs.Committed.{Committed, Work, committed_with, with_change, with_work}
 use Rattle.ktm_world.specs.Decide.{command_effect, command_tests, decide, refusal_of}
-use Rattle.ktm_world.specs.Durable.{stand}
+use Rattle.ktm_world.specs.Durable.{Durable, stand}
 use Rattle.ktm_world.specs.Keys.{stored_all}
 use Rattle.ktm_world.specs.Lawful.{Agrees}
 use Rattle.ktm_world.specs.Logs.{Group, Power, up, down, is_up, as_groups, kept_after, possible_by, prefixes, prefixes_from}
@@ -105,10 +105,6 @@ agreed x a i = record { tree = a.tree i; keys = a.keys i }
 
 -- ---- worlds
 
-now-is : (power : Power) (k : KernelState) (told : Option DiskState) (w : World) → StandsBy (is_up power) k told w → (k.now ≡ present w) × IsStanding w
-now-is up k told w stands = (stands.now, stands.standing)
-now-is (down may) k told w fallen = (fallen.now, fallen.standing)
-
 -- of a world that is up
 whole-left : (w : World) → IsRunning w → w.power ≡ up → Leaves (contents_now (present w) ∷ []) w
 whole-left w running on log there =
@@ -131,6 +127,10 @@ decided-so x process command clear = not-refused x (refusal_of x process command
 up-of : (b : Bool) (tests : List (Bool × Refusal)) → first_refusal ((not b, MachineDown) ∷ tests) ≡ None → b ≡ true
 up-of true tests none = refl
 up-of false tests none = absurd (cc)
+
+-- only where the machine is up
+pub decided-up : (x : Present) (process : Pid) (command : Command) → IsNoRefusal (decide x process command).reply → x.machine.is_up ≡ true
+decided-up x process command clear = up-of x.machine.is_up (command_tests x process command) (decided-so x process command clear).0
 
 -- ---- a call, in a world
 
@@ -167,8 +167,7 @@ module _ (lawful : LawfulWorldsLaw) (w : World) (process : Pid) (command : Comma
   -- where it was answered, and not refused, or the world is up then
   came : (step : Step) (reply : Reply) (new : World) → CallDoes w o step reply new → IsNoRefusal reply ⊎ (is_up new.power ≡ true) → (reply ≡ o.reply) × (new ≡ extend w o) × ((extend w o).power ≡ up)
   came answered reply new (says, is) (inl clear) =
-      let so = decided-so (present w) process command (subst IsNoRefusal says clear) in
-      (says, is, is-up w.power (up-of (is_up w.power) (command_tests (present w) process command) so.0))
+      (says, is, is-up w.power (decided-up (present w) process command (subst IsNoRefusal says clear)))
   came answered reply new (says, is) (inr on) = (says, is, is-up (extend w o).power (ap (λ (v : World). is_up v.power) (sym is) ∙ on))
   came interrupted reply new (on, says, is) (inl clear) = absurd (clear MachineDown says)
   came interrupted reply new (on, says, is) (inr still) = absurd (both_ways false refl (ap (λ (v : World). is_up v.power) (sym is) ∙ still))
@@ -186,50 +185,54 @@ moved true old new w told same stands = record {
   disk = subst (λ (t : Option DiskState). IsSomeAnd t (HoldsRecorded new.it)) (sym told) (IsSomeAnd-map old.told (HoldsRecorded old.it) (HoldsRecorded new.it) stands.disk same.disk);
 }
 moved false old new w told same fallen = record {
-  now = same.now ∙ fallen.now;
+  off = ap (λ (x : Present). x.machine.is_up) same.now ∙ fallen.off;
+  recorded = ap (λ (x : Present). x.recorded) same.now ∙ fallen.recorded;
   standing = fallen.standing;
   disk = subst (λ (t : Option DiskState). IsSomeAnd t (LeavesStates w)) (sym told) fallen.disk;
 }
-
-world-up : (m : OnDisk KernelState) (w : World) → KernelAt m.it m.told w → m.it.now.machine.is_up ≡ true → w.power ≡ up
-world-up m w stands on = is-up w.power (ap (λ (x : Present). x.machine.is_up) (sym (now-is w.power m.it m.told w stands).0) ∙ on)
 
 -- ---- what is left now
 
 -- of a machine that is up it is what is committed now
 pub begins : (m : OnDisk KernelState) (w : World) → KernelAt m.it m.told w → m.it.now.machine.is_up ≡ true → Keeps (contents_now m.it.now ∷ []) m
-begins m w stands on = let (now, standing) = now-is w.power m.it m.told w stands in record {
+begins m w stands on = let (power, there) = stands_up m.it m.told w stands on in record {
   world = w;
   stands = stands;
-  leaves = subst (λ (x : Present). Leaves (contents_now x ∷ []) w) (sym now) (whole-left w standing.running (world-up m w stands on));
+  leaves = subst (λ (x : Present). Leaves (contents_now x ∷ []) w) (sym there.now) (whole-left w there.standing.running power);
 }
 
 pub committed-now : (cs : List Contents) (m : OnDisk KernelState) → Keeps cs m → m.it.now.machine.is_up ≡ true → Contains cs (contents_now m.it.now)
 committed-now cs m keeps on =
     let w = keeps.world in
-    let (is, standing) = now-is w.power m.it m.told w keeps.stands in
-    let running = standing.running in
-    subst (Contains cs) (ap contents_of running.comes_to ∙ agreed (present w) running.now.agrees ∙ ap contents_now (sym is))
-    (keeps.leaves w.log (whole-possible w (ap is_up (world-up m w keeps.stands on)) running.kept))
+    let (power, there) = stands_up m.it m.told w keeps.stands on in
+    let running = there.standing.running in
+    subst (Contains cs) (ap contents_of running.comes_to ∙ agreed (present w) running.now.agrees ∙ ap contents_now (sym there.now))
+    (keeps.leaves w.log (whole-possible w (ap is_up power) running.kept))
 
 -- and what is so now is kept
-pub kept-now : (cs : List Contents) (m : OnDisk KernelState) → Keeps cs m → IsKept m.it.now
-kept-now cs m keeps = let (is, standing) = now-is keeps.world.power m.it m.told keeps.world keeps.stands in subst IsKept (sym is) standing.running.now
+pub kept-now : (cs : List Contents) (m : OnDisk KernelState) → Keeps cs m → m.it.now.machine.is_up ≡ true → IsKept m.it.now
+kept-now cs m keeps on = let (power, there) = stands_up m.it m.told keeps.world keeps.stands on in subst IsKept (sym there.now) there.standing.running.now
 
 -- ---- calls
+
+-- the count of events goes on in the world
+events-left : (x : Present) (w : World) → x.recorded ≡ (present w).recorded → HasEventsLeft x → HasEventsLeft (present w)
+events-left x w recorded counts = let same = ap (λ (d : Durable). d.events) recorded in omega (arith, counts, same)
 
 module _ (lawful : LawfulWorldsLaw) where
   calls : (process : Pid) (command : Command) (old new : OnDisk KernelState) (answer : Result Reply NoMemory) → HasEventsLeft old.it.now → CallLeaves process command old new answer → OnErr answer (IsAsItWas old.it new.it)
       → (cs : List Contents) → Keeps cs old → (old.it.now.machine.is_up ≡ true → Contains cs (contents_after old.it.now (decide old.it.now process command))) → Keeps cs new
   calls process command old new (Ok reply) counts leaves same cs keeps then =
       let w = keeps.world in
-      let (is, standing) = now-is w.power old.it old.told w keeps.stands in
+      let (recorded, standing) = recorded_is old.it old.told w keeps.stands in
       let (step, after, does, stands) = leaves.does w keeps.stands in
       record {
         world = after;
         stands = stands;
-        leaves = left lawful w process command (subst HasEventsLeft is counts) standing.running cs keeps.leaves
-            (λ on. subst (λ (x : Present). Contains cs (contents_after x (decide x process command))) is (then (ap (λ (x : Present). x.machine.is_up) is ∙ on))) step reply after does;
+        leaves = left lawful w process command (events-left old.it.now w recorded counts) standing.running cs keeps.leaves (λ on.
+            let is-on = up_is old.it old.told w keeps.stands ∙ on in
+            let (power, there) = stands_up old.it old.told w keeps.stands is-on in
+            subst (λ (x : Present). Contains cs (contents_after x (decide x process command))) there.now (then is-on)) step reply after does;
       }
   calls process command old new (Err fault) counts untouched same cs keeps then = record {
     world = keeps.world;
@@ -241,16 +244,18 @@ module _ (lawful : LawfulWorldsLaw) where
       → (cs : List Contents) → Keeps cs old → HasCome old.it.now (decide old.it.now process command) reply new
   comes process command old new reply counts leaves clear cs keeps =
       let w = keeps.world in
-      let (is, standing) = now-is w.power old.it old.told w keeps.stands in
-      let events_left = subst HasEventsLeft is counts in
+      let (recorded, standing) = recorded_is old.it old.told w keeps.stands in
+      let events_left = events-left old.it.now w recorded counts in
       let (step, after, does, stands) = leaves.does w keeps.stands in
-      let now_after = (now-is after.power new.it new.told after stands).0 in
-      let clear_after : IsNoRefusal reply ⊎ (is_up after.power ≡ true) = elim clear [ inl told ↦ inl told | inr on ↦ inr (ap (λ (x : Present). x.machine.is_up) (sym now_after) ∙ on) ] in
+      let clear_after : IsNoRefusal reply ⊎ (is_up after.power ≡ true) = elim clear [ inl told ↦ inl told | inr on ↦ inr (sym (up_is new.it new.told after stands) ∙ on) ] in
       let came = came lawful w process command events_left standing.running step reply after does clear_after in
       let ran = lawful.commands w process command events_left standing.running in
       let then = extend w (decide (present w) process command) in
       let at = subst (λ v. KernelAt new.it new.told v) came.1 stands in
-      let at_then = (now-is then.power new.it new.told then at).0 in
+      let is-on : new.it.now.machine.is_up ≡ true = up_is new.it new.told then at ∙ ap is_up came.2 in
+      let was-on : old.it.now.machine.is_up ≡ true = up_is old.it old.told w keeps.stands ∙ ap is_up came.2 in
+      let is = (stands_up old.it old.told w keeps.stands was-on).1.now in
+      let at_then = (stands_up new.it new.told then at is-on).1.now in
       record {
         says = subst (λ (x : Present). reply ≡ (decide x process command).reply) (sym is) came.0;
         keeps = record {
@@ -260,7 +265,7 @@ module _ (lawful : LawfulWorldsLaw) where
               (after-is lawful w process command events_left standing.running ∙ ap (λ (x : Present). contents_after x (decide x process command)) (sym is)) (whole-left then ran came.2);
         };
         now = subst (λ (x : Present). new.it.now ≡ apply x (decide x process command)) (sym is) (at_then ∙ step_law.0 w (decide (present w) process command) standing.running.openings);
-        up = ap (λ (x : Present). x.machine.is_up) at_then ∙ ap is_up came.2;
+        up = is-on;
       }
 
   pub works_law : WorksLaw

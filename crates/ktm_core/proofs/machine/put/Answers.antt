@@ -1,5 +1,4 @@
-use Rattle.std.proofs.Common.{ℕ, ◌*◌, ◌≤◌, List, [], length, refl, sym, ◌∙◌, ap, subst, arith}
-use Rattle.std.proofs.lemmas.Bool.{both_ways}
+use Rattle.std.proofs.Common.{ℕ, ◌*◌, ◌≤◌, List, length, sym, ◌∙◌, ap, subst, arith}
 use Rattle.ktm_journal.specs.Image.{page_count}
 use Rattle.ktm_memory.specs.Memory.{present_of}
 use Rattle.ktm_memory.specs.Settled.{left_to_do}
@@ -8,7 +7,7 @@ use Rattle.ktm_paged.specs.Paged.{IsSound}
 use Rattle.ktm_store.specs.Marks.{MarksState}
 use Rattle.ktm_core.proofs.Lying.{sound-below}
 use Rattle.ktm_core.proofs.offered.Places.{group-weaker}
-use Rattle.ktm_core.proofs.Puts.{put-ends, put-nothing, put-torn}
+use Rattle.ktm_core.proofs.Puts.{put-ends, put-torn}
 use Rattle.ktm_core.proofs.machine.put.Goals as goal
 
 pub want_pages-requires-clause-events : goal.want_pages-requires-clause-events
@@ -27,21 +26,14 @@ record-requires-clause-may g c = let (raw, may) = c.requires.may in (raw, _, may
 pub returns-in-Err-clause-leaves : goal.returns-in-Err-clause-leaves
 returns-in-Err-clause-leaves g c =
     rw c.in-Err.ensures.err
-    (put-torn c.args.events.now (left_to_do (present_of c.args.memory.now) c.args.settlement.now).events c.args.memory.now c.args.store.now c.want_pages.new.store c.requires.none c.want_pages.ensures.wants
+    (put-torn c.args.beside c.args.events.now (left_to_do (present_of c.args.memory.now) c.args.settlement.now).events c.args.memory.now c.args.store.now c.want_pages.new.store c.requires.none c.want_pages.ensures.wants
     (g.D.Disk.told c.args.disk.now) (g.D.Disk.status c.args.disk.now) (g.D.Disk.told c.write_wanted.new.disk) (g.D.Disk.status c.write_wanted.new.disk)
-    (λ holds. both_ways c.is_empty.result c.if-is_empty.false ((c.is_empty.ensures.events [] holds).1 refl))
     (omega (arith, c.want_pages.ensures.few, ap (λ (l : List ℕ). length l) c.requires.none, c.in-Err.ensures.few, ap (λ (m : MarksState). length m.held) c.want_pages.ensures.wants.marks, c.requires.pages)) (rw c.journal.ensures at c.in-Err.ensures.leaves))
-
-pub returns-then-is_empty-clause-leaves : goal.returns-then-is_empty-clause-leaves
-returns-then-is_empty-clause-leaves g c =
-    put-nothing c.args.events.now (left_to_do (present_of c.args.memory.now) c.args.settlement.now).events c.args.memory.now c.args.store.now (g.D.Disk.told c.args.disk.now) (g.D.Disk.status c.args.disk.now)
-    (λ raw holds. (c.is_empty.ensures.events raw holds).0 c.if-is_empty.true) c.requires.up c.requires.pending c.requires.none c.requires.headed
 
 pub returns-clause-leaves : goal.returns-clause-leaves
 returns-clause-leaves g c =
     rw c.in_default.ensures.ok
-    (put-ends c.args.events.now (left_to_do (present_of c.args.memory.now) c.args.settlement.now).events c.args.memory.now c.args.store.now c.want_pages.new.store c.requires.none c.want_pages.ensures.wants
+    (put-ends c.args.beside c.args.events.now (left_to_do (present_of c.args.memory.now) c.args.settlement.now).events c.args.memory.now c.args.store.now c.want_pages.new.store c.requires.none c.want_pages.ensures.wants
     (g.D.Disk.told c.args.disk.now) (g.D.Disk.status c.args.disk.now) (g.D.Disk.told c.write_wanted.new.disk) (g.D.Disk.status c.write_wanted.new.disk) (rw c.journal.ensures at c.in_default.ensures.leaves)
     c.record.new.memory (g.D.Disk.told c.record.new.disk) (g.D.Disk.status c.record.new.disk)
-    (λ holds. both_ways c.is_empty.result c.if-is_empty.false ((c.is_empty.ensures.events [] holds).1 refl))
     (omega (arith, c.want_pages.ensures.few, ap (λ (l : List ℕ). length l) c.requires.none, c.in_default.ensures.few, ap (λ (m : MarksState). length m.held) c.want_pages.ensures.wants.marks, c.requires.pages)) c.want_pages.ensures.stored c.record.result c.record.ensures.leaves)

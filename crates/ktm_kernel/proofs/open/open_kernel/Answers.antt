@@ -4,7 +4,7 @@ use Rattle.ktm_kernel.proofs.open.open_kernel.Goals as goal
 
 pub returns-in-Ok-clause-leaves : goal.returns-in-Ok-clause-leaves
 returns-in-Ok-clause-leaves g c =
-    opens c.law_of_states.ensures.states c.law_of_bad_images.ensures _ _ _ _ _ _ _ _ c.in_default.ensures.ok c.in_default.ensures.calls c.in-Ok.restarted c.in-Ok.ensures.leaves c.in-Ok.ensures.calls c.in_default.ensures.few c.in-Ok.ensures.few
+    opens c.law_of_states.ensures.states c.law_of_bad_images.ensures _ _ _ _ _ _ _ _ c.in_default.ensures.ok c.in_default.ensures.calls c.in-Ok.restarted c.in-Ok.ensures.leaves c.in-Ok.ensures.calls c.in-Ok.ensures.few
 
 pub returns-in-Err-clause-leaves : goal.returns-in-Err-clause-leaves
 returns-in-Err-clause-leaves g c = not_prepared _ _ _ _ _ c.in-Err.ensures.err c.in-Err.ensures.calls

@@ -8,7 +8,7 @@ use Rattle.ktm_world.specs.Sizes.{event_size}
 use Rattle.ktm_world.specs.declared.event.Event.{Event}
 use Rattle.ktm_world.specs.Durable.{Recorded}
 use Rattle.ktm_world.specs.World.{own_events}
-use Rattle.ktm_restart.proofs.OwnDones.{own-split}
+use Rattle.ktm_replayed.proofs.offered.OwnEvents.{own-split}
 use Rattle.ktm_restart.proofs.own.push_all_own.Goals as goal
 
 pub push_own-requires-clause-spelled : goal.push_own-requires-clause-spelled

@@ -1,6 +1,5 @@
-use Rattle.std.proofs.Common.{◌∙◌, Ok, subst, sym}
+use Rattle.std.proofs.Common.{◌∙◌, subst, sym}
 use Rattle.std.proofs.lemmas.Bool.{true≢false}
-use Rattle.ktm_journal.specs.Image.{page_count}
 use Rattle.ktm_paged.specs.Paged.{LieBelow}
 use Rattle.ktm_restart.proofs.Readings.{state-well}
 use Rattle.ktm_restart.proofs.reading.is_on_pages.Goals as goal

@@ -1,20 +1,94 @@
 use Rattle.std.proofs.Common.{false, sym, ◌∙◌, ap, arith, subst}
 use Rattle.std.specs.Prelude.{IfSome}
 use Rattle.ktm_journal.specs.Image.{IsHeaded, JournalState, page_count}
+use Rattle.ktm_log.specs.OnDisk.{on}
 use Rattle.ktm_world.specs.Sizes.{area_len}
 use Rattle.ktm_memory.specs.Memory.{MemoryState, held, present_of}
 use Rattle.ktm_memory.specs.Rules.{Follows}
 use Rattle.ktm_each.specs.Each.{EachOfFiles}
 use Rattle.ktm_memory.specs.Stored.{FilesLieBelow}
 use Rattle.ktm_route.specs.Route.{decided}
-use Rattle.ktm_memory.specs.Held.{files_of}
+use Rattle.ktm_memory.specs.Held.{FilesHeld, files_of}
 use Rattle.ktm_world.specs.Groups.{Group}
-use Rattle.ktm_core.proofs.Answering.{files_below, settled_rules, sound_outcome}
+use Rattle.ktm_core.proofs.Answering.{files_below, room_files, settled_rules, sound_outcome}
+use Rattle.ktm_core.proofs.Alone.{answered_alone, down_alone, itself, stands_alone}
 use Rattle.ktm_core.proofs.Asks.{asked_well}
-use Rattle.ktm_core.proofs.Ends.{cut_answered, done_answered, may_record, may_settle, may_tell, raw}
+use Rattle.ktm_core.proofs.Ends.{cut_answered, done_answered, may_record, may_settle, may_tell, none_by, raw, some_by}
 use Rattle.ktm_core.specs.Core.{core_of}
 use Rattle.ktm_core.specs.Recording.{IsNotPut, IsPut, MayRecord, kept_on}
 use Rattle.ktm_core.proofs.machine.Core.answer.Goals as goal
+
+-- ---- a command that records nothing
+
+pub settle-requires-clause-may : goal.settle-requires-clause-may
+settle-requires-clause-may g c =
+    let a = c.args.self.now.memory in
+    let o = decided (present_of a) c.args.asked in
+    let decides = c.in_ok-decision.ensures.ok in
+    decides.may
+
+pub settle-requires-clause-told : goal.settle-requires-clause-told
+settle-requires-clause-told g c =
+    let a = c.args.self.now.memory in
+    let o = decided (present_of a) c.args.asked in
+    let decides = c.in_ok-decision.ensures.ok in
+    let well = asked_well c.law_of_standing.ensures c.law_of_slots.ensures c.law_of_frames.ensures c.law_of_lawful_worlds.ensures c.law_of_debts.ensures (core_of a c.args.self.now.store) c.decide.new.memory.tm.slots _ _ c.args.asked c.requires.ready
+    c.requires.counts c.requires.asked c.in_ok-decision.ensures.slots in
+    may_tell _ _ a o _ _ _ _ decides well c.decide.new.memory (itself c.decide.new.memory)
+
+pub make_room-requires-clause-standing : goal.make_room-requires-clause-standing
+make_room-requires-clause-standing g c =
+    let a = c.args.self.now.memory in
+    let o = decided (present_of a) c.args.asked in
+    let decides = c.in_ok-decision.ensures.ok in
+    let well = asked_well c.law_of_standing.ensures c.law_of_slots.ensures c.law_of_frames.ensures c.law_of_lawful_worlds.ensures c.law_of_debts.ensures (core_of a c.args.self.now.store) c.decide.new.memory.tm.slots _ _ c.args.asked c.requires.ready
+    c.requires.counts c.requires.asked c.in_ok-decision.ensures.slots in
+    let none = none_by _ _ a o _ _ _ _ decides well c.is_empty.result (c.is_empty.ensures.events _ decides.records.holds) c.if-is_empty.true in
+    stands_alone _ _ a o _ _ _ _ decides well none c.law_of_contents.ensures c.law_of_kept.ensures c.settle.new.self c.settle.ensures.settles c.settle.ensures.journal
+
+pub returns-then-is_empty-clause-leaves : goal.returns-then-is_empty-clause-leaves
+returns-then-is_empty-clause-leaves g c =
+    let a = c.args.self.now.memory in
+    let o = decided (present_of a) c.args.asked in
+    let decides = c.in_ok-decision.ensures.ok in
+    let well = asked_well c.law_of_standing.ensures c.law_of_slots.ensures c.law_of_frames.ensures c.law_of_lawful_worlds.ensures c.law_of_debts.ensures (core_of a c.args.self.now.store) c.decide.new.memory.tm.slots _ _ c.args.asked c.requires.ready
+    c.requires.counts c.requires.asked c.in_ok-decision.ensures.slots in
+    let none = none_by _ _ a o _ _ _ _ decides well c.is_empty.result (c.is_empty.ensures.events _ decides.records.holds) c.if-is_empty.true in
+    let sound = sound_outcome (held a) c.args.asked o (files_of c.decide.new.memory.files) c.requires.sound c.in_ok-decision.ensures.rules in
+    answered_alone _ _ a o _ _ _ _ decides well none c.law_of_contents.ensures c.law_of_kept.ensures c.settle.new.self c.settle.ensures.settles c.settle.ensures.journal (g.D.Disk.told c.args.disk.now) (g.D.Disk.status c.args.disk.now) c.args.self.now.store
+    c.requires.ready.powered c.requires.up _ (on c.make_room.new.memory (g.D.Disk.told c.make_room.new.disk) (g.D.Disk.status c.make_room.new.disk)) sound (rw (c.may_rise-rises.ensures, c.owes_more-owing.ensures) at c.in_default.ensures.leaves)
+
+pub returns-in-Err-clause-leaves : goal.returns-in-Err-clause-leaves
+returns-in-Err-clause-leaves g c =
+    let a = c.args.self.now.memory in
+    let o = decided (present_of a) c.args.asked in
+    let decides = c.in_ok-decision.ensures.ok in
+    let well = asked_well c.law_of_standing.ensures c.law_of_slots.ensures c.law_of_frames.ensures c.law_of_lawful_worlds.ensures c.law_of_debts.ensures (core_of a c.args.self.now.store) c.decide.new.memory.tm.slots _ _ c.args.asked c.requires.ready
+    c.requires.counts c.requires.asked c.in_ok-decision.ensures.slots in
+    let none = none_by _ _ a o _ _ _ _ decides well c.is_empty.result (c.is_empty.ensures.events _ decides.records.holds) c.if-is_empty.true in
+    let sound = sound_outcome (held a) c.args.asked o (files_of c.decide.new.memory.files) c.requires.sound c.in_ok-decision.ensures.rules in
+    rw c.fall.ensures.says
+    (down_alone _ _ a o _ _ _ _ decides well none c.law_of_contents.ensures c.law_of_kept.ensures c.settle.new.self c.settle.ensures.settles c.settle.ensures.journal (g.D.Disk.told c.args.disk.now) (g.D.Disk.status c.args.disk.now) c.args.self.now.store
+    c.requires.ready.powered c.requires.up _ (on c.make_room.new.memory (g.D.Disk.told c.make_room.new.disk) (g.D.Disk.status c.make_room.new.disk)) c.fall.new.memory sound (rw (c.may_rise-rises.ensures, c.owes_more-owing.ensures) at c.in-Err.ensures.leaves)
+    c.fall.ensures.falls)
+
+pub returns-then-is_empty-clause-rules : goal.returns-then-is_empty-clause-rules
+returns-then-is_empty-clause-rules g c = λ rule none files puts. (
+    let both = c.in_ok-decision.ensures.rules rule none files puts in
+    let n = c.decide.new.memory in
+    let same = room_files _ (on c.settle.new.self (g.D.Disk.told c.args.disk.now) (g.D.Disk.status c.args.disk.now)) (on c.make_room.new.memory (g.D.Disk.told c.make_room.new.disk) (g.D.Disk.status c.make_room.new.disk)) c.make_room.result c.make_room.ensures.leaves in
+    subst (λ (f : FilesHeld). EachOfFiles (Follows rule) (files_of f)) (sym same)
+    (settled_rules n n c.settle.new.self c.in_ok-decision.decision.settlement (decided (present_of c.args.self.now.memory) c.args.asked) (itself n) c.in_ok-decision.ensures.ok.group c.settle.ensures.rules rule none both.1 both.0))
+
+pub returns-in-Err-clause-rules : goal.returns-in-Err-clause-rules
+returns-in-Err-clause-rules g c = λ rule none files puts. (
+    let both = c.in_ok-decision.ensures.rules rule none files puts in
+    let n = c.decide.new.memory in
+    let same = room_files _ (on c.settle.new.self (g.D.Disk.told c.args.disk.now) (g.D.Disk.status c.args.disk.now)) (on c.make_room.new.memory (g.D.Disk.told c.make_room.new.disk) (g.D.Disk.status c.make_room.new.disk)) c.make_room.result c.make_room.ensures.leaves in
+    subst (λ (f : FilesHeld). EachOfFiles (Follows rule) (files_of f)) (sym (ap (λ (b : MemoryState). b.files) c.fall.ensures.falls ∙ same))
+    (settled_rules n n c.settle.new.self c.in_ok-decision.decision.settlement (decided (present_of c.args.self.now.memory) c.args.asked) (itself n) c.in_ok-decision.ensures.ok.group c.settle.ensures.rules rule none both.1 both.0))
+
+-- ---- one that records something
 
 pub put-requires-clause-headed : goal.put-requires-clause-headed
 put-requires-clause-headed g c = subst (λ (j : JournalState). IfSome (g.D.Disk.told c.args.disk.now) (λ s. IsHeaded j.units j.image j.selector s.seen)) (sym c.in_ok-decision.ensures.ok.journal) (c.requires.ready.powered.image c.requires.up)
@@ -24,12 +98,12 @@ put-requires-clause-may g c =
     let a = c.args.self.now.memory in
     let o = decided (present_of a) c.args.asked in
     let decides = c.in_ok-decision.ensures.ok in
-    let well = asked_well c.law_of_standing.ensures c.law_of_slots.ensures c.law_of_frames.ensures c.law_of_lawful_worlds.ensures (core_of a c.args.self.now.store) c.decide.new.memory.tm.slots _ _ c.args.asked c.requires.ready c.requires.counts c.requires.asked
-    c.in_ok-decision.ensures.slots in
+    let well = asked_well c.law_of_standing.ensures c.law_of_slots.ensures c.law_of_frames.ensures c.law_of_lawful_worlds.ensures c.law_of_debts.ensures (core_of a c.args.self.now.store) c.decide.new.memory.tm.slots _ _ c.args.asked c.requires.ready
+    c.requires.counts c.requires.asked c.in_ok-decision.ensures.slots in
+    let some = some_by _ _ a o _ _ _ _ decides well c.is_empty.result (c.is_empty.ensures.events _ decides.records.holds) c.if-is_empty.false in
     let sound = sound_outcome (held a) c.args.asked o (files_of c.decide.new.memory.files) c.requires.sound c.in_ok-decision.ensures.rules in (
-      raw a o _ _ c.decide.new.events c.decide.new.memory decides,
-      subst (λ (group : Group). MayRecord c.decide.new.memory c.decide.new.events (raw a o _ _ c.decide.new.events c.decide.new.memory decides) group) (sym decides.group)
-          (may_record a o _ _ c.decide.new.events c.decide.new.memory decides c.law_of_records.ensures well sound),
+      raw _ _ a o _ _ _ _ decides well,
+      subst (λ (group : Group). MayRecord c.decide.new.memory c.decide.new.events (raw _ _ a o _ _ _ _ decides well) group) (sym decides.group) (may_record _ _ a o _ _ _ _ decides well c.law_of_records.ensures sound some),
     )
 
 pub put-requires-clause-most : goal.put-requires-clause-most
@@ -53,52 +127,62 @@ put-requires-clause-files g c =
 pub put-requires-clause-puts : goal.put-requires-clause-puts
 put-requires-clause-puts g c = c.in_ok-decision.ensures.ok.puts
 
-pub settle-requires-clause-may : goal.settle-requires-clause-may
-settle-requires-clause-may g c =
-    may_settle c.args.self.now.memory (decided (present_of c.args.self.now.memory) c.args.asked) _ _ c.decide.new.events c.decide.new.memory c.in_ok-decision.ensures.ok c.put.new.memory c.in-Ok.ensures.leaves.same
-
-pub settle-requires-clause-told : goal.settle-requires-clause-told
-settle-requires-clause-told g c =
-    let a = c.args.self.now.memory in
-    let well = asked_well c.law_of_standing.ensures c.law_of_slots.ensures c.law_of_frames.ensures c.law_of_lawful_worlds.ensures (core_of a c.args.self.now.store) c.decide.new.memory.tm.slots _ _ c.args.asked c.requires.ready c.requires.counts c.requires.asked
-    c.in_ok-decision.ensures.slots in
-    may_tell a (decided (present_of a) c.args.asked) _ _ c.decide.new.events c.decide.new.memory c.in_ok-decision.ensures.ok well c.put.new.memory c.in-Ok.ensures.leaves.same
-
-pub returns-in-Ok-clause-leaves : goal.returns-in-Ok-clause-leaves
-returns-in-Ok-clause-leaves g c =
+pub settle-requires-2-clause-may : goal.settle-requires-2-clause-may
+settle-requires-2-clause-may g c =
     let a = c.args.self.now.memory in
     let o = decided (present_of a) c.args.asked in
     let decides = c.in_ok-decision.ensures.ok in
-    let well = asked_well c.law_of_standing.ensures c.law_of_slots.ensures c.law_of_frames.ensures c.law_of_lawful_worlds.ensures (core_of a c.args.self.now.store) c.decide.new.memory.tm.slots _ _ c.args.asked c.requires.ready c.requires.counts c.requires.asked
-    c.in_ok-decision.ensures.slots in
+    let well = asked_well c.law_of_standing.ensures c.law_of_slots.ensures c.law_of_frames.ensures c.law_of_lawful_worlds.ensures c.law_of_debts.ensures (core_of a c.args.self.now.store) c.decide.new.memory.tm.slots _ _ c.args.asked c.requires.ready
+    c.requires.counts c.requires.asked c.in_ok-decision.ensures.slots in
+    may_settle _ _ a o _ _ _ _ decides well c.put.new.memory c.in_default-put.ensures.leaves.same
+
+pub settle-requires-2-clause-told : goal.settle-requires-2-clause-told
+settle-requires-2-clause-told g c =
+    let a = c.args.self.now.memory in
+    let o = decided (present_of a) c.args.asked in
+    let decides = c.in_ok-decision.ensures.ok in
+    let well = asked_well c.law_of_standing.ensures c.law_of_slots.ensures c.law_of_frames.ensures c.law_of_lawful_worlds.ensures c.law_of_debts.ensures (core_of a c.args.self.now.store) c.decide.new.memory.tm.slots _ _ c.args.asked c.requires.ready
+    c.requires.counts c.requires.asked c.in_ok-decision.ensures.slots in
+    may_tell _ _ a o _ _ _ _ decides well c.put.new.memory c.in_default-put.ensures.leaves.same
+
+pub returns-clause-leaves : goal.returns-clause-leaves
+returns-clause-leaves g c =
+    let a = c.args.self.now.memory in
+    let o = decided (present_of a) c.args.asked in
+    let decides = c.in_ok-decision.ensures.ok in
+    let well = asked_well c.law_of_standing.ensures c.law_of_slots.ensures c.law_of_frames.ensures c.law_of_lawful_worlds.ensures c.law_of_debts.ensures (core_of a c.args.self.now.store) c.decide.new.memory.tm.slots _ _ c.args.asked c.requires.ready
+    c.requires.counts c.requires.asked c.in_ok-decision.ensures.slots in
+    let some = some_by _ _ a o _ _ _ _ decides well c.is_empty.result (c.is_empty.ensures.events _ decides.records.holds) c.if-is_empty.false in
     let sound = sound_outcome (held a) c.args.asked o (files_of c.decide.new.memory.files) c.requires.sound c.in_ok-decision.ensures.rules in
     let put = subst
-    (λ (group : Group). IsPut c.decide.new.events group (kept_on c.decide.new.memory c.args.self.now.store (g.D.Disk.told c.args.disk.now) (g.D.Disk.status c.args.disk.now)) (kept_on c.put.new.memory c.put.new.store (g.D.Disk.told c.put.new.disk) (g.D.Disk.status c.put.new.disk)))
-    decides.group c.in-Ok.ensures.leaves in
-    done_answered a o _ _ c.decide.new.events c.decide.new.memory decides (g.D.Disk.told c.args.disk.now) (g.D.Disk.status c.args.disk.now) c.args.self.now.store
-    c.put.new.memory c.settle.new.self c.put.new.store (g.D.Disk.told c.put.new.disk) (g.D.Disk.status c.put.new.disk) c.law_of_contents.ensures c.law_of_kept.ensures c.law_of_records.ensures well sound put c.settle.ensures.settles c.settle.ensures.journal
+    (λ (group : Group). IsPut c.room_beside-beside.result c.decide.new.events group (kept_on c.decide.new.memory c.args.self.now.store (g.D.Disk.told c.args.disk.now) (g.D.Disk.status c.args.disk.now)) (kept_on c.put.new.memory c.put.new.store (g.D.Disk.told c.put.new.disk) (g.D.Disk.status c.put.new.disk)))
+    decides.group c.in_default-put.ensures.leaves in
+    done_answered _ _ a o _ _ _ _ decides well some (g.D.Disk.told c.args.disk.now) (g.D.Disk.status c.args.disk.now) c.args.self.now.store c.put.new.memory c.settle-2.new.self c.put.new.store (g.D.Disk.told c.put.new.disk) (g.D.Disk.status c.put.new.disk) c.law_of_contents.ensures c.law_of_kept.ensures
+    c.law_of_records.ensures sound (rw c.room_beside-beside.ensures at put) c.settle-2.ensures.settles c.settle-2.ensures.journal
 
-pub returns-in-Ok-clause-rules : goal.returns-in-Ok-clause-rules
-returns-in-Ok-clause-rules g c = λ rule none files puts. (
-    let both = c.in_ok-decision.ensures.rules rule none files puts in
-    settled_rules c.decide.new.memory c.put.new.memory c.settle.new.self c.in_ok-decision.decision.settlement (decided (present_of c.args.self.now.memory) c.args.asked) c.in-Ok.ensures.leaves.same c.in_ok-decision.ensures.ok.group
-    c.settle.ensures.rules rule none both.1 both.0)
-
-pub returns-in-Err-clause-rules : goal.returns-in-Err-clause-rules
-returns-in-Err-clause-rules g c = λ rule none files puts. (
-    let both = c.in_ok-decision.ensures.rules rule none files puts in
-    subst (λ (b : MemoryState). EachOfFiles (Follows rule) (files_of b.files)) (sym (c.fall.ensures ∙ ap (λ (b : MemoryState). record b { is_up = false }) c.in-Err.ensures.leaves.same.is)) both.1)
-
-pub returns-in-Err-clause-leaves : goal.returns-in-Err-clause-leaves
-returns-in-Err-clause-leaves g c =
+pub returns-in-Err-put-clause-leaves : goal.returns-in-Err-put-clause-leaves
+returns-in-Err-put-clause-leaves g c =
     let a = c.args.self.now.memory in
     let o = decided (present_of a) c.args.asked in
     let decides = c.in_ok-decision.ensures.ok in
-    let well = asked_well c.law_of_standing.ensures c.law_of_slots.ensures c.law_of_frames.ensures c.law_of_lawful_worlds.ensures (core_of a c.args.self.now.store) c.decide.new.memory.tm.slots _ _ c.args.asked c.requires.ready c.requires.counts c.requires.asked
-    c.in_ok-decision.ensures.slots in
+    let well = asked_well c.law_of_standing.ensures c.law_of_slots.ensures c.law_of_frames.ensures c.law_of_lawful_worlds.ensures c.law_of_debts.ensures (core_of a c.args.self.now.store) c.decide.new.memory.tm.slots _ _ c.args.asked c.requires.ready
+    c.requires.counts c.requires.asked c.in_ok-decision.ensures.slots in
+    let some = some_by _ _ a o _ _ _ _ decides well c.is_empty.result (c.is_empty.ensures.events _ decides.records.holds) c.if-is_empty.false in
     let sound = sound_outcome (held a) c.args.asked o (files_of c.decide.new.memory.files) c.requires.sound c.in_ok-decision.ensures.rules in
     let left = subst
-    (λ (group : Group). IsNotPut c.decide.new.events group (kept_on c.decide.new.memory c.args.self.now.store (g.D.Disk.told c.args.disk.now) (g.D.Disk.status c.args.disk.now)) (kept_on c.put.new.memory c.put.new.store (g.D.Disk.told c.put.new.disk) (g.D.Disk.status c.put.new.disk)))
-    decides.group c.in-Err.ensures.leaves in
-    cut_answered a o _ _ c.decide.new.events c.decide.new.memory decides (g.D.Disk.told c.args.disk.now) (g.D.Disk.status c.args.disk.now) c.args.self.now.store
-    c.put.new.memory c.fall.new.self c.put.new.store (g.D.Disk.told c.put.new.disk) (g.D.Disk.status c.put.new.disk) c.law_of_records.ensures well sound left c.fall.ensures
+    (λ (group : Group). IsNotPut c.room_beside-beside.result c.decide.new.events group (kept_on c.decide.new.memory c.args.self.now.store (g.D.Disk.told c.args.disk.now) (g.D.Disk.status c.args.disk.now)) (kept_on c.put.new.memory c.put.new.store (g.D.Disk.told c.put.new.disk) (g.D.Disk.status c.put.new.disk)))
+    decides.group c.in-Err-put.ensures.leaves in
+    rw c.fall-in-Err-put.ensures.says
+    (cut_answered _ _ a o _ _ _ _ decides well some (g.D.Disk.told c.args.disk.now) (g.D.Disk.status c.args.disk.now) c.args.self.now.store c.put.new.memory c.fall-in-Err-put.new.memory c.put.new.store (g.D.Disk.told c.put.new.disk) (g.D.Disk.status c.put.new.disk) c.law_of_records.ensures sound
+    (rw c.room_beside-beside.ensures at left) c.fall-in-Err-put.ensures.falls)
+
+pub returns-clause-rules : goal.returns-clause-rules
+returns-clause-rules g c = λ rule none files puts. (
+    let both = c.in_ok-decision.ensures.rules rule none files puts in
+    settled_rules c.decide.new.memory c.put.new.memory c.settle-2.new.self c.in_ok-decision.decision.settlement (decided (present_of c.args.self.now.memory) c.args.asked) c.in_default-put.ensures.leaves.same c.in_ok-decision.ensures.ok.group
+    c.settle-2.ensures.rules rule none both.1 both.0)
+
+pub returns-in-Err-put-clause-rules : goal.returns-in-Err-put-clause-rules
+returns-in-Err-put-clause-rules g c = λ rule none files puts. (
+    let both = c.in_ok-decision.ensures.rules rule none files puts in
+    subst (λ (b : MemoryState). EachOfFiles (Follows rule) (files_of b.files)) (sym (c.fall-in-Err-put.ensures.falls ∙ ap (λ (b : MemoryState). record b { is_up = false }) c.in-Err-put.ensures.leaves.same.is)) both.1)

@@ -7,7 +7,7 @@ use Rattle.ktm_enlist.proofs.Changing.{asked_if_keeps, set_fits, set_grouped, se
 use Rattle.ktm_enlist.proofs.enlistments.Enlistments.tell_at.Goals as goal
 
 pub regroup-requires-clause-may : goal.regroup-requires-clause-may
-regroup-requires-clause-may c =
+regroup-requires-clause-may g c =
     let test = is_one_of c.args.t.transaction c.args.t.caller c.args.t.who in
     let count : vec_len c.self.inside.items ≡ length c.self.inside.items.items = search rules in
     let few : length c.self.inside.items.items < 2 ^ 32 = omega (arith, count, c.self.invariant.4) in
@@ -16,7 +16,7 @@ regroup-requires-clause-may c =
     c.self.inside.next.items c.self.inside.groups.items c.e.inside.transaction c.standing_of-was.result c.standing_of-is.result (ap (λ (e : Enlistment). e.transaction) c.e.view_is) c.standing_of-was.ensures c.standing_of-is.ensures c.self.invariant.5 few)
 
 pub invariant_of-self : goal.invariant_of-self
-invariant_of-self c =
+invariant_of-self g c =
     let test = is_one_of c.args.t.transaction c.args.t.caller c.args.t.who in
     let same : length c.self.inside.groups.items ≡ vec_len c.self.inside.groups = search rules in (
       set_rising (asked_if test c.args.t.owed) (asked_if_keeps test c.args.t.owed) c.self.inside.items.items c.args.place c.index_mut-e.result.now c.tell_one.new.e (rw (← c.self.view_is) at c.requires.within) c.index_mut-e.ensures.value c.tell_one.ensures.enlistment c.self.invariant.0,
@@ -31,7 +31,7 @@ invariant_of-self c =
     )
 
 pub returns-clause-enlistments : goal.returns-clause-enlistments
-returns-clause-enlistments c =
+returns-clause-enlistments g c =
     let test = is_one_of c.args.t.transaction c.args.t.caller c.args.t.who in
     rw (← c.self.view_is)
     (set_is (asked_if test c.args.t.owed) (asked_if_keeps test c.args.t.owed) c.self.inside.items.items c.args.place c.index_mut-e.result.now c.tell_one.new.e (rw (← c.self.view_is) at c.requires.within) c.index_mut-e.ensures.value c.tell_one.ensures.enlistment)

@@ -1,6 +1,7 @@
-use Rattle.std.proofs.Common.{sym, ◌∙◌, subst}
+use Rattle.std.proofs.Common.{false, sym, ◌∙◌, subst}
 use Rattle.ktm_log.specs.OnDisk.{on}
 use Rattle.ktm_world.specs.declared.command.Command.{Command}
+use Rattle.ktm_core.specs.Debts.{completes, may_owe_more}
 use Rattle.ktm_units.specs.Units.{IsOfNoBytes}
 use Rattle.ktm_world.specs.Decide.{decide}
 use Rattle.ktm_kernel.specs.Answers.{AnswerLeaves}
@@ -9,8 +10,8 @@ use Rattle.ktm_kernel.proofs.Reading.{no-bytes, read-answered, takes-over}
 use Rattle.ktm_kernel.proofs.kernel.Kernel.dispatch.Goals as goal
 
 pub returns-in-ReadFile-clause-leaves : goal.returns-in-ReadFile-clause-leaves
-returns-in-ReadFile-clause-leaves g c = subst (λ (command : Command). AnswerLeaves (decide c.args.self.now.now c.args.process command) (on c.args.self.now (g.D.Disk.told c.args.disk.now) (g.D.Disk.status c.args.disk.now)) (on c.args.self.now (g.D.Disk.told c.args.disk.now) (g.D.Disk.status c.args.disk.now)) c.read.result) (sym c.in-ReadFile.is)
-    (read-answered c.args.self.now (g.D.Disk.told c.args.disk.now) (g.D.Disk.status c.args.disk.now) _ c.read.result c.requires.up c.requires.ready c.read.ensures.reply)
+returns-in-ReadFile-clause-leaves g c = subst (λ (command : Command). AnswerLeaves (completes command) (may_owe_more command) (decide c.args.self.now.now c.args.process command) (on c.args.self.now (g.D.Disk.told c.args.disk.now) (g.D.Disk.status c.args.disk.now)) (on c.args.self.now (g.D.Disk.told c.args.disk.now) (g.D.Disk.status c.args.disk.now)) c.read.result) (sym c.in-ReadFile.is)
+    (read-answered false false c.args.self.now (g.D.Disk.told c.args.disk.now) (g.D.Disk.status c.args.disk.now) _ c.read.result c.requires.up c.requires.ready c.read.ensures.reply)
 
 pub returns-in_default : goal.returns-in_default
 returns-in_default g c = record {

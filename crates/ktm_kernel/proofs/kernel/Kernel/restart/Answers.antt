@@ -67,7 +67,7 @@ returns-in-Ok-begin-clause-leaves g c =
     restarted _ (on c.buffers.inside.log (g.D.Disk.told c.args.disk.now) (g.D.Disk.status c.args.disk.now)) (on c.load.new.buffer (g.D.Disk.told c.load.new.disk) (g.D.Disk.status c.load.new.disk)) c.in-Ok.loaded c.in-Ok.ensures.leaves
     (sym c.is_worn.ensures ∙ c.if-is_worn.false) c.in-Ok-prepare.starting.events c.in-Ok-prepare.starting.memory c.in-Ok-prepare.ensures.begun
     (on c.begin.new.buffers (g.D.Disk.told c.begin.new.disk) (g.D.Disk.status c.begin.new.disk)) is.memory is.store is.begun _ is.is
-    c.law_of_states.ensures.places c.law_of_units.ensures.0 c.law_of_mapped_states.ensures c.law_of_alike_presents.ensures c.law_of_fresh.ensures
+    c.law_of_states.ensures.places c.law_of_units.ensures.0 c.law_of_mapped_states.ensures c.law_of_alike_presents.ensures c.law_of_fresh.ensures c.law_of_kept.ensures c.law_of_debts.ensures
     c.law_of_standing.ensures c.law_of_spelling.ensures c.events-found.ensures c.in_doubt-in_doubt.ensures c.args.buffers.now
 
 pub returns-in-Err-begin-clause-leaves : goal.returns-in-Err-begin-clause-leaves

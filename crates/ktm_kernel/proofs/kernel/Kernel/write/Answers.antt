@@ -1,4 +1,4 @@
-use Rattle.std.proofs.Common.{◌≡◌, OnErr, true, refl, sym, subst}
+use Rattle.std.proofs.Common.{◌≡◌, OnErr, true, false, refl, sym, subst}
 use Rattle.std.proofs.lemmas.Result.{on_err_weaker}
 use Rattle.ktm_core.specs.Core.{core_of}
 use Rattle.ktm_core.specs.Takes.{takes_memory}
@@ -27,7 +27,7 @@ pub ask-requires-clause-ready : goal.ask-requires-clause-ready
 ask-requires-clause-ready g c = (staged-as-was c.law_of_units.ensures.0 c.self.inside.core.memory c.self.inside.core.store c.stage_write.new.store c.in_ok-staged.ensures.keeps).ready _ _ (subst (λ k. IsReady k (g.D.Disk.told c.args.disk.now) (g.D.Disk.status c.args.disk.now)) (sym c.self.view_is) c.requires.ready)
 
 pub returns-clause-leaves : goal.returns-clause-leaves
-returns-clause-leaves g c = staged-leaves c.args.self.now (machine_of (core_of c.self.inside.core.memory c.stage_write.new.store)) (λ y. decide y c.args.process (WriteFile c.args.file c.args.offset c.args.bytes)) _ _ _ c.ask.result
+returns-clause-leaves g c = staged-leaves false true c.args.self.now (machine_of (core_of c.self.inside.core.memory c.stage_write.new.store)) (λ y. decide y c.args.process (WriteFile c.args.file c.args.offset c.args.bytes)) _ _ _ c.ask.result
     (subst (λ k. IsAsItWas k (machine_of (core_of c.self.inside.core.memory c.stage_write.new.store))) c.self.view_is
     (staged-as-was c.law_of_units.ensures.0 c.self.inside.core.memory c.self.inside.core.store c.stage_write.new.store c.in_ok-staged.ensures.keeps))
     (c.ask.ensures.leaves (λ y. decide y c.args.process (WriteFile c.args.file c.args.offset c.args.bytes)) c.in_ok-staged.ensures.ok)

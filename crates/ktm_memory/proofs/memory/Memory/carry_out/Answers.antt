@@ -27,20 +27,17 @@ use Rattle.txf_volume.specs.Held.{FilesHeld, files_of}
 use Rattle.ktm_memory.proofs.memory.Memory.carry_out.Goals as goal
 use Rattle.ktm_memory.proofs.memory.Memory.carry_out.Goals.{then-records_files, else-records_files}
 
-pub carry_out-requires : goal.carry_out-requires
-carry_out-requires c =
+pub carry_uncounted-requires-clause-slots : goal.carry_uncounted-requires-clause-slots
+carry_uncounted-requires-clause-slots c = λ d is.
     let m = the_view c.self.inside in
     let tm : c.if-records_files.self-inside.tm ≡ c.self.inside.tm =
     elim c.if-records_files.branch [ then-records_files w ↦ ap (λ (s : Inside). s.tm) w.self-inside-is | else-records_files w ↦ ap (λ (s : Inside). s.tm) w.self-inside-is ] in
     let read = c.recording-recording.ensures (present_of m) (subst (λ n. Shows n (present_of m)) c.self.view_is (shows_held m)) in
     let told = subst (λ n. TellsWithin n (λ x. arrived x (course_then x c.args.t c.args.caller c.args.steps.now) Done)) (sym c.self.view_is) c.requires.told (present_of m) (shows_held m) in
-    record {
-      slots = λ d is.
-          let sent = sent_in m c.args.t c.args.caller c.args.steps.now c.recording-recording.result.has_files c.recording-recording.result.has_keys d (sym (ap (λ (r : Recording). r.has_files) read)) (sym (ap (λ (r : Recording). r.has_keys) read))
-          (subst (λ (n : TmState). IsCourseIn n c.args.t c.args.caller c.recording-recording.result.has_files c.recording-recording.result.has_keys d) tm is) in
-          subst (λ (n : TmState). length (run c.args.steps.now d).sent ≤ n.slots) (sym tm)
-          (subst (λ (l : List Sent). length l ≤ m.tm.slots) (arrived-sent (present_of m) (course_then (present_of m) c.args.t c.args.caller c.args.steps.now) ∙ sym sent) told);
-    }
+    let sent = sent_in m c.args.t c.args.caller c.args.steps.now c.recording-recording.result.has_files c.recording-recording.result.has_keys d (sym (ap (λ (r : Recording). r.has_files) read)) (sym (ap (λ (r : Recording). r.has_keys) read))
+    (subst (λ (n : TmState). IsCourseIn n c.args.t c.args.caller c.recording-recording.result.has_files c.recording-recording.result.has_keys d) tm is) in
+    subst (λ (n : TmState). length (run c.args.steps.now d).sent ≤ n.slots) (sym tm)
+    (subst (λ (l : List Sent). length l ≤ m.tm.slots) (arrived-sent (present_of m) (course_then (present_of m) c.args.t c.args.caller c.args.steps.now) ∙ sym sent) told)
 
 pub release-requires : goal.release-requires
 release-requires c is =
@@ -54,7 +51,7 @@ pub returns-clause-settles : goal.returns-clause-settles
 returns-clause-settles c =
     let m = the_view c.self.inside in
     let s = c.if-records_files.self-inside in
-    let n = record (the_view s) { tm = c.carry_out.new.self; trace = c.record.new.self } in
+    let n = record (the_view s) { tm = c.carry_uncounted.new.tm; trace = c.record.new.self } in
     let same : (k : ℕ) × (s ≡ record c.self.inside { next_node = k }) × (k ≡ cond (records_files c.args.steps.now) (next_after_all c.self.inside.next_node (own_changes (files_of c.self.inside.files).table.own c.args.t.id)) c.self.inside.next_node) =
     elim c.if-records_files.branch [
       | then-records_files w ↦ (w.next_after-self-inside.result, w.self-inside-is, w.next_after-self-inside.ensures.next ∙ sym (ap (λ b. cond b (next_after_all c.self.inside.next_node (own_changes (files_of c.self.inside.files).table.own c.args.t.id)) c.self.inside.next_node) (sym c.records_files.ensures ∙ w.if-records_files.true)))
@@ -79,9 +76,9 @@ returns-clause-settles c =
             files = ap (λ (i : Inside). i.files) same.1;
             keys = ap (λ (i : Inside). i.keys) same.1;
             next_node = ap (λ (i : Inside). i.next_node) same.1 ∙ same.2;
-            boot = c.carry_out.ensures.room.boot ∙ ap (λ (k : TmState). k.boot) tm;
-            now = c.carry_out.ensures.now start (course x old) ∙ ap (λ (k : TmState). record k.now { items = change_at k.now.items c.args.t.id (λ u. then.transaction); enlistments = then.enlistments }) tm;
-            managers = c.carry_out.ensures.managers start (course x old) ∙ ap (λ (k : TmState). map (served None then.sent) k.managers) tm;
+            boot = c.carry_uncounted.ensures.room.boot ∙ ap (λ (k : TmState). k.boot) tm;
+            now = c.carry_uncounted.ensures.now start (course x old) ∙ ap (λ (k : TmState). record k.now { items = change_at k.now.items c.args.t.id (λ u. then.transaction); enlistments = then.enlistments }) tm;
+            managers = c.carry_uncounted.ensures.managers start (course x old) ∙ ap (λ (k : TmState). map (served None then.sent) k.managers) tm;
             traces = c.record.ensures.transactions (basis start) (c.recording-recording.ensures x shows) ∙ ap (λ (i : Inside). fold traces_after i.trace (events_ahead c.args.steps.now (basis start))) same.1;
           })
           c.release.ensures;
@@ -90,7 +87,7 @@ returns-clause-settles c =
           let start = course_of x c.args.t (caller_of x.transactions.enlistments c.args.caller) in
           let then = run c.args.steps.now start in
           let is : c.args.self.now.tm.slots ≡ c.release.new.self.tm.slots + length (arrived x then Done).sent =
-          sym (ap (λ k. k.tm.slots) c.self.view_is) ∙ sym (ap (λ (k : TmState). k.slots) tm) ∙ sym (c.carry_out.ensures.slots start (course x old))
+          sym (ap (λ k. k.tm.slots) c.self.view_is) ∙ sym (ap (λ (k : TmState). k.slots) tm) ∙ sym (c.carry_uncounted.ensures.slots start (course x old))
           ∙ ap (λ (k : TmState). k.slots + length then.sent) (sym c.release.ensures.rest.tm) ∙ ap (λ (l : List Sent). c.release.new.self.tm.slots + length l) (sym (arrived-sent x then)) in
           omega (arith, is);
     }
@@ -101,4 +98,4 @@ returns-clause-rules c = λ rule none each.
     elim c.if-records_files.branch [ then-records_files w ↦ ap (λ (s : Inside). s.files) w.self-inside-is | else-records_files w ↦ ap (λ (s : Inside). s.files) w.self-inside-is ] in
     let before : EachOfFiles (Follows rule) (files_of c.if-records_files.self-inside.files) =
     subst (λ (f : FilesHeld). EachOfFiles (Follows rule) (files_of f)) (sym files) (subst (λ (k : MemoryState). EachOfFiles (Follows rule) (files_of k.files)) (sym c.self.view_is) each) in
-    released-each (Follows rule) none c.args.t.id c.commits.result (is_known c.carry_out.new.self.now c.args.t.id) (files_of c.if-records_files.self-inside.files) (files_of c.release.new.self.files) before c.release.ensures.files
+    released-each (Follows rule) none c.args.t.id c.commits.result (is_known c.carry_uncounted.new.tm.now c.args.t.id) (files_of c.if-records_files.self-inside.files) (files_of c.release.new.self.files) before c.release.ensures.files

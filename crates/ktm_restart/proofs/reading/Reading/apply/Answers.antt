@@ -1,4 +1,4 @@
-use Rattle.std.proofs.Common.{Some, true, false, ◌≡◌, ◌∙◌, ap, length, subst, sym}
+use Rattle.std.proofs.Common.{true, false, ◌≡◌, ◌∙◌, ap, length, subst, sym}
 use Rattle.std.proofs.lemmas.Bool.{true≢false}
 use Rattle.ktm_journal.specs.Image.{page_count}
 use Rattle.ktm_paged.specs.Meaning.{has_event_its_pages, meant_event}
@@ -9,7 +9,6 @@ use Rattle.ktm_restart.proofs.reading.Reading.apply.Goals as goal
 use Rattle.ktm_restart.proofs.reading.Reading.apply.Goals.{In-Some}
 use Rattle.txf_laws.specs.Grammatical.{is_grammatical}
 use Rattle.ktm_world.specs.declared.event.Event.{Event}
-use Rattle.ktm_world.specs.Durable.{Durable}
 use Rattle.ktm_world.specs.Tree.{Tree}
 
 -- what the event means

@@ -1,4 +1,4 @@
-use Rattle.std.proofs.Common.{List, Ok, true, false, ◌≡◌, ◌∙◌, ap, subst, sym}
+use Rattle.std.proofs.Common.{List, Ok, true, false, ◌∙◌, ap, subst, sym}
 use Rattle.std.proofs.lemmas.Bool.{true≢false}
 use Rattle.ktm_owners.specs.declared.owners.Owner.{Owner}
 use Rattle.ktm_owners.specs.Owners.{LeavesGiven, all_given}

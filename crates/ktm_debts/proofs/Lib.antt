@@ -1,0 +1,11 @@
+mod AnswerDebts
+mod CommandDebts
+mod CourseDebts
+mod DebtsLaws
+mod EnlistmentDebts
+mod MostDebts
+mod OwnedItems
+mod RowDebts
+mod TransactionSums
+mod UnchangedDebts
+mod WrittenFiles

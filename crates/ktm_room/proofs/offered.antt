@@ -1,0 +1,5 @@
+-- Lemmas that other crates cite.
+pub mod CallSizes
+pub mod ChangeSizes
+pub mod CourseSizes
+pub mod SettingSizes
