@@ -1,2 +1,3 @@
 pub mod offered
+mod Compared
 mod PieceLemmas

@@ -1,4 +1,5 @@
 -- Lemmas that other crates cite.
-pub mod ToldSteps
-pub mod Images
+pub mod Digits
 pub mod GuidLemmas
+pub mod Images
+pub mod ToldSteps

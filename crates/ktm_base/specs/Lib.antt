@@ -11,3 +11,4 @@ pub mod Power
 pub mod Laws
 pub mod Grammar
 pub mod Pieces
+pub mod Order

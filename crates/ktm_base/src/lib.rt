@@ -13,6 +13,7 @@ mod limits;
 mod lists;
 mod names;
 mod notify;
+mod order;
 mod power;
 mod reading;
 mod refusal;
@@ -38,6 +39,7 @@ pub use limits::{
 pub use lists::{Bytes, Items, PageList, Text};
 pub use names::fold;
 pub use notify::Notify;
+pub use order::compare;
 pub use power::{PowerCall, PowerDisk};
 pub use reading::{read_at, read_if};
 pub use refusal::Refusal;

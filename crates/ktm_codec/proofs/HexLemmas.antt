@@ -1,9 +1,9 @@
 -- What is read in hexadecimal digits is what is spelled in them.
-use Rattle.std.proofs.Common.{◌≡◌, ◌≢◌, ℕ, length, get_or, set, take, drop, sym, ◌+◌, ◌*◌, ◌/◌, ◌%◌, ◌<◌, List, [], ◌∷◌, ◌++◌, Option, Some, None, is_some, refl, ap, ◌∙◌, arith, option_map, option_and_then, append_assoc, subst, codes, bytes_eq, nat_eq, false, inl, inr}
+use Rattle.std.proofs.Common.{◌≡◌, ◌≢◌, ℕ, length, get_or, set, take, drop, sym, ◌+◌, ◌*◌, ◌/◌, ◌%◌, ◌<◌, List, [], ◌∷◌, ◌++◌, Option, Some, None, is_some, refl, ap, ◌∙◌, arith, option_map, option_and_then, append_assoc, subst, codes, bytes_eq, nat_eq, true, false, zero, suc, inl, inr, take-append-drop}
 use Rattle.std.specs.List.{list_all}
 use Rattle.std.proofs.lemmas.List.{take_more_set, drop_more}
 use Rattle.std.proofs.lemmas.Option.{option_and_then_some, same_Some}
-use Rattle.std.proofs.lemmas.Bool.{cases_Bool}
+use Rattle.std.proofs.lemmas.Bool.{and_parts, cases_Bool}
 use Rattle.std.proofs.lemmas.Grind.{common_steps}
 use Rattle.std.proofs.lemmas.Slice.Eq.{bytes_eq-Decides}
 use Rattle.ktm_base.specs.Bytes.{AreBytes}
@@ -23,19 +23,19 @@ unhex-start None = refl
 unhex-start (Some bs) = refl
 
 -- one pair more
-unhex-pair : (front rest : List ℕ) (high low h l : ℕ) → Some h ≡ digit_value high → Some l ≡ digit_value low
-    → option_map (λ bs. (front ++ (h * 16 + l) ∷ []) ++ bs) (unhex rest) ≡ option_map (λ bs. front ++ bs) (unhex (high ∷ low ∷ rest))
-unhex-pair front rest high low h l first second = rw (← first, ← second) (map-front front (h * 16 + l) (unhex rest))
+unhex-pair : (front rest : List ℕ) (high low b : ℕ) → Some b ≡ pair_value high low
+    → option_map (λ bs. (front ++ b ∷ []) ++ bs) (unhex rest) ≡ option_map (λ bs. front ++ bs) (unhex (high ∷ low ∷ rest))
+unhex-pair front rest high low b is = rw (← is) (map-front front b (unhex rest))
 
 -- one pair of the text more is read into the bytes
-pub unhex-step : (text bytes : List ℕ) (i h l : ℕ) → 2 * i + 1 < length text → i < length bytes
-    → Some h ≡ digit_value (get_or text (2 * i) 0) → Some l ≡ digit_value (get_or text (2 * i + 1) 0)
+pub unhex-step : (text bytes : List ℕ) (i b : ℕ) → 2 * i + 1 < length text → i < length bytes
+    → Some b ≡ pair_value (get_or text (2 * i) 0) (get_or text (2 * i + 1) 0)
     → option_map (λ bs. take i bytes ++ bs) (unhex (drop (2 * i) text)) ≡ unhex text
-    → option_map (λ bs. take (i + 1) (set bytes i (h * 16 + l)) ++ bs) (unhex (drop (2 * (i + 1)) text)) ≡ unhex text
-unhex-step text bytes i h l within room first second so_far =
+    → option_map (λ bs. take (i + 1) (set bytes i b) ++ bs) (unhex (drop (2 * (i + 1)) text)) ≡ unhex text
+unhex-step text bytes i b within room is so_far =
     let behind : 2 * (i + 1) ≡ 2 * i + 1 + 1 = omega arith in
-    rw (take_more_set bytes i (h * 16 + l) room, behind)
-    (unhex-pair (take i bytes) (drop (2 * i + 1 + 1) text) (get_or text (2 * i) 0) (get_or text (2 * i + 1) 0) h l first second
+    rw (take_more_set bytes i b room, behind)
+    (unhex-pair (take i bytes) (drop (2 * i + 1 + 1) text) (get_or text (2 * i) 0) (get_or text (2 * i + 1) 0) b is
     ∙ ap (λ (t : List ℕ). option_map (λ bs. take i bytes ++ bs) (unhex t)) (sym (drop_more text (2 * i) 0 (omega arith) ∙ ap (λ (t : List ℕ). get_or text (2 * i) 0 ∷ t) (drop_more text (2 * i + 1) 0 within)))
     ∙ so_far)
 
@@ -89,7 +89,7 @@ pair_of high low h b e f = option_map_some _ (digit_value low) b f (λ l g sum.
     let low_half : l ≡ b % 16 = omega (arith, first.0, second.0) in
     (omega (arith, first.0, second.0), rw (← high_half) first.1, rw (← low_half) second.1))
 
-pair_is : (high low b : ℕ) → pair_value high low ≡ Some b → (b < 256) × (high ≡ hex_digit (b / 16)) × (low ≡ hex_digit (b % 16))
+pub pair_is : (high low b : ℕ) → pair_value high low ≡ Some b → (b < 256) × (high ≡ hex_digit (b / 16)) × (low ≡ hex_digit (b % 16))
 pair_is high low b e = option_and_then_some _ (digit_value high) b e (λ h f g. pair_of high low h b f g)
 
 -- what is spelled in pairs of digits is read
@@ -132,3 +132,37 @@ pub unhex_or_dash_again : (bytes : List ℕ) → AreBytes bytes → unhex_or_das
 unhex_or_dash_again [] h = refl
 unhex_or_dash_again (b ∷ bs) h =
     rw (two_are_no_dash (hex_digit (b / 16)) (hex_digit (b % 16)) (hex_of bs)) (unhex_again (b ∷ bs) h)
+
+behind-bytes : (b : ℕ) (bs : List ℕ) (o : Option (List ℕ)) → option_map (λ xs. b ∷ xs) (option_map (λ xs. bs ++ xs) o) ≡ option_map (λ xs. (b ∷ bs) ++ xs) o
+behind-bytes b bs None = refl
+behind-bytes b bs (Some xs) = refl
+
+-- behind digits that are read
+unhex-append : (front text bytes : List ℕ) → unhex front ≡ Some bytes → unhex (front ++ text) ≡ option_map (λ bs. bytes ++ bs) (unhex text)
+unhex-append [] text bytes e = sym (unhex-start (unhex text)) ∙ ap (λ (xs : List ℕ). option_map (λ bs. xs ++ bs) (unhex text)) (same_Some _ _ e)
+unhex-append (c ∷ []) text bytes e = cc
+unhex-append (high ∷ low ∷ rest) text bytes e =
+    option_and_then_some _ (pair_value high low) bytes e (λ b f g.
+    option_map_some _ (unhex rest) bytes g (λ bs k whole.
+    rw (f, unhex-append rest text bs k) (behind-bytes b bs (unhex text) ∙ ap (λ (xs : List ℕ). option_map (λ bs. xs ++ bs) (unhex text)) whole)))
+
+behind-front : (front bytes : List ℕ) (o : Option (List ℕ)) → option_map (λ bs. (front ++ bytes) ++ bs) o ≡ option_map (λ bs. front ++ bs) (option_map (λ bs. bytes ++ bs) o)
+behind-front front bytes None = refl
+behind-front front bytes (Some bs) = ap Some (append_assoc front bytes bs)
+
+-- a block of the text more is read behind the bytes
+pub unhex-block : (text front new : List ℕ) (n : ℕ) → unhex (take n text) ≡ Some (drop (length front) new) → take (length front) new ≡ front
+    → option_map (λ bs. new ++ bs) (unhex (drop n text)) ≡ option_map (λ bs. front ++ bs) (unhex text)
+unhex-block text front new n read kept =
+    let behind = drop (length front) new in
+    let whole : new ≡ front ++ behind = sym (take-append-drop (length front) new) ∙ ap (λ (l : List ℕ). l ++ behind) kept in
+    ap (λ (l : List ℕ). option_map (λ bs. l ++ bs) (unhex (drop n text))) whole
+    ∙ behind-front front behind (unhex (drop n text))
+    ∙ ap (λ (o : Option (List ℕ)). option_map (λ bs. front ++ bs) o) (sym (unhex-append (take n text) (drop n text) behind read))
+    ∙ ap (λ (t : List ℕ). option_map (λ bs. front ++ bs) (unhex t)) (take-append-drop n text)
+
+-- what is behind a block has digits alone, too
+pub digits-behind : (n : ℕ) (text : List ℕ) → list_all is_hex_digit text ≡ true → list_all is_hex_digit (drop n text) ≡ true
+digits-behind zero text all = all
+digits-behind (suc n) [] all = all
+digits-behind (suc n) (c ∷ cs) all = digits-behind n cs (and_parts (is_hex_digit c) _ all).1

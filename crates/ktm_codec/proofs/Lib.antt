@@ -1,5 +1,6 @@
 pub mod Steps
 pub mod HexLemmas
+pub mod HexPairs
 pub mod NumberLemmas
 pub mod WordLemmas
 pub mod WordSplits

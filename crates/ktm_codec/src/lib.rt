@@ -17,4 +17,4 @@ pub use little_endian::{
 };
 pub use number::{law_of_numbers, put_number, read_last_number, read_number};
 pub use quoted::{law_of_quoted, put_quoted, read_quoted};
-pub use word::{law_of_words, split_word, strip_word};
+pub use word::{is_word, law_of_words, split_long_word, split_word, strip_word};

@@ -126,29 +126,37 @@ impl Core {
         self.events.clear();
         let owing = owes_more(&asked);
         let beside = room_beside(&self.memory, &asked);
-        let decision = decide(&mut self.memory, alloc, asked, &mut self.events)?;
+        let mut settlement = Settlement::Nothing;
+        let reply = decide(
+            &mut self.memory,
+            alloc,
+            asked,
+            &mut self.events,
+            &mut settlement,
+        )?;
         if self.events.is_empty() {
-            let rises = may_rise(owing, &decision.reply);
-            self.memory.settle(alloc, decision.settlement);
+            let rises = may_rise(owing, &reply);
+            self.memory.settle(alloc, settlement);
             if let Err(Down) = make_room(disk, &mut self.memory, rises, &mut self.snapshot) {
-                drop(decision.reply);
+                drop(reply);
                 return Ok(fall(&mut self.memory));
             }
-            return Ok(decision.reply);
+            return Ok(reply);
         }
         if let Err(Down) = put(
             disk,
             &mut self.memory,
             &mut self.store,
             &self.events,
-            &decision.settlement,
+            &settlement,
             beside,
             &mut self.snapshot,
         ) {
-            drop(decision);
+            drop(reply);
+            drop(settlement);
             return Ok(fall(&mut self.memory));
         }
-        self.memory.settle(alloc, decision.settlement);
-        Ok(decision.reply)
+        self.memory.settle(alloc, settlement);
+        Ok(reply)
     }
 }

@@ -5,7 +5,7 @@ ghost use Rattle.std.specs.Option.{option_copied};
 ghost use Rattle.ktm_keyed.specs.Keyed.{comes_before, comes_first, is_rising, key_order, value_at, put, without};
 ghost use Rattle.ktm_keyed.specs.Slot.{IsSlot};
 
-use ktm_base::{NoMemory, Text};
+use ktm_base::{NoMemory, Text, compare};
 use std::alloc::Global;
 use std::marker::Model;
 
@@ -48,7 +48,7 @@ impl<V> Model for KeyedList<V> {
 fn is_before(a: &[u8], b: &[u8]) -> bool
     ensures { result ≡ comes_before a.now b.now }
 {
-    a.cmp(b).is_lt()
+    compare(a, b).is_lt()
 }
 
 fn comes_first<V>(key: &[u8], items: &[Keyed<V>]) -> bool
@@ -77,7 +77,7 @@ fn search<V>(items: &[Keyed<V>], key: &[u8]) -> Result<usize, usize>
     ensures bound { IsSearchInRange result (length items.now) }
     ensures position { IsBinarySearchResult (key_order key.now) items.now result }
 {
-    items.binary_search_by(|item| item.key.as_slice().cmp(key))
+    items.binary_search_by(|item| compare(item.key.as_slice(), key))
 }
 
 /// Where the key stands in a list by rising key. Keys mostly come by rising key too, so the last one is compared first.

@@ -1,11 +1,12 @@
 -- Lemmas on a search over blocks, and then within one.
 use Rattle.std.proofs.Common.{◌≡◌, ℕ, zero, suc, ◌+◌, ◌-◌, ◌<◌, ◌≤◌, List, [], ◌∷◌, length, get_or, take, refl, sym, ap, ◌∙◌, inl, inr, arith, length-append}
-use Rattle.std.specs.Prelude.{Ok, Err}
+use Rattle.std.specs.Prelude.{Result, Ok, Err}
 use Rattle.std.specs.Ordering.{ordering_index}
-use Rattle.std.specs.declared.cmp.Ordering.TheVariants.{Less, Greater}
-use Rattle.std.specs.List.Sorted.{IsBinarySearchResult, IsNonDecreasingBy, IsPartitionPoint}
+use Rattle.std.specs.declared.cmp.Ordering.{Ordering}
+use Rattle.std.specs.declared.cmp.Ordering.TheVariants.{Less, Equal, Greater}
+use Rattle.std.specs.List.Sorted.{IsBinarySearchResult, IsNonDecreasingBy, IsPartitionPoint, IsSearchInRange}
 use Rattle.std.proofs.lemmas.Bool.{cases_lt}
-use Rattle.std.proofs.lemmas.List.{get_or_default, take_all}
+use Rattle.std.proofs.lemmas.List.{get_or-take, get_or_default, length-take, take_all}
 use Rattle.std.proofs.lemmas.Option.{slice_get-get_or}
 use Rattle.ktm_links.specs.declared.list.Key.{Key}
 use Rattle.ktm_links.specs.declared.block.Spot.{Spot}
@@ -45,6 +46,50 @@ before (b ∷ bs) (suc i) used inside =
 -- the number before, and one more
 suc_pred : (n : ℕ) → 0 < n → suc (n - 1) ≡ n
 suc_pred n some = omega (arith, some)
+
+-- what is not above `Less` is `Less`
+least : (o : Ordering) → ordering_index o ≤ 0 → o ≡ Less
+least Less low = refl
+least Equal low = absurd (omega (arith, low))
+least Greater low = absurd (omega (arith, low))
+
+-- where the last one of some that are in order is below, all are
+pub all_below : {X : Type 0} (ord : X → Ordering) (xs : List X) (last : X) → (0 < length xs → ord (get_or xs (length xs - 1) last) ≡ Less)
+    → IsBinarySearchResult ord xs (Err (length xs))
+all_below ord xs last less rises = (
+  λ k d from to.
+      let some : 0 < length xs = omega (arith, to) in
+      let end : length xs - 1 < length xs = omega (arith, some) in
+      let highest : ordering_index (ord (get_or xs (length xs - 1) d)) ≡ 0 =
+      ap (λ x. ordering_index (ord x)) (get_or_default xs (length xs - 1) d last end) ∙ ap (λ o. ordering_index o) (less some) in
+      let rise : ordering_index (ord (get_or xs k d)) ≤ ordering_index (ord (get_or xs (length xs - 1) d)) =
+      rises k (length xs - 1) d (omega (arith, to)) end in
+      least (ord (get_or xs k d)) (omega (arith, rise, highest)),
+  λ k d from to. absurd (omega (arith, from, to)),
+)
+
+-- where the last one is above, a search among those before it is one among all
+pub before_last : {X : Type 0} (ord : X → Ordering) (xs : List X) (last : X) (r : Result ℕ ℕ) → 0 < length xs → ord (get_or xs (length xs - 1) last) ≡ Greater
+    → IsSearchInRange r (length (take (length xs - 1) xs)) → IsBinarySearchResult ord (take (length xs - 1) xs) r → IsBinarySearchResult ord xs r
+before_last ord xs last (Ok i) some more inside result = λ d.
+    let within : i < length xs - 1 = omega (arith, inside, length-take (length xs - 1) xs) in
+    ap ord (sym (get_or-take (length xs - 1) xs i d within)) ∙ result d
+before_last {X = X} ord xs last (Err i) some more inside result = λ rises.
+    let count : length (take (length xs - 1) xs) ≡ length xs - 1 = omega (arith, length-take (length xs - 1) xs) in
+    let point =
+    result
+    (λ j k d under within.
+    let here : k < length xs - 1 = omega (arith, count, within) in
+    rw (get_or-take (length xs - 1) xs j d (omega (arith, under, here)), get_or-take (length xs - 1) xs k d here) (rises j k d under (omega (arith, here)))) in (
+      λ k d from to. ap ord (sym (get_or-take (length xs - 1) xs k d (omega (arith, count, to, inside)))) ∙ point.0 k d from to,
+      λ k d from to.
+          elim (cases_lt k (length xs - 1)) [
+            | inl here ↦ ap ord (sym (get_or-take (length xs - 1) xs k d here)) ∙ point.1 k d from (omega (arith, here, count))
+            | inr past ↦
+                let end : k ≡ length xs - 1 = omega (arith, past, to) in
+                rw end (ap ord (get_or_default xs (length xs - 1) d last (omega (arith, some))) ∙ more)
+          ],
+    )
 
 module _ {T : Type 0} where
   -- the last key of a block, told by all keys

@@ -1,5 +1,4 @@
 mod Blocks
-mod Compared
 mod Found
 mod InOrder
 mod Linked

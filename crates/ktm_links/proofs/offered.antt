@@ -1,6 +1,5 @@
 -- Lemmas that other crates cite.
 pub mod Comparing
-pub mod Digits
 pub mod Entries
 pub mod Indexes
 pub mod Keys

@@ -1,5 +1,5 @@
 // A map from names.
-ghost use Rattle.std.specs.Prelude.{◌≡◌, ◌≢◌, ℕ, List as Seq, ◌<◌, ◌≤◌, ◌+◌, ◌-◌, ◌^◌, min, [], Some, None, IsOk, OnOk, OnSome, IfSome, IfNone, option_copied};
+ghost use Rattle.std.specs.Prelude.{◌≡◌, ◌≢◌, ℕ, List as Seq, ◌<◌, ◌≤◌, ◌+◌, ◌-◌, ◌^◌, min, [], Some, None, IsOk, OnOk, OnErr, OnSome, IfOk, IfErr, IfSome, IfNone, is_some, option_copied, true};
 ghost use Rattle.std.specs.Borrow.{sem};
 ghost use Rattle.std.specs.Option.{option_copied_mut, option_map};
 ghost use Rattle.ktm_links.specs.Items.{value_at};
@@ -11,7 +11,7 @@ use crate::list::{Key, List};
 use crate::name::Name;
 use crate::named::Named;
 use crate::order::Order;
-use crate::search::{gap, not_below, search};
+use crate::search::{not_below, search};
 use crate::walk::Walk;
 use ktm_base::NoMemory;
 use std::alloc::Global;
@@ -189,6 +189,36 @@ impl<K: Name, T> Chains<K, T> {
         Ok(())
     }
 
+    /// Puts a value under the name, or hands it back where one stands there, and takes no memory.
+    pub fn insert_new(&mut self, name: K, value: T) -> Result<Key, T>
+        requires { 0 < self.old.spare }
+
+        ensures free { OnOk result (key_at self.old.entries (K.bytes name) ≡ None) }
+        ensures taken { OnErr result (is_some (key_at self.old.entries (K.bytes name)) ≡ true) }
+        ensures unchanged { OnErr result (self.new ≡ self.old) }
+        ensures given_back { IfErr result (λ back. back ≡ value) }
+        ensures fresh { IfOk result (λ key. key.generation ≡ self.old.next) }
+        ensures entries { IfOk result (λ key. self.new.entries ≡ put self.old.entries (record { name = K.bytes name; key = key; value = value })) }
+        ensures next { OnOk result (self.new.next ≡ self.old.next + 1) }
+        ensures spare { OnOk result (self.new.spare + 1 ≡ self.old.spare) }
+
+        // Of each name and of each key, what it stands for behind the call.
+        ensures under { IfOk result (λ key. at self.new.entries (K.bytes name) ≡ Some (key, value)) }
+        ensures other_names { (q : Seq ℕ) → q ≢ K.bytes name → at self.new.entries q ≡ at self.old.entries q }
+        ensures named { IfOk result (λ key. value_of self.new.entries key ≡ Some value) }
+        ensures other_keys { IfOk result (λ key. (k : Key) → k ≢ key → value_of self.new.entries k ≡ value_of self.old.entries k) }
+        ensures spent { KeepsSpent self.old self.new }
+    {
+        match search(&self.values, self.order.as_blocks(), name.as_slice()) {
+            Ok(_) => Err(value),
+            Err(spot) => {
+                let key = self.values.push_spare(Named::new(name, value));
+                self.order.insert(spot, key);
+                Ok(key)
+            }
+        }
+    }
+
     /// Puts a value under a name that has none, and takes no memory.
     pub fn insert(&mut self, name: K, value: T) -> Key
         requires spare { 0 < self.old.spare }
@@ -206,10 +236,10 @@ impl<K: Name, T> Chains<K, T> {
         ensures other_keys { (k : Key) → k ≢ result → value_of self.new.entries k ≡ value_of self.old.entries k }
         ensures spent { KeepsSpent self.old self.new }
     {
-        let spot = gap(&self.values, self.order.as_blocks(), name.as_slice());
-        let key = self.values.push_spare(Named::new(name, value));
-        self.order.insert(spot, key);
-        key
+        match self.insert_new(name, value) {
+            Ok(key) => key,
+            Err(_) => unreachable!(),
+        }
     }
 
     /// Removes the value under the name.

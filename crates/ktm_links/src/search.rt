@@ -1,57 +1,16 @@
 // Where a name stands among keys in order.
-ghost use Rattle.std.specs.Prelude.{◌≡◌, ◌≤◌, ◌+◌, None, Err, IfOk, IfErr, length, drop};
-ghost use Rattle.std.specs.List.Sorted.{IsBinarySearchResult, IsSearchInRange, IsPartitionPoint};
-ghost use Rattle.std.specs.declared.cmp.Ordering.TheVariants.{Less, Greater};
+ghost use Rattle.std.specs.Prelude.{◌≡◌, ◌≤◌, ◌+◌, Err, IfOk, IfErr, length, drop, min};
+ghost use Rattle.std.specs.List.Sorted.{IsBinarySearchResult, IsSearchInRange};
 ghost use Rattle.ktm_links.specs.Blocks.{flat, index_in, index_of, AreUsed, IsGap, IsSpot};
-ghost use Rattle.ktm_links.specs.Mapped.{key_at, name_cmp};
-ghost use Rattle.ktm_links.specs.Numbers.{digits};
-ghost use Rattle.ktm_links.specs.Order.{entries_of, last_order, order_at, IsFirstNotBelow, IsInOrder};
+ghost use Rattle.ktm_links.specs.Mapped.{name_cmp};
+ghost use Rattle.ktm_links.specs.Order.{last_order, order_at, IsFirstNotBelow, IsInOrder};
 
 use crate::block::{Block, Spot};
 use crate::list::{Key, List};
 use crate::name::Name;
 use crate::named::Named;
+use ktm_base::compare;
 use std::cmp::Ordering;
-
-// The eight bytes from this place on as a number, whose greatest byte is the first.
-fn number_at(bytes: &[u8], at: usize) -> u64
-    requires { at + 8 ≤ length bytes.now }
-    ensures { drop at bytes.now ≡ digits 7 result (drop (at + 8) bytes.now) }
-{
-    match bytes[at..].first_chunk::<8>() {
-        Some(eight) => u64::from_be_bytes(*eight),
-        None => unreachable!(),
-    }
-}
-
-// Which of two names comes first from this place on, byte by byte.
-fn compare_from(a: &[u8], b: &[u8], from: usize) -> Ordering
-    requires first { from ≤ length a.now }
-    requires second { from ≤ length b.now }
-    ensures { result ≡ name_cmp (drop from a.now) (drop from b.now) }
-{
-    for at in from..a.len().min(b.len()) {
-        if a[at] != b[at] {
-            return a[at].cmp(&b[at]);
-        }
-    }
-    a.len().cmp(&b.len())
-}
-
-// Which of two names comes first: eight bytes are one number, and so are most names.
-fn compare(a: &[u8], b: &[u8]) -> Ordering
-    ensures { result ≡ name_cmp a.now b.now }
-{
-    let eights = a.len().min(b.len()) / 8;
-    for eight in 0..eights {
-        let first = number_at(a, 8 * eight);
-        let second = number_at(b, 8 * eight);
-        if first != second {
-            return first.cmp(&second);
-        }
-    }
-    compare_from(a, b, 8 * eights)
-}
 
 // How the name of a value stands to this one.
 fn order_of<K: Name, T>(values: &List<Named<K, T>>, key: Key, name: &[u8]) -> Ordering
@@ -73,7 +32,8 @@ fn last_order_of<K: Name, T>(values: &List<Named<K, T>>, block: &Block, name: &[
     }
 }
 
-// The block whose last name is this one, or else the first whose last name is above it, by halves.
+// The block whose last name is this one, or else the first whose last name is above it, by halves. Names mostly rise as they come, so
+// the last one is compared first.
 fn block_of<K: Name, T>(
     values: &List<Named<K, T>>,
     blocks: &[Block],
@@ -82,7 +42,16 @@ fn block_of<K: Name, T>(
     ensures bound { IsSearchInRange result (length blocks.now) }
     ensures position { IsBinarySearchResult (last_order values.now.items name.now) blocks.now result }
 {
-    blocks.binary_search_by(|block| last_order_of(values, block, name))
+    let Some(last) = blocks.last() else {
+        return Err(0);
+    };
+    match last_order_of(values, last, name) {
+        Ordering::Less => Err(blocks.len()),
+        Ordering::Equal => Ok(blocks.len() - 1),
+        Ordering::Greater => {
+            blocks[..blocks.len() - 1].binary_search_by(|block| last_order_of(values, block, name))
+        }
+    }
 }
 
 // Where the name stands in a block, or would stand, by halves.
@@ -162,25 +131,6 @@ pub(crate) fn search<K: Name, T>(
             place: blocks[block].len() - 1,
         }),
         Err(block) => search_in(values, blocks, block, name),
-    }
-}
-
-/// Where a name that is not there goes. Names mostly rise as they come, so the last one is compared first.
-pub(crate) fn gap<K: Name, T>(values: &List<Named<K, T>>, blocks: &[Block], name: &[u8]) -> Spot
-    requires used { AreUsed blocks.now }
-    requires ordered { IsInOrder values.now.items (flat blocks.now) }
-    requires free { key_at (entries_of values.now.items (flat blocks.now)) name.now ≡ None }
-    ensures gap { IsGap blocks.now result }
-    ensures point { IsPartitionPoint (λ k. order_at values.now.items name.now k ≡ Less) (λ k. order_at values.now.items name.now k ≡ Greater) (flat blocks.now) (index_of blocks.now result) }
-{
-    if let Some(last) = blocks.last() {
-        if let Ordering::Less = last_order_of(values, last, name) {
-            return end_of(blocks);
-        }
-    }
-    match search(values, blocks, name) {
-        Ok(spot) => spot,
-        Err(spot) => spot,
     }
 }
 

@@ -122,6 +122,7 @@ module _ (kept : KeptLaw) (m : MemoryState) (t : Transaction) (caller : Option I
   can_go_on : IsReadyCourse (present_of m) t caller input → AreFew m.trace → steps_room steps.items ≤ MOST_NOTED → CanGoOn m t caller steps.items
   can_go_on ready few noted = record {
     there = ready.there;
+    live = ready.live;
     leads = leads_on m t caller input steps.items s sees is;
     few = λ some. few;
     noted = noted;

@@ -42,6 +42,10 @@ may_live t = go t.phase
 ended_not_due : (clock : ℕ) (t : Transaction) → is_live t ≡ false → is_due clock t ≡ false
 ended_not_due clock t ended = false_from_ne_true (is_due clock t) (λ due. both_ways (is_live t) ended (may_live t (and_parts _ (may_roll_back t) due).1))
 
+-- one that is due has not ended
+pub live_if_due : (clock : ℕ) (t : Transaction) → is_due clock t ≡ true → is_live t ≡ true
+live_if_due clock t due = may_live t (and_parts _ (may_roll_back t) due).1
+
 -- those that are due are live
 due_live : (clock : ℕ) (ts : List Transaction) → filter (is_due clock) (filter is_live ts) ≡ filter (is_due clock) ts
 due_live clock [] = refl

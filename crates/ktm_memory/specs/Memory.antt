@@ -193,10 +193,11 @@ pub record IsReleased (id : Id) (commits is_known : Bool) (old new : MemoryState
 abbrev pub course_then : Present → Transaction → Option Id → List Step → Going
 course_then x t caller steps = run steps (course_of x t (caller_of x.transactions.enlistments caller))
 
--- the transaction is there, its steps lead it on, what memory keeps of the log is few enough for what they add to it, and what they commit
+-- the transaction is there and has not ended, its steps lead it on, what memory keeps of the log is few enough for what they add to it, and what they commit
 -- can be committed
 pub record CanGoOn (m : MemoryState) (t : Transaction) (caller : Option Id) (steps : List Step) : Type 0 where
   pub there : transaction_at m.tm.now.items t.id ≡ Some t
+  pub live : is_live t ≡ true
   pub leads : (x : Present) → Shows m x → LeadsOn x t (caller_of x.transactions.enlistments caller) steps
   pub few : 1 ≤ steps_room steps → AreFew m.trace
   pub noted : steps_room steps ≤ MOST_NOTED

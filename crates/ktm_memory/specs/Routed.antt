@@ -22,7 +22,7 @@ use Rattle.ktm_world.specs.Present.{Present}
 use Rattle.ktm_world.specs.Rows.{row}
 use Rattle.ktm_world.specs.Steps.{led, seen}
 use Rattle.ktm_world.specs.TransactionCalls.{arrived, commit_reply, course_of, create_enlistment, create_resource_manager, create_transaction, get_information, get_notification, get_transaction_information, has_empty_queue, no_enlistment_left, no_manager_left, no_transaction_left, quota_test, recover_resource_manager, set_information}
-use Rattle.ktm_world.specs.Transactions.{is_active, transaction_at}
+use Rattle.ktm_world.specs.Transactions.{is_active, is_live, transaction_at}
 use Rattle.ktm_world.specs.Uses.{file_room, key_room}
 use Rattle.kv_rm.specs.Calls.{key_outcome}
 use Rattle.ktm_tm.specs.Courses.{caller_of}
@@ -84,7 +84,7 @@ pub record IsReadyCall (x : Present) (process : Pid) (who : Option Id) (label : 
   pub may : first_refusal (file_tests x.files (file_room x) who call) ≡ None → MayMake x who (file_effect x.files who call)
   pub suits : SuitsCall x.files who call extent
 
--- the transaction is there, and is the caller's, if there is one; what it commits can be committed, what it records has bytes, and it is active
+-- the transaction is there and has not ended, and is the caller's, if there is one; what it commits can be committed, what it records has bytes, and it is active
 -- where it is to commit
 pub record IsReadyCourse (x : Present) (t : Transaction) (caller : Option Id) (input : PhaseInput) : Type 0 where
   pub there : transaction_at x.transactions.items t.id ≡ Some t
@@ -92,6 +92,7 @@ pub record IsReadyCourse (x : Present) (t : Transaction) (caller : Option Id) (i
   pub may : list_any is_commit (row (seen (course_of x t None)) input) ≡ true → MayCommitNow x t
   pub spelled : All IsSpellableEvent (course_to x t caller input).events
   pub active : input ≡ PhaseInput.CommitTransaction → is_active t ≡ true
+  pub live : is_live t ≡ true
 
 -- a label that is to be bound is free, and one that is to be duplicated is bound
 abbrev pub AreReady : Present → Pid → Labels → Type 0

@@ -11,7 +11,7 @@ ghost use Rattle.ktm_world.specs.Keys.{own_settings, stored_all, without_own};
 ghost use Rattle.ktm_world.specs.Present.{Present};
 ghost use Rattle.ktm_world.specs.Steps.{basis, seen};
 ghost use Rattle.ktm_world.specs.TransactionCalls.{aborted_by, arrived, course_of};
-ghost use Rattle.ktm_world.specs.Transactions.{transaction_at};
+ghost use Rattle.ktm_world.specs.Transactions.{is_live, transaction_at};
 ghost use Rattle.txf_laws.specs.FileEffects.{forgotten};
 ghost use Rattle.txf_laws.specs.Reservations.{files_committed};
 ghost use Rattle.txf_volume.specs.Commit.{MayCommit};
@@ -143,9 +143,10 @@ impl Memory {
         self.release(t.id, commits(steps));
     }
 
-    /// The transaction rolls back, and no enlistment asks for it.
+    /// The transaction, which has not ended, rolls back, and no enlistment asks for it.
     pub(crate) fn roll_back(&mut self, t: Transaction)
         requires there { transaction_at self.old.tm.now.items t.id ≡ Some t }
+        requires live { is_live t ≡ true }
         requires told { TellsWithin self.old (λ x. aborted_by x t None Done) }
         ensures settles { Settles self.old (λ x. aborted_by x t None Done) self.new }
         ensures journal { self.new.journal ≡ self.old.journal }

@@ -10,6 +10,7 @@ ghost use Rattle.ktm_memory.specs.Routed.{outcome_of, AreReady, IsActiveCaller, 
 ghost use Rattle.ktm_slots.specs.Slots.{granted_in};
 ghost use Rattle.ktm_memory.specs.Takes.{labels_take_memory, routed_takes_memory};
 ghost use Rattle.ktm_memory.specs.declared.routed.Routed.TheVariants.{Create, Handles as OfLabels};
+ghost use Rattle.ktm_memory.specs.declared.settlement.Settlement.TheVariants.{Nothing};
 ghost use Rattle.ktm_world.specs.Sizes.{event_size};
 ghost use Rattle.ktm_world.specs.Decide.{of_keys};
 ghost use Rattle.ktm_world.specs.Handles.{object_at};
@@ -21,7 +22,7 @@ ghost use Rattle.txf_volume.specs.Held.{files_of};
 
 use crate::memory::Memory;
 use crate::routed::Routed;
-use crate::settlement::{Decision, Labels, Settlement};
+use crate::settlement::{Labels, Settlement};
 use crate::undone::record_undone;
 use ktm_base::{Id, Label, NoMemory, ObjectKind, Pid, Refusal, guid};
 use ktm_event::Events;
@@ -49,10 +50,12 @@ impl Memory {
         process: Pid,
         label: Label,
         timeout: u32,
-    ) -> Result<Decision, NoMemory>
+        settlement: &mut Settlement,
+    ) -> Result<Reply, NoMemory>
         requires up { self.old.is_up ≡ true }
         requires free { object_at self.old.handles.handles process label ≡ None }
-        ensures ok { IfOk result (λ d. (events : _) → Holds events [] → Decides (held self.old) (outcome_of (present_of self.old) process (Create label timeout)) d.reply d.settlement events self.new) }
+        requires nothing { settlement.old ≡ Nothing }
+        ensures ok { IfOk result (λ reply. (events : _) → Holds events [] → Decides (held self.old) (outcome_of (present_of self.old) process (Create label timeout)) reply settlement.new events self.new) }
         ensures slots { self.old.tm.slots ≤ self.new.tm.slots }
         ensures no_memory { OnErr result (held self.new ≡ held self.old) }
         ensures spare { 1 ≤ self.old.tm.room → 1 ≤ self.old.handles.spare → IsOk result }
@@ -60,27 +63,31 @@ impl Memory {
         ensures files { self.new.files ≡ self.old.files }
     {
         if self.handles.is_full() || self.tm.is_full() {
-            return Ok(Decision::only(Reply::Refused(Refusal::NotEnoughQuota)));
+            return Ok(Reply::Refused(Refusal::NotEnoughQuota));
         }
         self.tm.reserve()?;
         self.handles.reserve(1)?;
         let id = self.tm.next_id();
-        Ok(Decision {
-            reply: Reply::Guid(guid(ObjectKind::Transaction, self.journal.image(), id)),
-            settlement: Settlement::Begin {
-                process,
-                label,
-                timeout,
-            },
-        })
+        *settlement = Settlement::Begin {
+            process,
+            label,
+            timeout,
+        };
+        Ok(Reply::Guid(guid(ObjectKind::Transaction, self.journal.image(), id)))
     }
 
     // A label is to be bound, if there is room for a handle more.
-    fn decide_handle(&mut self, process: Pid, labels: Labels) -> Result<Decision, NoMemory>
+    fn decide_handle(
+        &mut self,
+        process: Pid,
+        labels: Labels,
+        settlement: &mut Settlement,
+    ) -> Result<Reply, NoMemory>
         requires done { IsDone (labels_outcome (present_of self.old) process labels) }
         requires may { (m : MemoryState) → held m ≡ held self.old → 1 ≤ m.handles.spare → MayHandle m process labels }
-        ensures ok { IfOk result (λ d. (events : EventsState) → Holds events []
-            → Decides (held self.old) (refuse_or (present_of self.old) (first_refusal (handle_test (present_of self.old) ∷ [])) (labels_outcome (present_of self.old) process labels)) d.reply d.settlement events self.new) }
+        requires nothing { settlement.old ≡ Nothing }
+        ensures ok { IfOk result (λ reply. (events : EventsState) → Holds events []
+            → Decides (held self.old) (refuse_or (present_of self.old) (first_refusal (handle_test (present_of self.old) ∷ [])) (labels_outcome (present_of self.old) process labels)) reply settlement.new events self.new) }
         ensures slots { self.old.tm.slots ≤ self.new.tm.slots }
         ensures no_memory { OnErr result (held self.new ≡ held self.old) }
         ensures enough { is_none (first_refusal (handle_test (present_of self.old) ∷ [])) ≡ false → IsOk result }
@@ -88,97 +95,115 @@ impl Memory {
         ensures files { self.new.files ≡ self.old.files }
     {
         if self.handles.is_full() {
-            return Ok(Decision::only(Reply::Refused(Refusal::NotEnoughQuota)));
+            return Ok(Reply::Refused(Refusal::NotEnoughQuota));
         }
         self.handles.reserve(1)?;
-        Ok(Decision::done(Settlement::Handles { process, labels }))
+        *settlement = Settlement::Handles { process, labels };
+        Ok(Reply::Done)
     }
 
     // Labels are to be bound or unbound.
-    fn decide_labels(&mut self, process: Pid, labels: Labels) -> Result<Decision, NoMemory>
+    fn decide_labels(
+        &mut self,
+        process: Pid,
+        labels: Labels,
+        settlement: &mut Settlement,
+    ) -> Result<Reply, NoMemory>
         requires standing { IsStandingNow (present_of self.old) }
         requires ready { AreReady (present_of self.old) process labels }
-        ensures ok { IfOk result (λ d. (events : EventsState) → Holds events [] → Decides (held self.old) (outcome_of (present_of self.old) process (OfLabels labels)) d.reply d.settlement events self.new) }
+        requires nothing { settlement.old ≡ Nothing }
+        ensures ok { IfOk result (λ reply. (events : EventsState) → Holds events [] → Decides (held self.old) (outcome_of (present_of self.old) process (OfLabels labels)) reply settlement.new events self.new) }
         ensures slots { self.old.tm.slots ≤ self.new.tm.slots }
         ensures no_memory { OnErr result (held self.new ≡ held self.old) }
         ensures enough { labels_take_memory (present_of self.old) labels ≡ false → IsOk result }
         ensures files { self.new.files ≡ self.old.files }
     {
         match labels {
-            Labels::Bind { .. } | Labels::Duplicate { .. } => self.decide_handle(process, labels),
+            Labels::Bind { .. } | Labels::Duplicate { .. } => {
+                self.decide_handle(process, labels, settlement)
+            }
             Labels::Unbind(_) | Labels::UnbindAll => {
-                Ok(Decision::done(Settlement::Handles { process, labels }))
+                *settlement = Settlement::Handles { process, labels };
+                Ok(Reply::Done)
             }
         }
     }
 
     // A call on keys is decided.
-    fn decide_keys(&mut self, who: Option<Id>, call: KvCall) -> Result<Decision, NoMemory>
+    fn decide_keys(&mut self, who: Option<Id>, call: KvCall) -> Result<Reply, NoMemory>
         requires standing { IsStandingNow (present_of self.old) }
         requires active { IsActiveCaller (present_of self.old) who }
-        ensures ok { IfOk result (λ d. (events : EventsState) → Holds events [] → Decides (held self.old) (of_keys (present_of self.old) (key_outcome self.old.keys (key_room (present_of self.old)) who call)) d.reply d.settlement events self.new) }
+        ensures ok { IfOk result (λ reply. (events : EventsState) → Holds events [] → Decides (held self.old) (of_keys (present_of self.old) (key_outcome self.old.keys (key_room (present_of self.old)) who call)) reply Nothing events self.new) }
         ensures slots { self.old.tm.slots ≤ self.new.tm.slots }
         ensures no_memory { OnErr result (held self.new ≡ held self.old) }
         ensures enough { is_refused (key_outcome self.old.keys (key_room (present_of self.old)) who call).reply ≡ true → IsOk result }
         ensures files { self.new.files ≡ self.old.files }
     {
         let room = self.key_room();
-        Ok(Decision::only(self.keys.call(who, call, room)?))
+        self.keys.call(who, call, room)
     }
 
-    /// A call whose labels are known is decided by its layer. Of what it sends later there is room then for as many notifications
-    /// more as the call grants. Where it is out of memory nothing has changed, and no room is given up.
+    /// A call whose labels are known is decided by its layer: what is left to do takes the place of nothing. Of what it sends later
+    /// there is room then for as many notifications more as the call grants. Where it is out of memory nothing has changed, and no
+    /// room is given up.
     pub fn decide_routed(
         &mut self,
         alloc: Global,
         process: Pid,
         routed: Routed,
         events: &mut Events,
-    ) -> Result<Decision, NoMemory>
+        settlement: &mut Settlement,
+    ) -> Result<Reply, NoMemory>
         requires up { self.old.is_up ≡ true }
         requires standing { IsStandingNow (present_of self.old) }
         requires ready { IsReadyFor (present_of self.old) process routed }
         requires empty { Holds events.old [] }
         requires fits { sum_by event_size (outcome_of (present_of self.old) process routed).events ≤ events.old.spare }
-        ensures ok { IfOk result (λ d. Decides (held self.old) (outcome_of (present_of self.old) process routed) d.reply d.settlement events.new self.new) }
-        ensures slots { IfOk result (λ d. self.old.tm.slots + granted_in (present_of self.old) (outcome_of (present_of self.old) process routed) ≤ self.new.tm.slots) }
+        requires nothing { settlement.old ≡ Nothing }
+        ensures ok { IfOk result (λ reply. Decides (held self.old) (outcome_of (present_of self.old) process routed) reply settlement.new events.new self.new) }
+        ensures slots { IfOk result (λ reply. self.old.tm.slots + granted_in (present_of self.old) (outcome_of (present_of self.old) process routed) ≤ self.new.tm.slots) }
         ensures grows { self.old.tm.slots ≤ self.new.tm.slots }
         ensures room { events.new.room ≡ events.old.room }
         ensures no_memory { OnErr result (held self.new ≡ held self.old) }
         ensures enough { routed_takes_memory (present_of self.old) routed ≡ false → IsOk result }
-        ensures rules { IfOk result (λ d. KeepsRules (λ rule. PutsBy rule routed) (files_of self.old.files) (outcome_of (present_of self.old) process routed).events (files_of self.new.files)) }
+        ensures rules { IfOk result (λ reply. KeepsRules (λ rule. PutsBy rule routed) (files_of self.old.files) (outcome_of (present_of self.old) process routed).events (files_of self.new.files)) }
     {
         match routed {
-            Routed::Create { label, timeout } => self.decide_create(process, label, timeout),
+            Routed::Create { label, timeout } => {
+                self.decide_create(process, label, timeout, settlement)
+            }
             Routed::Course {
                 transaction,
                 caller,
                 input,
-            } => Ok(self.decide_course(transaction, caller, input, events)),
-            Routed::Information(t) => Ok(Decision::only(self.information(&t))),
+            } => Ok(self.decide_course(transaction, caller, input, events, settlement)),
+            Routed::Information(t) => Ok(self.information(&t)),
             Routed::MakeManager { label, durability } => {
-                self.decide_manager(process, label, durability, events)
+                self.decide_manager(process, label, durability, events, settlement)
             }
-            Routed::Recover(manager) => self.decide_recovery(manager),
-            Routed::Take(manager) => Ok(self.decide_note(manager)),
+            Routed::Recover(manager) => self.decide_recovery(manager, settlement),
+            Routed::Take(manager) => Ok(self.decide_note(manager, settlement)),
             Routed::Enlist {
                 label,
                 manager,
                 transaction,
                 kind,
-            } => self.decide_enlistment(process, label, manager, transaction, kind),
+            } => self.decide_enlistment(process, label, manager, transaction, kind, settlement),
             Routed::Inform {
                 enlistment,
                 information,
-            } => Ok(Decision::done(Settlement::Inform {
-                enlistment,
-                information,
-            })),
+            } => {
+                *settlement = Settlement::Inform {
+                    enlistment,
+                    information,
+                };
+                Ok(Reply::Done)
+            }
             Routed::Tell(enlistment) => self.decide_told(alloc, enlistment),
-            Routed::Handles(labels) => self.decide_labels(process, labels),
+            Routed::Handles(labels) => self.decide_labels(process, labels, settlement),
             Routed::Keys { who, call } => self.decide_keys(who, call),
             Routed::Files { who, label, call } => {
-                self.decide_files(alloc, process, who, label, call, None, events)
+                self.decide_files(alloc, process, who, label, call, None, events, settlement)
             }
             Routed::Units {
                 who,
@@ -192,21 +217,31 @@ impl Memory {
                     start,
                     contents,
                 };
-                self.decide_files(alloc, process, who, None, call, Some(extent), events)
+                self.decide_files(
+                    alloc,
+                    process,
+                    who,
+                    None,
+                    call,
+                    Some(extent),
+                    events,
+                    settlement,
+                )
             }
         }
     }
 
     /// Time passes, and what that records is one group.
-    pub fn decide_tick(&self, ms: u32, events: &mut Events) -> Decision
+    pub fn decide_tick(&self, ms: u32, events: &mut Events, settlement: &mut Settlement) -> Reply
         requires standing { IsStandingNow (present_of self.now) }
         requires empty { Holds events.old [] }
         requires fits { sum_by event_size (tick (present_of self.now) ms).events ≤ events.old.spare }
-        ensures decided { Decides (held self.now) (tick (present_of self.now) ms) result.reply result.settlement events.new self.now }
+        ensures decided { Decides (held self.now) (tick (present_of self.now) ms) result settlement.new events.new self.now }
         ensures room { events.new.room ≡ events.old.room }
         ensures rules { KeepsRules (λ rule. Unit {0}) (files_of self.now.files) (tick (present_of self.now) ms).events (files_of self.now.files) }
     {
         record_undone(&self.tm, ms, events);
-        Decision::done(Settlement::Pass(ms))
+        *settlement = Settlement::Pass(ms);
+        Reply::Done
     }
 }

@@ -19,7 +19,7 @@ ghost use Rattle.ktm_world.specs.Steps.{led, seen as seen_of};
 ghost use Rattle.txf_volume.specs.Held.{files_of};
 
 use crate::memory::Memory;
-use crate::settlement::{Decision, Settlement};
+use crate::settlement::Settlement;
 use ktm_base::Id;
 use ktm_course::{Enlisted, Parts, law_of_pages};
 use ktm_event::Events;
@@ -122,13 +122,14 @@ impl Memory {
         caller: Option<Id>,
         input: PhaseInput,
         events: &mut Events,
-    ) -> Decision
+        settlement: &mut Settlement,
+    ) -> Reply
         requires up { self.now.is_up ≡ true }
         requires standing { IsStandingNow (present_of self.now) }
         requires ready { IsReadyCourse (present_of self.now) t caller input }
         requires empty { Holds events.old [] }
         requires fits { sum_by event_size (course_to (present_of self.now) t caller input).events ≤ events.old.spare }
-        ensures decided { (process : _) → Decides (held self.now) (outcome_of (present_of self.now) process (OfCourse t caller input)) result.reply result.settlement events.new self.now }
+        ensures decided { (process : _) → Decides (held self.now) (outcome_of (present_of self.now) process (OfCourse t caller input)) result settlement.new events.new self.now }
         ensures room { events.new.room ≡ events.old.room }
         ensures rules { KeepsRules (λ rule. Unit {0}) (files_of self.now.files) (course_to (present_of self.now) t caller input).events (files_of self.now.files) }
     {
@@ -139,13 +140,11 @@ impl Memory {
         let seen = self.seen(&t);
         let steps = step(&seen, input);
         self.record_course(&t, caller, steps.as_slice(), events);
-        Decision {
-            reply: reply_to(input, &seen),
-            settlement: Settlement::Course {
-                transaction: t,
-                caller,
-                steps,
-            },
-        }
+        *settlement = Settlement::Course {
+            transaction: t,
+            caller,
+            steps,
+        };
+        reply_to(input, &seen)
     }
 }

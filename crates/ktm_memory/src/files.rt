@@ -8,6 +8,7 @@ ghost use Rattle.ktm_memory.specs.Memory.{held, present_of};
 ghost use Rattle.ktm_memory.specs.Routed.{IsActiveCaller, IsFreeLabel, IsReadyCall, outcome_of};
 ghost use Rattle.ktm_memory.specs.Opening.{files_outcome};
 ghost use Rattle.ktm_memory.specs.declared.routed.Routed.TheVariants.{Files as OfFiles};
+ghost use Rattle.ktm_memory.specs.declared.settlement.Settlement.TheVariants.{Nothing};
 ghost use Rattle.ktm_memory.specs.Takes.{files_take_memory, is_quiet};
 ghost use Rattle.ktm_world.specs.Sizes.{event_size};
 ghost use Rattle.ktm_world.specs.Decide.{events_of};
@@ -24,7 +25,7 @@ ghost use Rattle.txf_volume.specs.Transacted.{HasRoom};
 use crate::commit::record_plan;
 use crate::extent::Extent;
 use crate::memory::Memory;
-use crate::settlement::{Decision, Labels, Settlement};
+use crate::settlement::{Labels, Settlement};
 use ktm_base::{Id, Label, NoMemory, Pid};
 use ktm_event::Events;
 use ktm_standing::law_of_files;
@@ -102,7 +103,8 @@ impl Memory {
         plan: Plan,
         extent: Option<Extent>,
         events: &mut Events,
-    ) -> Result<Decision, NoMemory>
+        settlement: &mut Settlement,
+    ) -> Result<Reply, NoMemory>
         requires free { IsFreeLabel (present_of self.old) process label }
         requires may { MayMake (present_of self.old) None plan }
         requires units { IfSome plan.change (CanBeMade (files_of self.old.files).tree) }
@@ -110,7 +112,7 @@ impl Memory {
         requires answers { CanAnswer None plan }
         requires empty { Holds events.old [] }
         requires fits { sum_by event_size (events_of None plan.change) ≤ events.old.spare }
-        ensures ok { IfOk result (λ d. Decides (held self.old) (files_outcome (present_of self.old) process None label plan) d.reply d.settlement events.new self.new) }
+        ensures ok { IfOk result (λ reply. Decides (held self.old) (files_outcome (present_of self.old) process None label plan) reply settlement.new events.new self.new) }
         ensures slots { self.old.tm.slots ≤ self.new.tm.slots }
         ensures room { events.new.room ≡ events.old.room }
         ensures no_memory { OnErr result (held self.new ≡ held self.old) }
@@ -121,15 +123,13 @@ impl Memory {
         self.reserve_for(plan.opened)?;
         let ready = self.files.prepare(&plan)?;
         let reply = replace(&mut plan.reply, Reply::Done);
-        Ok(Decision {
-            reply,
-            settlement: Settlement::Change {
-                process,
-                label,
-                plan,
-                ready,
-            },
-        })
+        *settlement = Settlement::Change {
+            process,
+            label,
+            plan,
+            ready,
+        };
+        Ok(reply)
     }
 
     // A call in a transaction has come to this plan, which is made at once, since nothing of it is recorded.
@@ -139,27 +139,26 @@ impl Memory {
         id: Id,
         label: Option<Label>,
         plan: Plan,
-    ) -> Result<Decision, NoMemory>
+        settlement: &mut Settlement,
+    ) -> Result<Reply, NoMemory>
         requires standing { IsStandingNow (present_of self.old) }
         requires active { IsActiveCaller (present_of self.old) (Some id) }
         requires free { IsFreeLabel (present_of self.old) process label }
         requires may { MayMake (present_of self.old) (Some id) plan }
         requires units { IfSome plan.change (CanBeMadeOver (bytes_seen (files_of self.old.files) (Some id))) }
-        ensures ok { IfOk result (λ d. (events : EventsState) → Holds events [] → Decides (held self.old) (files_outcome (present_of self.old) process (Some id) label plan) d.reply d.settlement events self.new) }
+        ensures ok { IfOk result (λ reply. (events : EventsState) → Holds events [] → Decides (held self.old) (files_outcome (present_of self.old) process (Some id) label plan) reply settlement.new events self.new) }
         ensures slots { self.old.tm.slots ≤ self.new.tm.slots }
         ensures no_memory { OnErr result (held self.new ≡ held self.old) }
         ensures enough { HasRoom self.old.files → plan.change ≡ None → (is_some plan.opened ≡ true → 1 ≤ self.old.handles.spare) → IsOk result }
-        ensures files { IfOk result (λ d. files_of self.new.files ≡ files_after (files_of self.old.files) (Some id) plan) }
+        ensures files { IfOk result (λ reply. files_of self.new.files ≡ files_after (files_of self.old.files) (Some id) plan) }
     {
         let mut plan = plan;
         let opened = plan.opened;
         self.reserve_for(opened)?;
         let reply = replace(&mut plan.reply, Reply::Done);
         self.files.keep(id, plan)?;
-        Ok(Decision {
-            reply,
-            settlement: binding(process, label, opened),
-        })
+        *settlement = binding(process, label, opened);
+        Ok(reply)
     }
 
     /// A call on files is decided. It is recorded by the extent, if there is one, of the units that it puts.
@@ -172,27 +171,29 @@ impl Memory {
         call: FileCall,
         extent: Option<Extent>,
         events: &mut Events,
-    ) -> Result<Decision, NoMemory>
+        settlement: &mut Settlement,
+    ) -> Result<Reply, NoMemory>
         requires standing { IsStandingNow (present_of self.old) }
         requires ready { IsReadyCall (present_of self.old) process who label call extent }
         requires empty { Holds events.old [] }
         requires fits { sum_by event_size (outcome_of (present_of self.old) process (OfFiles who label call)).events ≤ events.old.spare }
-        ensures ok { IfOk result (λ d. Decides (held self.old) (outcome_of (present_of self.old) process (OfFiles who label call)) d.reply d.settlement events.new self.new) }
+        requires nothing { settlement.old ≡ Nothing }
+        ensures ok { IfOk result (λ reply. Decides (held self.old) (outcome_of (present_of self.old) process (OfFiles who label call)) reply settlement.new events.new self.new) }
         ensures slots { self.old.tm.slots ≤ self.new.tm.slots }
         ensures room { events.new.room ≡ events.old.room }
         ensures no_memory { OnErr result (held self.new ≡ held self.old) }
         ensures enough { files_take_memory (present_of self.old) who call ≡ false → IsOk result }
-        ensures rules { IfOk result (λ d. KeepsRules (λ rule. CallPutsBy rule call) (files_of self.old.files) (outcome_of (present_of self.old) process (OfFiles who label call)).events (files_of self.new.files)) }
+        ensures rules { IfOk result (λ reply. KeepsRules (λ rule. CallPutsBy rule call) (files_of self.old.files) (outcome_of (present_of self.old) process (OfFiles who label call)).events (files_of self.new.files)) }
     {
         law_of_files();
         let room = self.file_room();
         let plan = decide(alloc, &self.files, who, call, &room)?;
         if changes_nothing(&plan) {
-            return Ok(Decision::only(plan.reply));
+            return Ok(plan.reply);
         }
         match who {
-            Some(id) => self.decide_own(process, id, label, plan),
-            None => self.decide_plain(process, label, plan, extent, events),
+            Some(id) => self.decide_own(process, id, label, plan, settlement),
+            None => self.decide_plain(process, label, plan, extent, events, settlement),
         }
     }
 }

@@ -22,5 +22,5 @@ mod undone;
 pub use extent::Extent;
 pub use memory::Memory;
 pub use routed::Routed;
-pub use settlement::{Decision, Labels, Settlement};
+pub use settlement::{Labels, Settlement};
 pub use txf_volume::Written;

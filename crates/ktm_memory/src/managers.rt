@@ -10,6 +10,7 @@ ghost use Rattle.ktm_memory.specs.Memory.{held, present_of};
 ghost use Rattle.ktm_memory.specs.Routed.{outcome_of};
 ghost use Rattle.ktm_memory.specs.Takes.{routed_takes_memory};
 ghost use Rattle.ktm_memory.specs.declared.routed.Routed.TheVariants.{MakeManager, Recover as Recovery, Take as Taking};
+ghost use Rattle.ktm_memory.specs.declared.settlement.Settlement.TheVariants.{Nothing};
 ghost use Rattle.ktm_event.specs.Spelling.{IsSpellableEvent};
 ghost use Rattle.ktm_memory.specs.Decided.{manager_events};
 ghost use Rattle.ktm_world.specs.declared.event.Event.{Event as Recorded};
@@ -20,7 +21,7 @@ ghost use Rattle.ktm_world.specs.TransactionCalls.{is_durable, recover_notes};
 
 use crate::memory::Memory;
 use crate::settle::is_durable;
-use crate::settlement::{Decision, Settlement};
+use crate::settlement::Settlement;
 use ktm_base::{Id, Label, NoMemory, Notify, ObjectKind, Pid, Refusal, guid};
 use ktm_event::Events;
 use ktm_world::{Durability, Event, Reply};
@@ -62,13 +63,15 @@ impl Memory {
         label: Label,
         durability: Durability,
         events: &mut Events,
-    ) -> Result<Decision, NoMemory>
+        settlement: &mut Settlement,
+    ) -> Result<Reply, NoMemory>
         requires up { self.old.is_up ≡ true }
         requires standing { IsStandingNow (present_of self.old) }
         requires free { object_at self.old.handles.handles process label ≡ None }
         requires empty { Holds events.old [] }
         requires fits { sum_by event_size (outcome_of (present_of self.old) process (MakeManager label durability)).events ≤ events.old.spare }
-        ensures ok { IfOk result (λ d. Decides (held self.old) (outcome_of (present_of self.old) process (MakeManager label durability)) d.reply d.settlement events.new self.new) }
+        requires nothing { settlement.old ≡ Nothing }
+        ensures ok { IfOk result (λ reply. Decides (held self.old) (outcome_of (present_of self.old) process (MakeManager label durability)) reply settlement.new events.new self.new) }
         ensures slots { self.old.tm.slots ≤ self.new.tm.slots }
         ensures room { events.new.room ≡ events.old.room }
         ensures no_memory { OnErr result (held self.new ≡ held self.old) }
@@ -76,47 +79,49 @@ impl Memory {
         ensures files { self.new.files ≡ self.old.files }
     {
         if self.handles.is_full() || self.tm.is_full_of_managers() {
-            return Ok(Decision::only(Reply::Refused(Refusal::NotEnoughQuota)));
+            return Ok(Reply::Refused(Refusal::NotEnoughQuota));
         }
         let id = self.tm.next_manager_id();
         record_manager(events, id, durability);
         self.tm.reserve_manager()?;
         self.handles.reserve(1)?;
-        Ok(Decision {
-            reply: Reply::Guid(guid(ObjectKind::Manager, self.journal.image(), id)),
-            settlement: Settlement::MakeManager {
-                process,
-                label,
-                durability,
-            },
-        })
+        *settlement = Settlement::MakeManager {
+            process,
+            label,
+            durability,
+        };
+        Ok(Reply::Guid(guid(ObjectKind::Manager, self.journal.image(), id)))
     }
 
     // A resource manager recovers: there is to be room for what it is told.
-    pub(crate) fn decide_recovery(&mut self, manager: Id) -> Result<Decision, NoMemory>
+    pub(crate) fn decide_recovery(
+        &mut self,
+        manager: Id,
+        settlement: &mut Settlement,
+    ) -> Result<Reply, NoMemory>
         requires standing { IsStandingNow (present_of self.old) }
         requires there { is_some (manager_at self.old.tm.managers manager) ≡ true }
-        ensures ok { IfOk result (λ d. (process : _) (events : EventsState) → Holds events [] → Decides (held self.old) (outcome_of (present_of self.old) process (Recovery manager)) d.reply d.settlement events self.new) }
-        ensures slots { IfOk result (λ d. self.old.tm.slots + length (recover_notes (present_of self.old) manager) ≤ self.new.tm.slots) }
+        ensures ok { IfOk result (λ reply. (process : _) (events : EventsState) → Holds events [] → Decides (held self.old) (outcome_of (present_of self.old) process (Recovery manager)) reply settlement.new events self.new) }
+        ensures slots { IfOk result (λ reply. self.old.tm.slots + length (recover_notes (present_of self.old) manager) ≤ self.new.tm.slots) }
         ensures grows { self.old.tm.slots ≤ self.new.tm.slots }
         ensures no_memory { OnErr result (held self.new ≡ held self.old) }
         ensures files { self.new.files ≡ self.old.files }
     {
         self.tm.reserve_recovery(manager)?;
-        Ok(Decision::done(Settlement::Recover(manager)))
+        *settlement = Settlement::Recover(manager);
+        Ok(Reply::Done)
     }
 
     // A resource manager takes its first notification, if one waits.
-    pub(crate) fn decide_note(&self, manager: Id) -> Decision
+    pub(crate) fn decide_note(&self, manager: Id, settlement: &mut Settlement) -> Reply
         requires there { is_some (manager_at self.now.tm.managers manager) ≡ true }
-        ensures { (process : _) (events : EventsState) → Holds events [] → Decides (held self.now) (outcome_of (present_of self.now) process (Taking manager)) result.reply result.settlement events self.now }
+        requires nothing { settlement.old ≡ Nothing }
+        ensures { (process : _) (events : EventsState) → Holds events [] → Decides (held self.now) (outcome_of (present_of self.now) process (Taking manager)) result settlement.new events self.now }
     {
         let Some(note) = self.tm.first_note(manager) else {
-            return Decision::only(Reply::Refused(Refusal::WaitTimeout));
+            return Reply::Refused(Refusal::WaitTimeout);
         };
-        Decision {
-            reply: notification(self.journal.image(), note.kind, note.enlistment),
-            settlement: Settlement::Take(manager),
-        }
+        *settlement = Settlement::Take(manager);
+        notification(self.journal.image(), note.kind, note.enlistment)
     }
 }

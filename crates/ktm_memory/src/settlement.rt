@@ -1,11 +1,7 @@
 // What is left to do once a command is decided.
-ghost use Rattle.std.specs.Prelude.{◌≡◌};
-ghost use Rattle.ktm_memory.specs.declared.settlement.Settlement.TheVariants.{Nothing};
-ghost use Rattle.ktm_world.specs.declared.reply.Reply.TheVariants.{Done};
-
 use ktm_base::{Bytes, Id, Label, Pid};
 use ktm_phase::Steps;
-use ktm_world::{Durability, EnlistmentKind, Object, Reply, Transaction};
+use ktm_world::{Durability, EnlistmentKind, Object, Transaction};
 use txf_calls::Plan;
 use txf_volume::Ready;
 
@@ -82,35 +78,4 @@ pub enum Settlement {
         enlistment: Id,
         information: Bytes,
     },
-}
-
-/// A command that was decided.
-#[derive(Drop)]
-pub struct Decision {
-    pub reply: Reply,
-    pub settlement: Settlement,
-}
-
-impl Decision {
-    /// A reply, and nothing left to do.
-    pub fn only(reply: Reply) -> Self
-        ensures reply { result.reply ≡ reply }
-        ensures settlement { result.settlement ≡ Nothing }
-    {
-        Decision {
-            reply,
-            settlement: Settlement::Nothing,
-        }
-    }
-
-    /// A call that answers nothing but that it is done, and this left to do.
-    pub(crate) fn done(settlement: Settlement) -> Self
-        ensures reply { result.reply ≡ Done }
-        ensures settlement { result.settlement ≡ settlement }
-    {
-        Decision {
-            reply: Reply::Done,
-            settlement,
-        }
-    }
 }

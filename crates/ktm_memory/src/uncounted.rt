@@ -1,11 +1,11 @@
 // The walks of a transaction's end, where nobody asks for their steps: the blank is for the ledger that counts them.
-ghost use Rattle.std.specs.Prelude.{◌≡◌, ◌+◌, ◌<◌, ◌≤◌, None, length, map, true, false};
+ghost use Rattle.std.specs.Prelude.{◌≡◌, ◌+◌, ◌<◌, ◌≤◌, None, Some, length, map, true, false};
 ghost use Rattle.ktm_tm.specs.Courses.{IsCourseIn};
 ghost use Rattle.ktm_tm.specs.TmState.{KeepsRoom};
 ghost use Rattle.ktm_world.specs.Outcome.{served};
 ghost use Rattle.ktm_world.specs.Phases.{Course};
 ghost use Rattle.ktm_world.specs.Steps.{run};
-ghost use Rattle.ktm_world.specs.Transactions.{change_at};
+ghost use Rattle.ktm_world.specs.Transactions.{change_at, is_live, transaction_at};
 
 use ktm_base::Id;
 use ktm_counted::Steps;
@@ -34,7 +34,7 @@ pub(crate) fn finish_uncounted<P: Participant, L: Ledger>(
     finish(participant, transaction, commits, &mut steps)
 }
 
-/// The transaction goes on by these steps, where this enlistment calls, and the files and the keys take part or not.
+/// The transaction, which has not ended, goes on by these steps, where this enlistment calls, and the files and the keys take part or not.
 pub(crate) fn carry_uncounted<L: Ledger>(
     tm: &mut Tm,
     t: Transaction,
@@ -44,6 +44,8 @@ pub(crate) fn carry_uncounted<L: Ledger>(
     steps: &[Step],
     blank: Blank,
 )
+    requires there { transaction_at tm.old.now.items t.id ≡ Some t }
+    requires live { is_live t ≡ true }
     requires slots { (c : Course) → IsCourseIn tm.old t caller has_files has_keys c → length (run steps.now c).sent ≤ tm.old.slots }
     requires name { blank.name ≡ L.name }
     requires parts { blank.parts ≡ L.parts }

@@ -1,11 +1,11 @@
 -- Commands by which something comes to a transaction: what they come to has bytes, and what they commit can be committed.
-use Rattle.std.proofs.Common.{◌≡◌, true, All, Option, Some, None, refl, ◌∙◌, ap, subst, inl, inr}
+use Rattle.std.proofs.Common.{◌≡◌, not, true, All, Option, Some, None, refl, ◌∙◌, ap, subst, inl, inr}
 use Rattle.std.specs.List.{list_any}
 use Rattle.std.proofs.lemmas.Bool.{false≢true}
 use Rattle.ktm_base.specs.declared.id.Id.{Id}
 use Rattle.ktm_base.specs.declared.id.Label.{Label}
 use Rattle.ktm_base.specs.declared.id.Pid.{Pid}
-use Rattle.ktm_base.specs.declared.refusal.Refusal.TheVariants.{TransactionAlreadyAborted, TransactionAlreadyCommitted}
+use Rattle.ktm_base.specs.declared.refusal.Refusal.TheVariants.{TransactionAlreadyAborted, TransactionAlreadyCommitted, TransactionRequestNotValid}
 use Rattle.ktm_laws.specs.Running.{HasEventsLeft}
 use Rattle.ktm_standing.specs.Laws.{FilesLaw, SpelledLaw}
 use Rattle.ktm_standing.specs.Standing.{IsStandingNow}
@@ -29,8 +29,10 @@ use Rattle.ktm_world.specs.Outcome.{Outcome, first_refusal}
 use Rattle.ktm_world.specs.Present.{Present}
 use Rattle.ktm_world.specs.Rows.{row}
 use Rattle.ktm_world.specs.Steps.{seen}
-use Rattle.ktm_world.specs.TransactionCalls.{commit_transaction, course_of, rollback_transaction, rollback_transaction_tests}
-use Rattle.ktm_world.specs.Transactions.{is_aborted, is_active, is_committed, is_undecided, transaction_at}
+use Rattle.ktm_world.specs.TransactionCalls.{commit_transaction, course_of, may_roll_back, rollback_transaction, rollback_transaction_tests}
+use Rattle.ktm_world.specs.Transactions.{is_aborted, is_active, is_committed, is_live, is_undecided, transaction_at}
+use Rattle.txf_laws.proofs.offered.Elements.{not-not}
+use Rattle.ktm_route.proofs.Alive.{live_active, live_rolled}
 use Rattle.ktm_route.proofs.Routes.{commit_routed, passed_active, rollback_routed}
 
 -- ---- any course
@@ -45,16 +47,17 @@ module _ (x : Present) (process : Pid) (command : Command) (t : Transaction) (ca
   course_events : (decide x process command).events ≡ (course_to x t caller input).events
   course_events = let c = course_to x t caller input in ap (λ (o : Outcome). o.events) comes ∙ (arrival x c (reply_to input c)).events
 
-  -- the course is ready, where the transaction is there, the caller is its own, and it is not decided where it commits
+  -- the course is ready, where the transaction is there and has not ended, the caller is its own, and it is not decided where it commits
   pub ready_course : SpelledLaw → FilesLaw → IsStandingNow x → HasEventsLeft x → IsGiven command → transaction_at x.transactions.items t.id ≡ Some t → IsCaller x t caller
-      → (list_any is_commit (row (seen (course_of x t None)) input) ≡ true → is_undecided t ≡ true) → (input ≡ PhaseInput.CommitTransaction → is_active t ≡ true)
+      → (list_any is_commit (row (seen (course_of x t None)) input) ≡ true → is_undecided t ≡ true) → (input ≡ PhaseInput.CommitTransaction → is_active t ≡ true) → is_live t ≡ true
       → IsReadyCourse x t caller input
-  ready_course spelled files standing left is there called undecided active = record {
+  ready_course spelled files standing left is there called undecided active live = record {
     there = there;
     called = called;
     may = λ commits. files.commits x t standing left there (undecided commits);
     spelled = subst (All IsSpellableEvent) course_events (spelled.commands x process command standing is);
     active = active;
+    live = live;
   }
 
 -- ---- those of no enlistment
@@ -68,6 +71,10 @@ passed_undecided : (t : Transaction) → first_refusal (transaction_tests (Some 
 passed_undecided t passed =
     undecided-from t (not_refused (transaction_tests (Some t)) passed (is_committed t, TransactionAlreadyCommitted) (inr (inl refl)))
     (not_refused (transaction_tests (Some t)) passed (is_aborted t, TransactionAlreadyAborted) (inr (inr (inl refl))))
+
+-- a transaction that passes the tests of a rollback may be rolled back
+passed_rollback : (t : Transaction) → first_refusal (rollback_transaction_tests (Some t)) ≡ None → may_roll_back t ≡ true
+passed_rollback t passed = not-not (may_roll_back t) (not_refused (rollback_transaction_tests (Some t)) passed (not (may_roll_back t), TransactionRequestNotValid) (inr (inr (inr (inl refl)))))
 
 module _ (x : Present) (process : Pid) (up : x.machine.is_up ≡ true) (label : Label) (t : Transaction) (named : transaction_named x process label ≡ Some t) where
   -- a transaction that is asked to commit
@@ -84,10 +91,10 @@ module _ (x : Present) (process : Pid) (up : x.machine.is_up ≡ true) (label : 
     pub commit_ready : IsGiven (CommitTransaction label) → first_refusal (transaction_tests (Some t)) ≡ None → IsReadyCourse x t None PhaseInput.CommitTransaction
     commit_ready is passed =
         ready_course x process (CommitTransaction label) t None PhaseInput.CommitTransaction (commit_comes passed) spelled files standing left is (named_law.transactions x process label t named) (none_calls x t)
-        (λ commits. passed_undecided t passed) (λ asked. passed_active t passed)
+        (λ commits. passed_undecided t passed) (λ asked. passed_active t passed) (live_active t (passed_active t passed))
 
     -- a rollback commits nothing
     pub rollback_ready : IsGiven (RollbackTransaction label) → first_refusal (rollback_transaction_tests (Some t)) ≡ None → IsReadyCourse x t None PhaseInput.Rollback
     rollback_ready is passed =
         ready_course x process (RollbackTransaction label) t None PhaseInput.Rollback (rollback_comes passed) spelled files standing left is (named_law.transactions x process label t named) (none_calls x t)
-        (λ commits. absurd (false≢true commits)) (λ asked. absurd (cc))
+        (λ commits. absurd (false≢true commits)) (λ asked. absurd (cc)) (live_rolled t (passed_rollback t passed))

@@ -37,7 +37,7 @@ use Rattle.ktm_world.specs.Present.{Present}
 use Rattle.ktm_world.specs.Rows.{commit_completes, recovers, row}
 use Rattle.ktm_world.specs.Steps.{led, seen}
 use Rattle.ktm_world.specs.TransactionCalls.{arrived, bound_test, course_of, create_enlistment, create_enlistment_tests, enlistment_tests, enlistment_with, get_information, handle_test, has_superior, is_superior_kind, may_set_information as may_set_information_now, no_enlistment_left, open_enlistment, open_enlistment_tests, open_to_enlistment, opened_object, quota_test, set_information, set_information_tests}
-use Rattle.ktm_world.specs.Transactions.{is_undecided, same_id, transaction_at}
+use Rattle.ktm_world.specs.Transactions.{is_live, is_undecided, same_id, transaction_at}
 use Rattle.txf_laws.specs.Elements.{IsIn, each_pair}
 use Rattle.txf_laws.proofs.offered.Elements.{list_any-at, list_any-from}
 use Rattle.txf_laws.proofs.offered.Tables.{same_id-equal, same_id-from}
@@ -66,6 +66,7 @@ use Rattle.ktm_memory.specs.declared.settlement.Labels.TheVariants.{Bind}
 use Rattle.ktm_memory.proofs.offered.Standing.{kept}
 use Rattle.ktm_route.specs.Route.{IsRouted, is_put_of_units, kind_tests}
 use Rattle.ktm_route.specs.Takes.{early_tests, effect_takes_memory}
+use Rattle.ktm_route.proofs.Alive.{live_commanded, live_recovered, live_replied}
 use Rattle.ktm_route.proofs.Routes.{first_of-append, first_of-passed, unbound_names}
 use Rattle.ktm_route.proofs.ManagerRoutes.{comes_by, first_fails, first_holds, takes_by}
 
@@ -343,7 +344,7 @@ module _ (x : Present) (process : Pid) (up : x.machine.is_up ≡ true) where
     refused_by command result refusal comes is = comes_by x process command up (Some refusal) (comes.refused ∙ ap refusal_in is)
 
     module _ (files : FilesLaw) (left : HasEventsLeft x) (spelled : SpelledLaw) (command : Command) (is : IsGiven command) (input : PhaseInput) (result : Result PhaseInput Refusal)
-        (comes : ComesTo x t e (command_tests x process command) (command_effect x process command) result) (came : result ≡ Ok input) (may : MayCome (told_outcome t.outcome) t.phase input) (plainly : IsPlainly x process command input) where
+        (comes : ComesTo x t e (command_tests x process command) (command_effect x process command) result) (came : result ≡ Ok input) (may : MayCome (told_outcome t.outcome) t.phase input) (plainly : IsPlainly x process command input) (live : is_live t ≡ true) where
       abbrev going : Going
       going = course_to x t (Some e.id) input
 
@@ -370,6 +371,7 @@ module _ (x : Present) (process : Pid) (up : x.machine.is_up ≡ true) where
         may = λ commits. files.commits x t standing left at (unknown_undecided t (commits_unknown (told_outcome t.outcome) t.phase input (seen (course_of x t None)) may commits));
         spelled = subst (All IsSpellableEvent) recorded (spelled.commands x process command standing is);
         active = λ asked. absurd (plainly.unasked asked);
+        live = live;
       }
 
       -- it is the course of its transaction
@@ -393,6 +395,7 @@ module _ (x : Present) (process : Pid) (up : x.machine.is_up ≡ true) where
           goes files left spelled (reply_call vote label) is input (replied t.phase e vote) (calls.replies x process label e t vote names) came
           (coming.replies t.phase (told_outcome t.outcome) e vote input (known-in t.phase t (stands-now x t (Some e) sound is_in).outcome) owed came)
           (subst (IsPlainly x process (reply_call vote label)) (sym (allowed_input (allows t.phase e vote) (input_of e vote) input came)) (reply_plainly vote))
+          (live_replied t e vote input owed came)
 
       -- a reply that is not allowed is refused
       pub reply_refused : (vote : Vote) (refusal : Refusal) → replied t.phase e vote ≡ Err refusal → decide x process (reply_call vote label) ≡ only_reply x (Refused refusal)
@@ -410,6 +413,7 @@ module _ (x : Present) (process : Pid) (up : x.machine.is_up ≡ true) where
           goes files left spelled (superior_call call label) is input (commanded t.phase e call) (calls.superiors x process label e t call names) came
           (coming.superiors t.phase (told_outcome t.outcome) e call input (known-in t.phase t (stands-now x t (Some e) sound is_in).outcome) came)
           (subst (IsPlainly x process (superior_call call label)) (sym (commanded_input (is_superior e) (lets t.phase call) (input_by call) input came)) (command_plainly call))
+          (live_commanded t e call input came)
 
       -- a call of a superior that is not allowed is refused
       pub command_refused : (call : SuperiorCall) (refusal : Refusal) → commanded t.phase e call ≡ Err refusal → decide x process (superior_call call label) ≡ only_reply x (Refused refusal)
@@ -426,6 +430,7 @@ module _ (x : Present) (process : Pid) (up : x.machine.is_up ≡ true) where
           goes files left spelled (RecoverEnlistment label) is input (recovered t.phase e) (calls.recoveries x process label e t names) came
           (coming.recoveries t.phase (told_outcome t.outcome) e input (known-in t.phase t (stands-now x t (Some e) sound is_in).outcome) came)
           (subst (IsPlainly x process (RecoverEnlistment label)) (sym (allowed_input (may_recover_in t.phase e) (if is_superior e then PhaseInput.RecoverSuperior else PhaseInput.Recover) input came)) (recovery_plainly (is_superior e)))
+          (live_recovered x e t input sound (enlistment-named x process label e names.enlistment) is_in (same_id-from e.transaction t.id own) came)
 
       -- a recovery that is not allowed is refused
       pub recovery_refused : (refusal : Refusal) → recovered t.phase e ≡ Err refusal → decide x process (RecoverEnlistment label) ≡ only_reply x (Refused refusal)

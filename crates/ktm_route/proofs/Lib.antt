@@ -2,6 +2,7 @@ mod Rooms
 mod Found
 mod Routes
 mod Takes
+mod Alive
 mod Courses
 mod ManagerRoutes
 mod EnlistmentRoutes

@@ -7,6 +7,7 @@ ghost use Rattle.ktm_memory.specs.Decided.{Decides};
 ghost use Rattle.ktm_memory.specs.Memory.{IsRoomy, held, present_of};
 ghost use Rattle.ktm_memory.specs.Routed.{IsReadyFor};
 ghost use Rattle.ktm_memory.specs.Rules.{KeepsRules, PutsBy};
+ghost use Rattle.ktm_memory.specs.declared.settlement.Settlement.TheVariants.{Nothing};
 ghost use Rattle.ktm_memory.specs.Takes.{routed_takes_memory};
 ghost use Rattle.ktm_route.specs.Route.{AskedPutsBy, CanBeAsked, decided, routed_outcome};
 ghost use Rattle.ktm_route.specs.Takes.{asked_takes_memory};
@@ -19,7 +20,7 @@ use crate::route::route;
 use ktm_base::{Label, NoMemory, Pid, Refusal};
 use ktm_content::Placed;
 use ktm_event::Events;
-use ktm_memory::{Decision, Extent, Memory, Routed};
+use ktm_memory::{Extent, Memory, Routed, Settlement};
 use ktm_room::law_of_frames;
 use ktm_standing::law_of_kept;
 use ktm_world::{Command, Reply};
@@ -50,54 +51,59 @@ fn decide_routed(
     process: Pid,
     routed: Result<Routed, Refusal>,
     events: &mut Events,
-) -> Result<Decision, NoMemory>
+    settlement: &mut Settlement,
+) -> Result<Reply, NoMemory>
     requires up { memory.old.is_up ≡ true }
     requires standing { IsStandingNow (present_of memory.old) }
     requires ready { IfOk routed (IsReadyFor (present_of memory.old) process) }
     requires empty { Holds events.old [] }
     requires fits { sum_by event_size (routed_outcome (present_of memory.old) process routed).events ≤ events.old.spare }
-    ensures ok { IfOk result (λ d. Decides (held memory.old) (routed_outcome (present_of memory.old) process routed) d.reply d.settlement events.new memory.new) }
-    ensures slots { IfOk result (λ d. memory.old.tm.slots + granted_in (present_of memory.old) (routed_outcome (present_of memory.old) process routed) ≤ memory.new.tm.slots) }
+    requires nothing { settlement.old ≡ Nothing }
+    ensures ok { IfOk result (λ reply. Decides (held memory.old) (routed_outcome (present_of memory.old) process routed) reply settlement.new events.new memory.new) }
+    ensures slots { IfOk result (λ reply. memory.old.tm.slots + granted_in (present_of memory.old) (routed_outcome (present_of memory.old) process routed) ≤ memory.new.tm.slots) }
     ensures grows { memory.old.tm.slots ≤ memory.new.tm.slots }
     ensures room { events.new.room ≡ events.old.room }
     ensures no_memory { OnErr result (held memory.new ≡ held memory.old) }
     ensures enough { IfOk routed (λ call. routed_takes_memory (present_of memory.old) call ≡ false) → IsOk result }
-    ensures rules { IfOk result (λ d. KeepsRules (λ rule. IfOk routed (PutsBy rule)) (files_of memory.old.files) (routed_outcome (present_of memory.old) process routed).events (files_of memory.new.files)) }
+    ensures rules { IfOk result (λ reply. KeepsRules (λ rule. IfOk routed (PutsBy rule)) (files_of memory.old.files) (routed_outcome (present_of memory.old) process routed).events (files_of memory.new.files)) }
 {
     match routed {
-        Ok(call) => memory.decide_routed(alloc, process, call, events),
-        Err(refusal) => Ok(Decision::only(Reply::Refused(refusal))),
+        Ok(call) => memory.decide_routed(alloc, process, call, events, settlement),
+        Err(refusal) => Ok(Reply::Refused(refusal)),
     }
 }
 
 /// What is asked is decided: its reply, what is recorded of its events, which is put into the list, and what is left to do once
-/// that is recorded. Nothing that is recorded changes before that. The list has room for its events, whatever is left of the log.
+/// that is recorded, which takes the place of nothing. Nothing that is recorded changes before that. The list has room for its
+/// events, whatever is left of the log.
 pub fn decide(
     memory: &mut Memory,
     alloc: Global,
     asked: Asked,
     events: &mut Events,
-) -> Result<Decision, NoMemory>
+    settlement: &mut Settlement,
+) -> Result<Reply, NoMemory>
     requires up { memory.old.is_up ≡ true }
     requires asked { CanBeAsked (present_of memory.old) asked }
     requires standing { IsStandingNow (present_of memory.old) }
     requires counts { HasEventsLeft (present_of memory.old) }
     requires empty { Holds events.old [] }
     requires roomy { IsRoomy memory.old.journal events.old }
-    ensures ok { IfOk result (λ d. Decides (held memory.old) (decided (present_of memory.old) asked) d.reply d.settlement events.new memory.new) }
-    ensures slots { IfOk result (λ d. memory.old.tm.slots + granted_in (present_of memory.old) (decided (present_of memory.old) asked) ≤ memory.new.tm.slots) }
+    requires nothing { settlement.old ≡ Nothing }
+    ensures ok { IfOk result (λ reply. Decides (held memory.old) (decided (present_of memory.old) asked) reply settlement.new events.new memory.new) }
+    ensures slots { IfOk result (λ reply. memory.old.tm.slots + granted_in (present_of memory.old) (decided (present_of memory.old) asked) ≤ memory.new.tm.slots) }
     ensures grows { memory.old.tm.slots ≤ memory.new.tm.slots }
     ensures room { events.new.room ≡ events.old.room }
     ensures no_memory { OnErr result (held memory.new ≡ held memory.old) }
     ensures enough { asked_takes_memory (present_of memory.old) asked ≡ false → IsOk result }
-    ensures rules { IfOk result (λ d. KeepsRules (λ rule. AskedPutsBy (present_of memory.old) rule asked) (files_of memory.old.files) (decided (present_of memory.old) asked).events (files_of memory.new.files)) }
+    ensures rules { IfOk result (λ reply. KeepsRules (λ rule. AskedPutsBy (present_of memory.old) rule asked) (files_of memory.old.files) (decided (present_of memory.old) asked).events (files_of memory.new.files)) }
 {
     law_of_kept();
     law_of_frames();
     match asked {
         Asked::Call(process, command) => {
             let routed = route(memory, alloc, process, command);
-            decide_routed(memory, alloc, process, routed, events)
+            decide_routed(memory, alloc, process, routed, events, settlement)
         }
         Asked::Units {
             process,
@@ -107,8 +113,8 @@ pub fn decide(
             extent,
         } => {
             let routed = to_units(memory, process, file, start, contents, extent);
-            decide_routed(memory, alloc, process, routed, events)
+            decide_routed(memory, alloc, process, routed, events, settlement)
         }
-        Asked::Tick(ms) => Ok(memory.decide_tick(ms, events)),
+        Asked::Tick(ms) => Ok(memory.decide_tick(ms, events, settlement)),
     }
 }

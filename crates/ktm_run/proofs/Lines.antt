@@ -6,7 +6,7 @@ use Rattle.std.proofs.Math.Nat.{min_comm}
 use Rattle.std.proofs.Math.Seq.{take-append-add}
 use Rattle.std.proofs.Math.Dec.{eqb-suc-zero}
 use Rattle.std.proofs.lemmas.Grind.{common_steps}
-use Rattle.ktm_run.specs.Script.{lines_from, part_from, last_line, has_reply, Means, kept_of}
+use Rattle.ktm_run.specs.Script.{ended, lines_from, part_from, last_line, has_reply, Means, kept_of}
 use Rattle.ktm_script.specs.Spelling.{spelling, IsLine}
 use Rattle.ktm_world.specs.declared.command.Line.{Line}
 
@@ -44,6 +44,22 @@ kept_with kept part bytes m is many = elim (cases_lt (length part) 140001) [
       let none : m ≡ 0 = omega (arith, many, full) in
       ap (λ n. kept ++ take n bytes) none ∙ append-nil kept ∙ is ∙ sym (take-append-le 140001 part bytes long))
 ]
+
+-- so much of the bytes is kept where there is no part
+pub ended_none : (kept bytes : List ℕ) (m : ℕ) → true ≡ eqb (length kept) 0 → m ≡ min (length bytes) 140001 → take m bytes ≡ ended kept bytes
+ended_none [] bytes m none many = ap (λ n. take n bytes) (many ∙ min_comm (length bytes) 140001) ∙ take_min 140001 bytes
+ended_none (b ∷ bs) bytes m none many = let wrong : true ≡ false = none ∙ eqb-suc-zero (length bs) in cc
+
+-- without a part the line is in the bytes
+pub ended_alone : (kept part bytes : List ℕ) → kept ≡ kept_of part → true ≡ eqb (length kept) 0 → ended kept bytes ≡ kept_of (part ++ bytes)
+ended_alone kept [] bytes is none = ap (λ (l : List ℕ). ended l bytes) is
+ended_alone kept (b ∷ bs) bytes is none =
+    let wrong : true ≡ false = subst (λ (l : List ℕ). true ≡ eqb (length l) 0) is none ∙ eqb-suc-zero (length (take 140000 bs)) in cc
+
+-- with a part it is behind that
+pub ended_behind : (kept new part bytes : List ℕ) → kept ≡ kept_of part → false ≡ eqb (length kept) 0 → new ≡ kept_of (part ++ bytes) → ended new bytes ≡ kept_of (part ++ bytes)
+ended_behind kept new [] bytes is some whole = let wrong : false ≡ true = subst (λ (l : List ℕ). false ≡ eqb (length l) 0) is some in cc
+ended_behind kept new (b ∷ bs) bytes is some whole = ap (λ (l : List ℕ). ended l bytes) whole
 
 -- up to the first newline it is one line, and what is behind it begins the next
 pub cut_at : (now rest : List ℕ) (end : ℕ) → end < length rest → (get_or rest end 0 == 10) ≡ true → ((k : ℕ) → k < end → (get_or rest k 0 == 10) ≡ false)

@@ -65,3 +65,8 @@ written_replies replies = flat_map reply_line replies
 -- at most so many bytes of a line are kept: one more than any line of the grammar has
 abbrev pub kept_of : List ℕ → List ℕ
 kept_of part = take (MOST_LINE_BYTES + 1) part
+
+-- what is kept of a line: what there is with a part of it, or else so much of the bytes that it lies in
+abbrev pub ended : List ℕ → List ℕ → List ℕ
+ended [] bytes = kept_of bytes
+ended (byte ∷ kept) bytes = byte ∷ kept

@@ -6,7 +6,7 @@ ghost use Rattle.ktm_laws.specs.Running.{HasEventsLeft};
 ghost use Rattle.ktm_run.specs.Executed.{FeedLeaves, LineLeaves};
 ghost use Rattle.ktm_run.specs.Lasting.{LastsForLines};
 ghost use Rattle.ktm_run.specs.Progress.{point};
-ghost use Rattle.ktm_run.specs.Script.{has_reply, kept_of, reply_line};
+ghost use Rattle.ktm_run.specs.Script.{ended, has_reply, kept_of, reply_line};
 
 use crate::answer::execute;
 use crate::fault::RunFault;
@@ -83,6 +83,28 @@ fn keep(kept: &mut Vec<u8>, bytes: &[u8])
         .unwrap();
 }
 
+// Keeps the end of a line behind a part of it. Where there is no part the whole line is in the bytes, and is not copied.
+fn keep_end(kept: &mut Vec<u8>, bytes: &[u8])
+    requires { 140001 ≤ vec_capacity kept.old }
+    ensures line { (part : List ℕ) → kept.old.items ≡ kept_of part → ended kept.new.items bytes.now ≡ kept_of (part ++ bytes.now) }
+    ensures room { 140001 ≤ vec_capacity kept.new }
+{
+    if !kept.is_empty() {
+        keep(kept, bytes);
+    }
+}
+
+// So much of a line as is kept, whose end is in these bytes.
+fn ended<'a>(kept: &'a [u8], bytes: &'a [u8]) -> &'a [u8]
+    ensures { result.now ≡ ended kept.now bytes.now }
+{
+    if kept.is_empty() {
+        &bytes[..bytes.len().min(MOST_KEPT)]
+    } else {
+        kept
+    }
+}
+
 /// Answers the lines that end in these bytes, and keeps what is behind the last newline, in room that was taken before.
 pub fn feed<K: Sink, D: PowerDisk>(
     alloc: Global,
@@ -103,8 +125,9 @@ pub fn feed<K: Sink, D: PowerDisk>(
 {
     let mut rest = bytes;
     while let Some(end) = memchr(b'\n', rest) {
-        keep(kept, &rest[..end]);
-        if let Err(fault) = do_line(alloc, kernel, disk, sink, made, kept) {
+        keep_end(kept, &rest[..end]);
+        let line = ended(kept, &rest[..end]);
+        if let Err(fault) = do_line(alloc, kernel, disk, sink, made, line) {
             return Err(fault);
         }
         kept.clear();

@@ -1,7 +1,8 @@
 -- What is read as a line is spelled so, and what is spelled so is read.
-use Rattle.std.proofs.Common.{◌≡◌, ◌⊎◌, ℕ, ◌^◌, ◌<◌, ◌≤◌, List, [], ◌∷◌, ◌++◌, length, Some, None, Result, Ok, Err, codes, refl, sym, ◌∙◌, ap, subst, arith, lit<, inl, inr, IfOk, option_map}
+use Rattle.std.proofs.Common.{◌≡◌, ◌⊎◌, ℕ, ◌^◌, ◌<◌, ◌≤◌, List, [], ◌∷◌, ◌++◌, length, Option, Some, None, Result, Ok, Err, codes, refl, sym, ◌∙◌, ap, subst, arith, lit<, inl, inr, IfOk, option_map}
 use Rattle.std.proofs.lemmas.Option.{same_Some}
 use Rattle.std.specs.Fmt.{decimal}
+use Rattle.ktm_base.specs.declared.id.Pid.{Pid}
 use Rattle.ktm_base.specs.declared.limits.TheConstants.{MOST_LINE_BYTES}
 use Rattle.ktm_codec.proofs.WordLemmas.{after_word_is, after_word_again}
 use Rattle.ktm_codec.specs.Word.{after_word}
@@ -9,7 +10,7 @@ use Rattle.ktm_world.specs.declared.command.Line.{Line}
 use Rattle.ktm_world.specs.declared.command.Line.TheVariants.{Tick, Cut, Crash, Restart, Process}
 use Rattle.ktm_codec.proofs.HexLemmas.{option_map_some}
 use Rattle.ktm_codec.proofs.Steps.{bind_some, at_end_is, on_some_is}
-use Rattle.ktm_codec.specs.Steps.{at_end}
+use Rattle.ktm_codec.specs.Steps.{◌>>=◌, at_end}
 use Rattle.ktm_script.specs.Reading.{Gives, last_count_at, process_at, command_at, process_line_at, line_at}
 use Rattle.ktm_script.specs.Spelling.{space, process_spelling, command_spelling, IsInRange, IsLine, spelling}
 use Rattle.ktm_script.specs.declared.fault.LineFault.{LineFault}
@@ -117,3 +118,16 @@ exact_of r text x gives h e = exact r (subst (Gives r) (ap line_at (sym e) ∙ l
     exact (Ok y) gives = inl (cc)
     exact (Err BadLine) gives = cc
     exact (Err NoMemory) gives = inr refl
+
+made_of : {A B : Type 0} (make : A → B) (o : Option A) → (o >>= λ x. Some (make x)) ≡ option_map make o
+made_of make None = refl
+made_of make (Some x) = refl
+
+-- a line of a process begins with no other word
+pub line_of_process : (text rest : List ℕ) (process : Pid) → Some (process, rest) ≡ process_at text → line_at text ≡ option_map (Process process) (command_at rest)
+unfolding line_at process_line_at
+line_of_process text rest process read =
+    let behind = decimal process.0 ++ rest in
+    let whole : text ≡ codes "p" ++ behind = (reads_process.found text process rest (sym read)).1 in
+    let again : process_at (codes "p" ++ behind) ≡ Some (process, rest) = rw (← whole) (sym read) in
+    rw (whole, (no_tick behind).3, (no_cut behind).2, (no_crash behind).1, no_restart behind, again) (made_of (Process process) (command_at rest))

@@ -1,12 +1,13 @@
 // Lines.
-ghost use Rattle.std.specs.Prelude.{◌≡◌, ◌≤◌, ◌⊎◌, IfOk, IfSome, Ok, Err};
-ghost use Rattle.ktm_script.specs.Reading.{Gives, last_count_at, line_at, process_line_at};
+ghost use Rattle.std.specs.Prelude.{◌≡◌, ◌≤◌, ◌⊎◌, IfOk, IfSome, None, Ok, Err, option_map};
+ghost use Rattle.ktm_script.specs.Reading.{Gives, command_at, last_count_at, line_at, process_at};
 ghost use Rattle.ktm_script.specs.Spelling.{IsLine, spelling};
+ghost use Rattle.ktm_world.specs.declared.command.Line.TheVariants.{Process};
 
 use crate::LineFault::{self, BadLine};
 use crate::command::command;
 use crate::parts::{end, read_count, read_process};
-use ktm_base::MOST_LINE_BYTES;
+use ktm_base::{MOST_LINE_BYTES, Pid};
 use ktm_codec::strip_word;
 use ktm_world::Line;
 use std::alloc::Global;
@@ -22,32 +23,41 @@ fn last_count(most: u64, text: &[u8]) -> Option<u64>
     Some(number)
 }
 
-// A process and its command.
-#[tactic(auto, unfolding(crate::specs::Reading::process_line_at))]
-fn process_line(alloc: Global, text: &[u8]) -> Result<Line, LineFault>
-    ensures { Gives result (process_line_at text.now) }
+// A line of no process.
+#[tactic(auto, unfolding(crate::specs::Reading::line_at, crate::specs::Reading::process_line_at))]
+fn line_of_no_process(text: &[u8]) -> Option<Line>
+    requires { process_at text.now ≡ None }
+    ensures { result ≡ line_at text.now }
 {
-    let (process, rest) = read_process(text).ok_or(BadLine)?;
-    Ok(Line::Process(process, command(alloc, rest)?))
+    if let Some(rest) = strip_word(text, b"tick") {
+        let milliseconds = last_count(u64::from(u32::MAX), rest)?;
+        Some(Line::Tick(milliseconds as u32))
+    } else if let Some(rest) = strip_word(text, b"cut") {
+        Some(Line::Cut(last_count(u64::MAX, rest)?))
+    } else if let Some(rest) = strip_word(text, b"crash") {
+        end(rest)?;
+        Some(Line::Crash)
+    } else if let Some(rest) = strip_word(text, b"restart") {
+        Some(Line::Restart(last_count(u64::MAX, rest)?))
+    } else {
+        None
+    }
 }
 
-// A line, however long.
-#[tactic(auto, unfolding(crate::specs::Reading::line_at))]
+// A line of this process, which is a command.
+fn process_line(alloc: Global, process: Pid, text: &[u8]) -> Result<Line, LineFault>
+    ensures { Gives result (option_map (λ command. Process process command) (command_at text.now)) }
+{
+    Ok(Line::Process(process, command(alloc, text)?))
+}
+
+// A line, however long. Most are of a process.
 fn line_of_any_length(alloc: Global, text: &[u8]) -> Result<Line, LineFault>
     ensures { Gives result (line_at text.now) }
 {
-    if let Some(rest) = strip_word(text, b"tick") {
-        let milliseconds = last_count(u64::from(u32::MAX), rest).ok_or(BadLine)?;
-        Ok(Line::Tick(milliseconds as u32))
-    } else if let Some(rest) = strip_word(text, b"cut") {
-        Ok(Line::Cut(last_count(u64::MAX, rest).ok_or(BadLine)?))
-    } else if let Some(rest) = strip_word(text, b"crash") {
-        end(rest).ok_or(BadLine)?;
-        Ok(Line::Crash)
-    } else if let Some(rest) = strip_word(text, b"restart") {
-        Ok(Line::Restart(last_count(u64::MAX, rest).ok_or(BadLine)?))
-    } else {
-        process_line(alloc, text)
+    match read_process(text) {
+        Some((process, rest)) => process_line(alloc, process, rest),
+        None => line_of_no_process(text).ok_or(BadLine),
     }
 }
 

@@ -8,7 +8,9 @@ ghost use Rattle.ktm_script.specs.Reading.{GivesPart, access_at, behind_space, b
 use crate::LineFault::{self, BadLine};
 use crate::word::one_of;
 use ktm_base::{Bytes, Label, MOST_PROCESS, Pid, Text};
-use ktm_codec::{read_guid, read_hex_or_dash, read_number, read_quoted, split_word, strip_word};
+use ktm_codec::{
+    read_guid, read_hex_or_dash, read_number, read_quoted, split_long_word, strip_word,
+};
 use ktm_world::{Access, Disposition, Durability, EnlistmentKind, ShareMode, View};
 use std::alloc::Global;
 use uuid::Uuid;
@@ -182,7 +184,7 @@ pub fn read_text(alloc: Global, text: &[u8]) -> Result<(Text, &[u8]), LineFault>
 pub fn read_bytes(alloc: Global, text: &[u8]) -> Result<(Bytes, &[u8]), LineFault>
     ensures { GivesPart result (bytes_at text.now) }
 {
-    let (digits, rest) = split_word(strip_word(text, b" ").ok_or(BadLine)?);
+    let (digits, rest) = split_long_word(strip_word(text, b" ").ok_or(BadLine)?);
     let bytes = read_hex_or_dash(alloc, digits)?.ok_or(BadLine)?;
     Ok((bytes, rest))
 }

@@ -4,7 +4,7 @@ ghost use Rattle.ktm_script.specs.Reading.{by_word, one_of};
 ghost use Rattle.ktm_script.specs.Spelling.{access_spelling, disposition_spelling, durability_spelling, kind_spelling, share_spelling, space};
 
 use ktm_base::NoMemory;
-use ktm_codec::{split_word, strip_word};
+use ktm_codec::{is_word, split_word, strip_word};
 use ktm_world::{Access, Disposition, Durability, EnlistmentKind, ShareMode};
 
 /// A value that is spelled by a word.
@@ -85,7 +85,10 @@ impl Word for EnlistmentKind {
 pub fn by_word<W: Word>(values: &[W], word: &[u8]) -> Option<W>
     ensures { result ≡ by_word W.spelled values.now word.now }
 {
-    values.iter().copied().find(|value| value.word() == word)
+    values
+        .iter()
+        .copied()
+        .find(|value| is_word(value.word(), word))
 }
 
 // One of the values, by its word behind a space, and what follows it.

@@ -1,7 +1,6 @@
 mod Carrying
-mod Keeping
+mod Kept
 mod LiveCounts
-mod LiveNumbers
 mod Next
 mod Numbers
 mod OnCourse

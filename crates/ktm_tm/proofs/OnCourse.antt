@@ -2,10 +2,11 @@
 use Rattle.std.proofs.Common.{◌≡◌, inl, inr, ◌||◌, Bool, true, false, List, [], ◌∷◌, ◌++◌, map, Option, Some, None, refl, sym, ◌∙◌, ap, subst, append_assoc, arith}
 use Rattle.std.specs.Prelude.{filter, is_some}
 use Rattle.std.specs.List.{list_any}
-use Rattle.std.proofs.lemmas.Bool.{cases_Bool}
+use Rattle.std.proofs.lemmas.Bool.{cases_Bool, true≢false}
 use Rattle.std.proofs.lemmas.List.{append-nil}
 use Rattle.ktm_base.specs.declared.id.Id.{Id}
 use Rattle.ktm_world.specs.declared.change.Change.{Change}
+use Rattle.ktm_world.specs.declared.object.Phase.{Phase}
 use Rattle.ktm_world.specs.declared.object.Transaction.{Transaction}
 use Rattle.ktm_world.specs.declared.object.TransactionOutcome.{TransactionOutcome}
 use Rattle.ktm_world.specs.declared.step.Answered.{Answered}
@@ -23,7 +24,8 @@ use Rattle.ktm_enlist.specs.Counts.{parts, AreCounts}
 use Rattle.ktm_enlist.specs.Telling.{asked}
 use Rattle.ktm_tm.specs.declared.steps.Going.{Going}
 use Rattle.ktm_tm.specs.Courses.{caller_of, GoesBy, IsCourseIn}
-use Rattle.ktm_tm.specs.Steps.{After, after, after_all, ends, records, visits_all, visits_of, visits_on, with_answer}
+use Rattle.ktm_tm.specs.Steps.{After, after, after_all, ends, entered, records, visits_all, visits_of, visits_on, with_answer}
+use Rattle.ktm_tm.specs.Table.{IsForgotten}
 use Rattle.ktm_tm.specs.TmState.{TmState}
 
 -- the steps on this course go by this
@@ -229,6 +231,27 @@ step_id g (Step.EndWhereFinished outcome) t es = elim (cases_Bool (list_any (is_
 pub same_id : (g : Going) (steps : List Step) (t : Transaction) (es : List Enlistment) → (after_all g steps t es).transaction.id ≡ t.id
 same_id g [] t es = refl
 same_id g (step ∷ steps) t es = same_id g steps (after g step t es).transaction (after g step t es).enlistments ∙ step_id g step t es
+
+-- ---- the times are forgotten once it has ended
+
+forgets : (phase : Phase) (t : Transaction) → IsForgotten (entered phase t)
+forgets Phase.Ended t over = (refl, refl)
+forgets _ t over = absurd (true≢false over)
+
+step_forgets : (g : Going) (step : Step) (t : Transaction) (es : List Enlistment) → IsForgotten t → IsForgotten (after g step t es).transaction
+step_forgets g (Step.Record fact) t es forgotten = forgotten
+step_forgets g Step.Commit t es forgotten = forgotten
+step_forgets g (Step.Tell who kind) t es forgotten = forgotten
+step_forgets g (Step.Ask who kind owed) t es forgotten = forgotten
+step_forgets g (Step.Change answer) t es forgotten = forgotten
+step_forgets g (Step.Enter phase) t es forgotten = forgets phase t
+step_forgets g (Step.Decide outcome) t es forgotten = forgotten
+step_forgets g (Step.End outcome) t es forgotten = λ over. (refl, refl)
+step_forgets g (Step.EndWhereFinished outcome) t es forgotten = elim (cases_Bool (list_any (is_unfinished t.id) es)) [ inl is ↦ rw is forgotten | inr none ↦ rw none (λ over. (refl, refl)) ]
+
+pub steps_forget : (g : Going) (steps : List Step) (t : Transaction) (es : List Enlistment) → IsForgotten t → IsForgotten (after_all g steps t es).transaction
+steps_forget g [] t es forgotten = forgotten
+steps_forget g (step ∷ steps) t es forgotten = steps_forget g steps (after g step t es).transaction (after g step t es).enlistments (step_forgets g step t es forgotten)
 
 -- ---- what is so then
 

@@ -1,6 +1,6 @@
 -- How the transactions stand in their list, and the enlistments: those that a restart brought back, by rising Id, and then those of this boot by their numbers.
-use Rattle.std.specs.Prelude.{◌≡◌, ℕ, zero, suc, ◌+◌, ◌<◌, ◌≤◌, ◌==◌, ◌&&◌, Bool, true, false, nat_le, List, [], ◌∷◌, length, nat_lt, find, Some, None, slice_index_or, slice_set, if◌then◌else◌}
-use Rattle.std.specs.List.{list_all, list_any}
+use Rattle.std.specs.Prelude.{◌≡◌, ℕ, zero, suc, ◌+◌, ◌<◌, ◌≤◌, ◌&&◌, Bool, true, nat_le, List, [], ◌∷◌, length, find, Some, None, slice_index_or, slice_set}
+use Rattle.std.specs.List.{list_all}
 use Rattle.ktm_base.specs.declared.id.Id.{Id}
 use Rattle.ktm_world.specs.declared.object.Transaction.{Transaction}
 use Rattle.ktm_world.specs.Durable.{is_before}
@@ -14,16 +14,16 @@ abbrev pub AreNumbered : ℕ → ℕ → List Transaction → Type 0
 AreNumbered boot before [] = Unit {0}
 AreNumbered boot before (t ∷ ts) = (t.id ≡ record { boot = boot; number = before + 1 }) × AreNumbered boot (before + 1) ts
 
--- so many are of earlier boots, and those behind them are of this boot, by their numbers from 1 on
-abbrev pub AreSplit : ℕ → ℕ → List Transaction → Type 0
-AreSplit boot zero ts = AreNumbered boot 0 ts
-AreSplit boot (suc back) [] = ⊥
-AreSplit boot (suc back) (t ∷ ts) = (t.id.boot < boot) × AreSplit boot back ts
+-- those with these Ids are of earlier boots, and those behind them are of this boot, by their numbers from 1 on
+abbrev pub AreSplit : ℕ → List Id → List Transaction → Type 0
+AreSplit boot [] ts = AreNumbered boot 0 ts
+AreSplit boot (id ∷ back) [] = ⊥
+AreSplit boot (id ∷ back) (t ∷ ts) = (t.id ≡ id) × (id.boot < boot) × AreSplit boot back ts
 
--- so many of the transactions were brought back, and all stand by rising Id
-pub record AreListed (boot back : ℕ) (ts : List Transaction) : Type 0 where
+-- those with these Ids were brought back, and all stand by rising Id
+pub record AreListed (boot : ℕ) (back : List Id) (ts : List Transaction) : Type 0 where
   pub rising : are_rising (λ t. t.id) ts ≡ true
-  pub within : back ≤ length ts
+  pub within : length back ≤ length ts
   pub split : AreSplit boot back ts
 
 -- does each Id come before that of the object that is made next, where this was the last number
@@ -34,44 +34,18 @@ are_before_next {X} id_of boot last xs = list_all (λ (x : X). is_before (id_of 
 abbrev pub is_number : ℕ → ℕ → Bool
 is_number count number = nat_le 1 number && nat_le number count
 
--- the places of the live ones, the first place behind this one
-abbrev pub live_places : ℕ → List Transaction → List ℕ
-live_places before [] = []
-live_places before (t ∷ ts) = if is_live t then (before + 1) ∷ live_places (before + 1) ts else live_places (before + 1) ts
-
--- each number is above this one, and above those before it
-abbrev pub AreRisingFrom : ℕ → List ℕ → Type 0
-AreRisingFrom before [] = Unit {0}
-AreRisingFrom before (n ∷ ns) = (before < n) × AreRisingFrom n ns
-
--- the numbers, which rise, with this one among them or without it
-abbrev pub with_number : List ℕ → ℕ → Bool → List ℕ
-with_number [] number is_in = if is_in then number ∷ [] else []
-with_number (n ∷ ns) number is_in =
-    if nat_lt n number then n ∷ with_number ns number is_in else
-    (if n == number then (if is_in then n ∷ ns else ns) else (if is_in then number ∷ n ∷ ns else n ∷ ns))
-
--- the transactions as they are kept, with the places of the live ones, for which there is this room
-pub record AreKept (boot back : ℕ) (ts : List Transaction) (live : List ℕ) (capacity : ℕ) : Type 0 where
-  pub listed : AreListed boot back ts
-  pub live_are : live ≡ live_places 0 ts
-  pub fits : length ts ≤ capacity
-  pub few : length ts < 4294967296
-
 -- the transaction with this Id is the one at this place, and is found and changed there
 pub record IsPlace (ts : List Transaction) (id : Id) (i : ℕ) : Type 0 where
   pub within : i < length ts
   pub named : (d : Transaction) → (slice_index_or ts i d).id ≡ id
   pub found : (d : Transaction) → transaction_at ts id ≡ Some (slice_index_or ts i d)
   pub live : (d : Transaction) → find (λ t. is_live t && same_id t.id id) ts ≡ if_live (slice_index_or ts i d)
-  pub passes : (test : Transaction → Bool) (d : Transaction) → ((t : Transaction) → same_id t.id id ≡ false → test t ≡ false) → list_any test ts ≡ test (slice_index_or ts i d)
   pub changes : (f : Transaction → Transaction) (d : Transaction) → change_at ts id f ≡ slice_set ts i (f (slice_index_or ts i d))
 
 -- there is no transaction with this Id
 pub record IsAbsent (ts : List Transaction) (id : Id) : Type 0 where
   pub absent : transaction_at ts id ≡ None
   pub none_live : find (λ t. is_live t && same_id t.id id) ts ≡ None
-  pub none_passes : (test : Transaction → Bool) → ((t : Transaction) → same_id t.id id ≡ false → test t ≡ false) → list_any test ts ≡ false
   pub keeps : (f : Transaction → Transaction) → change_at ts id f ≡ ts
 
 -- there are at least so many enlistments, and all behind the first so many are recovered

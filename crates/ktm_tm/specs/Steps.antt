@@ -3,6 +3,7 @@ use Rattle.std.specs.Prelude.{◌≡◌, ℕ, ◌+◌, ◌||◌, Bool, true, Lis
 use Rattle.std.specs.List.{list_all, list_any}
 use Rattle.ktm_base.specs.declared.id.Id.{Id}
 use Rattle.ktm_base.specs.declared.notify.Notify.{Notify}
+use Rattle.ktm_world.specs.declared.object.Phase.{Phase}
 use Rattle.ktm_world.specs.declared.object.Phase.TheVariants.{Ended}
 use Rattle.ktm_world.specs.declared.object.Transaction.{Transaction}
 use Rattle.ktm_world.specs.declared.object.TransactionOutcome.{TransactionOutcome}
@@ -13,7 +14,7 @@ use Rattle.ktm_world.specs.declared.step.Step.{Step}
 use Rattle.ktm_world.specs.declared.step.Who.{Who}
 use Rattle.ktm_world.specs.Enlistments.{Enlistment, Sent, has_id, id_of, is_unfinished, superior_of, tell, with_enlistments}
 use Rattle.ktm_world.specs.Outcome.{served}
-use Rattle.ktm_world.specs.Phases.{Course, end_notice}
+use Rattle.ktm_world.specs.Phases.{Course, end_notice, until_ended}
 use Rattle.ktm_world.specs.Steps.{answered, carried, is_one_of}
 use Rattle.ktm_enlist.specs.Enlistments.{EnlistmentsState}
 use Rattle.ktm_enlist.specs.Telling.{asked, has_manager, visited}
@@ -46,9 +47,13 @@ records g Fact.Ready t es = g.is_durable || t.is_recorded
 records g Fact.Held t es = is_some (superior_of es t.id) || t.is_recorded
 records g _ t es = t.is_recorded
 
+-- the transaction is in this phase from now on; once it has ended, its timeout and when it was made are forgotten
+abbrev pub entered : Phase → Transaction → Transaction
+entered phase t = record t { phase = phase; timeout = until_ended phase t.timeout; created = until_ended phase t.created }
+
 -- the transaction has ended with this outcome, and its superior is told
 abbrev pub ends : Going → TransactionOutcome → Transaction → List Enlistment → After
-ends g outcome t es = told_those g Who.Superior (end_notice outcome) None (record t { outcome = outcome; phase = Ended }) es
+ends g outcome t es = told_those g Who.Superior (end_notice outcome) None (entered Ended (record t { outcome = outcome })) es
 
 -- the enlistments, where the one with this Id has answered so, if one calls
 abbrev pub with_answer : Option Id → Answered → List Enlistment → List Enlistment
@@ -62,7 +67,7 @@ after g Step.Commit t es = only t es
 after g (Step.Tell who kind) t es = told_those g who kind None t es
 after g (Step.Ask who kind owed) t es = told_those g who kind (Some owed) t es
 after g (Step.Change answer) t es = only t (with_answer g.caller answer es)
-after g (Step.Enter phase) t es = only (record t { phase = phase }) es
+after g (Step.Enter phase) t es = only (entered phase t) es
 after g (Step.Decide outcome) t es = only (record t { outcome = outcome }) es
 after g (Step.End outcome) t es = ends g outcome t es
 after g (Step.EndWhereFinished outcome) t es = if list_any (is_unfinished t.id) es then only t es else ends g outcome t es

@@ -29,10 +29,8 @@ impl Tm {
         ensures { result ≡ count_by (is_live_enlistment self.now.now.items) self.now.now.enlistments }
     {
         let mut live = 0;
-        for i in 0..self.live_count() {
-            if let Some(t) = self.live_at(i) {
-                live += self.enlistments.live(t.id) as usize;
-            }
+        for t in self.transactions.live() {
+            live += self.enlistments.live(t.id) as usize;
         }
         live
     }
@@ -72,7 +70,7 @@ impl Tm {
         ensures { result ≡ id_after self.now.boot self.now.now.last_enlistment }
     {
         Id {
-            boot: self.boot,
+            boot: self.boot(),
             number: self.last_enlistment + 1,
         }
     }

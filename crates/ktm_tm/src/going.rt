@@ -1,11 +1,11 @@
 // How a transaction goes on: what counts of it, and what its steps make of all.
-ghost use Rattle.std.specs.Prelude.{◌≡◌, ◌+◌, ◌≤◌, Bool, None, Option, length, map};
+ghost use Rattle.std.specs.Prelude.{◌≡◌, ◌+◌, ◌≤◌, Bool, None, Option, Some, length, map, true};
 ghost use Rattle.std.specs.Option.{option_copied};
 ghost use Rattle.ktm_base.specs.declared.id.Id.{Id};
 ghost use Rattle.ktm_world.specs.Outcome.{served};
 ghost use Rattle.ktm_world.specs.Phases.{Course};
 ghost use Rattle.ktm_world.specs.Steps.{run, seen};
-ghost use Rattle.ktm_world.specs.Transactions.{change_at};
+ghost use Rattle.ktm_world.specs.Transactions.{change_at, is_live, transaction_at};
 ghost use Rattle.ktm_tm.specs.Courses.{caller_of, GoesBy, IsCourseIn};
 ghost use Rattle.ktm_tm.specs.Steps.{visits_on};
 ghost use Rattle.ktm_tm.specs.TmState.{KeepsRoom};
@@ -66,7 +66,7 @@ impl Tm {
         }
     }
 
-    /// The transaction goes on by these steps, where this enlistment calls, and the files and the keys take part or not. It takes
+    /// The transaction, which has not ended, goes on by these steps, where this enlistment calls, and the files and the keys take part or not. It takes
     /// no memory. Each enlistment that is visited to tell it is counted.
     pub fn carry_out<L: Ledger>(
         &mut self,
@@ -77,6 +77,8 @@ impl Tm {
         steps: &[Step],
         visits: &mut Steps<L>,
     )
+        requires there { transaction_at self.old.now.items t.id ≡ Some t }
+        requires live { is_live t ≡ true }
         requires slots { (c : Course) → IsCourseIn self.old t caller has_files has_keys c → length (run steps.now c).sent ≤ self.old.slots }
         ensures now { (c : Course) → IsCourseIn self.old t caller has_files has_keys c → self.new.now ≡ record self.old.now { items = change_at self.old.now.items t.id (λ u. (run steps.now c).transaction); enlistments = (run steps.now c).enlistments } }
         ensures managers { (c : Course) → IsCourseIn self.old t caller has_files has_keys c → self.new.managers ≡ map (served None (run steps.now c).sent) self.old.managers }
@@ -93,6 +95,6 @@ impl Tm {
             steps,
             visits,
         );
-        self.arrive(then);
+        self.transactions.arrive(then);
     }
 }

@@ -78,7 +78,7 @@ impl Tm {
         ensures { result ≡ id_after self.now.boot self.now.now.last_manager }
     {
         Id {
-            boot: self.boot,
+            boot: self.boot(),
             number: self.last_manager + 1,
         }
     }

@@ -6,11 +6,11 @@ ghost use Rattle.ktm_world.specs.Enlistments.{manager_at};
 ghost use Rattle.ktm_world.specs.Labels.{holds_of};
 ghost use Rattle.ktm_world.specs.Outcome.{served};
 ghost use Rattle.ktm_world.specs.TransactionCalls.{is_in_doubt};
-ghost use Rattle.ktm_tm.specs.Listed.{AreListed, AreRecoveredBehind};
+ghost use Rattle.ktm_tm.specs.Listed.{AreRecoveredBehind};
 ghost use Rattle.ktm_tm.specs.Recovery.{is_to_recover, recover_notes, recovers};
 ghost use Rattle.ktm_tm.specs.TmState.{KeepsNow, KeepsRoom};
 
-use crate::place::find_in;
+use crate::table::TransactionTable;
 use crate::tm::Tm;
 use ktm_base::{Id, NoMemory, Notify};
 use ktm_enlist::Enlistments;
@@ -33,30 +33,22 @@ fn is_in_doubt(t: Option<Transaction>) -> bool
 }
 
 // Is the enlistment one that the resource manager is to recover.
-fn is_to_recover(boot: u32, back: usize, items: &[Transaction], manager: Id, e: &Enlistment) -> bool
-    requires { AreListed boot back items.now }
-    ensures { result ≡ is_to_recover items.now manager e.now }
+fn is_to_recover(transactions: &TransactionTable, manager: Id, e: &Enlistment) -> bool
+    ensures { result ≡ is_to_recover transactions.now.items manager e.now }
 {
     e.manager == manager
         && !e.is_recovered
-        && (!e.is_superior() || is_in_doubt(find_in(boot, back, items, e.transaction)))
+        && (!e.is_superior() || is_in_doubt(transactions.find(e.transaction)))
 }
 
 // How many of the enlistments the resource manager is to recover.
-fn count(
-    boot: u32,
-    back: usize,
-    items: &[Transaction],
-    enlistments: &[Enlistment],
-    manager: Id,
-) -> usize
-    requires { AreListed boot back items.now }
-    ensures count { result ≡ length (recovers items.now manager enlistments.now) }
+fn count(transactions: &TransactionTable, enlistments: &[Enlistment], manager: Id) -> usize
+    ensures count { result ≡ length (recovers transactions.now.items manager enlistments.now) }
     ensures most { result ≤ length enlistments.now }
 {
     let mut count = 0;
     for e in enlistments {
-        if is_to_recover(boot, back, items, manager, e) {
+        if is_to_recover(transactions, manager, e) {
             count += 1;
         }
     }
@@ -64,22 +56,14 @@ fn count(
 }
 
 // Tells the resource manager of the enlistment, if it is to recover it.
-fn tell_one(
-    boot: u32,
-    back: usize,
-    items: &[Transaction],
-    e: &Enlistment,
-    managers: &mut Managers,
-    manager: Id,
-)
-    requires listed { AreListed boot back items.now }
+fn tell_one(transactions: &TransactionTable, e: &Enlistment, managers: &mut Managers, manager: Id)
     requires there { is_some (manager_at managers.old.managers manager) ≡ true }
-    requires spare { length (recovers items.now manager (e.now ∷ [])) ≤ managers.old.spare }
-    ensures managers { managers.new.managers ≡ map (served None (recovers items.now manager (e.now ∷ []))) managers.old.managers }
-    ensures spare { managers.new.spare + length (recovers items.now manager (e.now ∷ [])) ≡ managers.old.spare }
+    requires spare { length (recovers transactions.now.items manager (e.now ∷ [])) ≤ managers.old.spare }
+    ensures managers { managers.new.managers ≡ map (served None (recovers transactions.now.items manager (e.now ∷ []))) managers.old.managers }
+    ensures spare { managers.new.spare + length (recovers transactions.now.items manager (e.now ∷ [])) ≡ managers.old.spare }
     ensures room { managers.new.room ≡ managers.old.room }
 {
-    if is_to_recover(boot, back, items, manager, e) {
+    if is_to_recover(transactions, manager, e) {
         let note = Note {
             kind: Notify::Recover,
             enlistment: Some(e.id),
@@ -90,22 +74,19 @@ fn tell_one(
 
 // Tells the resource manager of each of the enlistments that it is to recover.
 fn tell_each(
-    boot: u32,
-    back: usize,
-    items: &[Transaction],
+    transactions: &TransactionTable,
     enlistments: &[Enlistment],
     managers: &mut Managers,
     manager: Id,
 )
-    requires listed { AreListed boot back items.now }
     requires there { is_some (manager_at managers.old.managers manager) ≡ true }
-    requires spare { length (recovers items.now manager enlistments.now) ≤ managers.old.spare }
-    ensures managers { managers.new.managers ≡ map (served None (recovers items.now manager enlistments.now)) managers.old.managers }
-    ensures spare { managers.new.spare + length (recovers items.now manager enlistments.now) ≡ managers.old.spare }
+    requires spare { length (recovers transactions.now.items manager enlistments.now) ≤ managers.old.spare }
+    ensures managers { managers.new.managers ≡ map (served None (recovers transactions.now.items manager enlistments.now)) managers.old.managers }
+    ensures spare { managers.new.spare + length (recovers transactions.now.items manager enlistments.now) ≡ managers.old.spare }
     ensures room { managers.new.room ≡ managers.old.room }
 {
     for e in enlistments {
-        tell_one(boot, back, items, e, managers, manager);
+        tell_one(transactions, e, managers, manager);
     }
 }
 
@@ -123,9 +104,7 @@ impl Tm {
         ensures { result ≡ length (recover_notes self.now.now manager) }
     {
         count(
-            self.boot,
-            self.back,
-            &self.items,
+            &self.transactions,
             brought_back(&self.enlistments, self.back_enlistments),
             manager,
         ) + 1
@@ -157,9 +136,7 @@ impl Tm {
         ensures room { KeepsRoom self.old self.new }
     {
         tell_each(
-            self.boot,
-            self.back,
-            &self.items,
+            &self.transactions,
             brought_back(&self.enlistments, self.back_enlistments),
             &mut self.managers,
             manager,

@@ -4,7 +4,7 @@ ghost use Rattle.std.specs.List.{list_all};
 ghost use Rattle.ktm_world.specs.Outcome.{served};
 ghost use Rattle.ktm_world.specs.Phases.{end_notice};
 ghost use Rattle.ktm_enlist.specs.Telling.{has_manager, visited};
-ghost use Rattle.ktm_tm.specs.Steps.{after, after_all, ends, records, told_those, visits_all, visits_of, with_answer, Carries};
+ghost use Rattle.ktm_tm.specs.Steps.{after, after_all, ends, entered, records, told_those, visits_all, visits_of, with_answer, Carries};
 
 use ktm_base::{Id, Notify};
 use ktm_counted::Steps;
@@ -66,6 +66,21 @@ fn tell<L: Ledger>(
     t
 }
 
+// The transaction is in this phase from now on. Once it has ended, its timeout and when it was made are forgotten.
+fn enter(t: Transaction, phase: Phase) -> Transaction
+    ensures { result ≡ entered phase t }
+{
+    match phase {
+        Phase::Ended => Transaction {
+            phase,
+            timeout: 0,
+            created: 0,
+            ..t
+        },
+        _ => Transaction { phase, ..t },
+    }
+}
+
 // The transaction has ended with this outcome, and its superior is told. Each enlistment that is visited is a step.
 fn end<L: Ledger>(
     enlistments: &mut Enlistments,
@@ -80,11 +95,7 @@ fn end<L: Ledger>(
     ensures carries { Carries (ends g outcome t enlistments.old.enlistments) result enlistments.old enlistments.new managers.old managers.new }
     ensures counted { visits.new ≡ visits.old + visited t.id g.caller Who.Superior enlistments.old.enlistments }
 {
-    let t = Transaction {
-        outcome,
-        phase: Phase::Ended,
-        ..t
-    };
+    let t = enter(Transaction { outcome, ..t }, Phase::Ended);
     tell(
         enlistments,
         managers,
@@ -135,7 +146,7 @@ fn carry<L: Ledger>(
             answer(enlistments, g.caller, answered);
             t
         }
-        Step::Enter(phase) => Transaction { phase, ..t },
+        Step::Enter(phase) => enter(t, phase),
         Step::Decide(outcome) => Transaction { outcome, ..t },
         Step::End(outcome) => end(enlistments, managers, g, t, outcome, visits),
         Step::EndWhereFinished(outcome) => {

@@ -1,15 +1,13 @@
 // The transactions of a boot, with those that a restart brought back.
 ghost use Rattle.std.specs.Prelude.{◌≡◌, ◌+◌, ◌-◌, ◌≤◌, ◌<◌, ◌++◌, ◌∷◌, ◌&&◌, IsOk, MatchOption, OnOk, Some, false, true, [], count_by, filter, find, nat_le, option_and_then, slice_get};
-ghost use Rattle.ktm_world.specs.Transactions.{transaction_at, change_at, is_live, same_id};
+ghost use Rattle.ktm_world.specs.Transactions.{transaction_at, is_live, same_id};
 ghost use Rattle.ktm_world.specs.TransactionCalls.{is_due, later, never_times_out, no_transaction_left};
 ghost use Rattle.std.specs.List.{list_all};
 ghost use Rattle.ktm_world.specs.Durable.{is_before};
-ghost use Rattle.ktm_tm.specs.Listed.{IsPlace, IsAbsent};
 ghost use Rattle.ktm_tm.specs.TmState.{if_live, next_id, with_new, KeepsManaging, KeepsNow};
 
-use crate::live::{if_live, is_live, put_number};
-use crate::place::{find_in, place_in};
 use crate::refusals::may_roll_back;
+use crate::table::TransactionTable;
 use ktm_base::{Id, MOST_LIVE, MOST_NUMBER, NoMemory};
 use ktm_enlist::Enlistments;
 use ktm_manager::Managers;
@@ -17,20 +15,12 @@ use ktm_world::{Phase, Transaction, TransactionOutcome};
 use std::alloc::Global;
 use std::marker::Model;
 
-/// The transactions, enlistments and resource managers, and the clock of a boot. A transaction of this boot is found by its number,
-/// without a walk.
+/// The transactions, enlistments and resource managers, and the clock of a boot.
 #[derive(Drop)]
 pub struct Tm {
-    pub(crate) boot: u32,
     // In milliseconds since the boot.
     pub(crate) clock: u64,
-    // Those that a restart brought back by rising Id, and then those of this boot by their numbers from 1 on; those that have ended
-    // too.
-    pub(crate) items: Vec<Transaction>,
-    // How many were brought back.
-    pub(crate) back: usize,
-    // The places of those that have not ended, from 1 on, which rise. It has room for the places of all.
-    pub(crate) live: Vec<u32>,
+    pub(crate) transactions: TransactionTable,
     pub(crate) enlistments: Enlistments,
     // How many of the enlistments were brought back; those of this boot, behind them, are recovered.
     pub(crate) back_enlistments: usize,
@@ -41,35 +31,34 @@ pub struct Tm {
 }
 
 impl Model for Tm {
-    ghost use Rattle.std.specs.Prelude.{◌≡◌, ◌-◌, ◌^◌, length, min, true, vec_len, vec_capacity};
+    ghost use Rattle.std.specs.Prelude.{◌≡◌, true};
     ghost use Rattle.std.specs.List.{list_all};
     ghost use Rattle.ktm_enlist.specs.Telling.{has_manager};
-    ghost use Rattle.ktm_tm.specs.Listed.{are_before_next, AreKept, AreRecoveredBehind};
+    ghost use Rattle.ktm_tm.specs.Listed.{are_before_next, AreRecoveredBehind};
     ghost use Rattle.ktm_tm.specs.TmState.{TmState};
 
     ghost Value = { TmState };
 
     ghost view = { λ tm. record {
-      boot = tm.boot;
+      boot = tm.transactions.boot;
       now = record {
         clock = tm.clock;
-        last_transaction = length tm.items.items - tm.back;
+        last_transaction = tm.transactions.made;
         last_manager = tm.last_manager;
         last_enlistment = tm.last_enlistment;
-        items = tm.items.items;
+        items = tm.transactions.items;
         enlistments = tm.enlistments.enlistments;
       };
       managers = tm.managers.managers;
-      room = min (min (vec_capacity tm.items) (vec_capacity tm.live)) (2 ^ 32 - 1) - vec_len tm.items;
+      room = tm.transactions.room;
       enlistment_room = tm.enlistments.room;
       manager_room = tm.managers.room;
       slots = tm.managers.spare;
     } };
 
     ghost invariant = { λ tm.
-        AreKept tm.boot tm.back tm.items.items tm.live.items (vec_capacity tm.live)
-        × (are_before_next (λ m. m.id) tm.boot tm.last_manager tm.managers.managers ≡ true)
-        × (are_before_next (λ e. e.id) tm.boot tm.last_enlistment tm.enlistments.enlistments ≡ true)
+        (are_before_next (λ m. m.id) tm.transactions.boot tm.last_manager tm.managers.managers ≡ true)
+        × (are_before_next (λ e. e.id) tm.transactions.boot tm.last_enlistment tm.enlistments.enlistments ≡ true)
         × (list_all (has_manager tm.managers.managers) tm.enlistments.enlistments ≡ true)
         × AreRecoveredBehind tm.back_enlistments tm.enlistments.enlistments };
 }
@@ -103,11 +92,8 @@ impl Tm {
         ensures managers { result.managers ≡ [] }
     {
         Tm {
-            boot,
             clock: 0,
-            items: Vec::new(alloc),
-            back: 0,
-            live: Vec::new(alloc),
+            transactions: TransactionTable::new(alloc, boot),
             enlistments: Enlistments::new(alloc),
             back_enlistments: 0,
             managers: Managers::new(alloc),
@@ -120,21 +106,14 @@ impl Tm {
     pub fn boot(&self) -> u32
         ensures { result ≡ self.now.boot }
     {
-        self.boot
-    }
-
-    // Where the transaction stands.
-    fn place(&self, id: Id) -> Option<usize>
-        ensures { MatchOption result (IsAbsent self.now.now.items id) (IsPlace self.now.now.items id) }
-    {
-        place_in(self.boot, self.back, &self.items, id)
+        self.transactions.boot()
     }
 
     /// The transaction with this Id.
     pub fn find(&self, id: Id) -> Option<Transaction>
         ensures { result ≡ transaction_at self.now.now.items id }
     {
-        find_in(self.boot, self.back, &self.items, id)
+        self.transactions.find(id)
     }
 
     /// The transaction with this Id, if it has not ended.
@@ -142,18 +121,15 @@ impl Tm {
         ensures found { result ≡ option_and_then if_live (transaction_at self.now.now.items id) }
         ensures first { result ≡ find (λ t. is_live t && same_id t.id id) self.now.now.items }
     {
-        match self.place(id) {
-            Some(place) => if_live(self.items[place]),
-            None => None,
-        }
+        self.transactions.find_live(id)
     }
 
     /// The live transaction that stands at this place among them, in the order of creation.
     pub fn live_at(&self, i: usize) -> Option<Transaction>
         ensures { result ≡ slice_get (filter is_live self.now.now.items) i }
     {
-        match self.live.get(i) {
-            Some(number) => Some(self.items[*number as usize - 1]),
+        match self.transactions.live().get(i) {
+            Some(t) => Some(*t),
             None => None,
         }
     }
@@ -186,14 +162,14 @@ impl Tm {
     pub fn live_count(&self) -> usize
         ensures { result ≡ count_by is_live self.now.now.items }
     {
-        self.live.len()
+        self.transactions.live().len()
     }
 
     /// Would one transaction more pass the limit of 64 live ones, or the greatest number.
     pub fn is_full(&self) -> bool
         ensures { result ≡ no_transaction_left self.now.now }
     {
-        self.live_count() >= MOST_LIVE || self.items.len() - self.back >= MOST_NUMBER as usize
+        self.live_count() >= MOST_LIVE || self.transactions.made() >= MOST_NUMBER as usize
     }
 
     /// Takes the memory that one transaction more needs.
@@ -204,12 +180,7 @@ impl Tm {
         ensures enough { 1 ≤ self.old.room → IsOk result }
         ensures rest { KeepsManaging self.old self.new }
     {
-        if self.items.len() >= u32::MAX as usize {
-            return Err(NoMemory);
-        }
-        self.items.reserve(1)?;
-        self.live.reserve(self.items.len() - self.live.len() + 1)?;
-        Ok(())
+        self.transactions.reserve()
     }
 
     /// The Id of the transaction that is made next.
@@ -218,8 +189,8 @@ impl Tm {
         ensures { result ≡ next_id self.now.boot self.now.now }
     {
         Id {
-            boot: self.boot,
-            number: (self.items.len() - self.back + 1) as u32,
+            boot: self.boot(),
+            number: (self.transactions.made() + 1) as u32,
         }
     }
 
@@ -235,7 +206,7 @@ impl Tm {
         ensures rest { KeepsManaging self.old self.new }
     {
         let id = self.next_id();
-        self.items.push_reserved(Transaction {
+        self.transactions.add(Transaction {
             id,
             timeout,
             created: self.clock,
@@ -243,39 +214,21 @@ impl Tm {
             outcome: TransactionOutcome::Undetermined,
             is_recorded: false,
         });
-        self.live.push_reserved(self.items.len() as u32);
         id
     }
 
-    /// The transaction with its Id, if there is one, has come this far. It takes no memory.
-    pub fn arrive(&mut self, t: Transaction)
-        ensures boot { self.new.boot ≡ self.old.boot }
-        ensures now { self.new.now ≡ record self.old.now { items = change_at self.old.now.items t.id (λ other. t) } }
-        ensures room { self.new.room ≡ self.old.room }
-        ensures rest { KeepsManaging self.old self.new }
-    {
-        let Some(place) = self.place(t.id) else {
-            return;
-        };
-        put_number(&mut self.live, place as u32 + 1, is_live(&t));
-        self.items[place] = t;
-    }
-
-    /// A transaction that a restart brings back, behind the others, while none is made. It takes no memory.
+    /// A transaction that a restart brings back, which has not ended, behind the others, while none is made. It takes no memory.
     pub fn bring_back(&mut self, t: Transaction)
         requires earlier { t.id.boot < self.old.boot }
         requires behind { list_all (λ other. is_before other.id t.id) self.old.now.items ≡ true }
         requires first { self.old.now.last_transaction ≡ 0 }
+        requires live { is_live t ≡ true }
         requires room { 1 ≤ self.old.room }
         ensures boot { self.new.boot ≡ self.old.boot }
         ensures now { self.new.now ≡ record self.old.now { items = self.old.now.items ++ t ∷ [] } }
         ensures room { self.new.room + 1 ≡ self.old.room }
         ensures rest { KeepsManaging self.old self.new }
     {
-        self.items.push_reserved(t);
-        self.back += 1;
-        if is_live(&t) {
-            self.live.push_reserved(self.items.len() as u32);
-        }
+        self.transactions.bring_back(t);
     }
 }

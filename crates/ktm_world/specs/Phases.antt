@@ -33,9 +33,14 @@ pub record Course : Type 0 where
   pub events : List Event
   pub works : List Work
 
--- it is in this phase from now on
+-- a time that is kept of a transaction until it has ended
+abbrev pub until_ended : Phase → ℕ → ℕ
+until_ended Ended time = 0
+until_ended _ time = time
+
+-- it is in this phase from now on; once it has ended, its timeout and when it was made are forgotten
 abbrev pub in_phase : Course → Phase → Course
-in_phase c phase = record c { transaction = record c.transaction { phase = phase } }
+in_phase c phase = record c { transaction = record c.transaction { phase = phase; timeout = until_ended phase c.transaction.timeout; created = until_ended phase c.transaction.created } }
 
 -- its outcome is known from now on
 abbrev pub decided : Course → TransactionOutcome → Course

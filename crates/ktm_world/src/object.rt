@@ -58,9 +58,9 @@ pub enum TransactionOutcome {
 #[derive(Clone, Copy)]
 pub struct Transaction {
     pub id: Id,
-    /// In milliseconds; 0 and 4,294,967,295 mean none.
+    /// In milliseconds; 0 and 4,294,967,295 mean none. 0 once it has ended.
     pub timeout: u32,
-    /// The clock when it was made, in milliseconds since the boot; 0 where it was brought back.
+    /// The clock when it was made, in milliseconds since the boot; 0 where it was brought back, and once it has ended.
     pub created: u64,
     pub phase: Phase,
     pub outcome: TransactionOutcome,

@@ -1,6 +1,7 @@
 mod Deeds
 mod Giving
 mod HeldMore
+mod Making
 mod Meeting
 mod Rising
 mod Recordings

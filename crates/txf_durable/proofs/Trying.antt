@@ -1,6 +1,6 @@
 -- Changes that are tried over the files.
 use Rattle.std.proofs.Common.{◌≡◌, ℕ, ◌==◌, ◌&&◌, not, Bool, true, false, List, [], ◌∷◌, ◌++◌, Option, Some, None, cond, refl, sym, ◌∙◌, ap, inl, inr}
-use Rattle.std.specs.Prelude.{is_some}
+use Rattle.std.specs.Prelude.{is_none, is_some}
 use Rattle.std.specs.List.{list_all}
 use Rattle.std.proofs.lemmas.Bool.{and_parts, cases_Bool, eqb-true, true≢false}
 use Rattle.ktm_world.specs.declared.change.Change.{Change}
@@ -9,6 +9,8 @@ use Rattle.ktm_world.specs.declared.recorded.Node.{Node}
 use Rattle.ktm_world.specs.Changes.{applies, bytes_in, changed, changed_all, changes_apply, changes_bytes, is_empty_list, is_whole}
 use Rattle.ktm_world.specs.Tree.{Tree, bytes_or_none, content_of, cut_to, is_file, node_at, put_over, with_changed}
 use Rattle.ktm_world.proofs.offered.Lookups.{map_node, node_at-with_changed}
+use Rattle.ktm_world.specs.Durable.{is_new_in}
+use Rattle.txf_overlay.proofs.Trees.{Applies-from, is_there-none}
 use Rattle.txf_durable.specs.Recorded.{are_names}
 
 -- ---- bytes
@@ -87,3 +89,19 @@ no-names (c ∷ cs) bytes are all =
     not-both : (b : Bool) → not b ≡ true → b ≡ true → ⊥
     not-both true a b = true≢false (sym a)
     not-both false a b = true≢false (sym b)
+
+-- ---- one change
+
+-- one that applies makes no node that is there
+new-where : (t : Tree) (c : Change) → applies t c ≡ true → is_new_in t c ≡ true
+new-where t (Make node parent kind name) is = ap is_none (is_there-none t node (Applies-from t (Make node parent kind name) is).0)
+new-where t (Put node offset contents) is = refl
+new-where t (Cut node size pages) is = refl
+new-where t (Move node parent name) is = refl
+new-where t (Drop node) is = refl
+
+pub alone : (t : Tree) (c : Change) → applies t c ≡ (changes_apply t (c ∷ []) && list_all (is_new_in t) (c ∷ []))
+alone t c = elim (cases_Bool (applies t c)) [
+  | inl is ↦ rw (is, new-where t c is) refl
+  | inr not ↦ rw not refl
+]

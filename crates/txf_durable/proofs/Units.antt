@@ -1,5 +1,5 @@
 -- Lemmas on the units of a tree of which one node changes.
-use Rattle.std.proofs.Common.{◌≡◌, ℕ, ◌+◌, ◌≤◌, ◌==◌, true, [], ◌∷◌, nat_lt, refl, ap, arith, inl, inr}
+use Rattle.std.proofs.Common.{◌≡◌, ℕ, ◌+◌, ◌≤◌, ◌==◌, true, List, [], ◌∷◌, None, Some, nat_lt, refl, ap, arith, inl, inr}
 use Rattle.std.proofs.lemmas.Bool.{and_parts, cases_Bool, eq-eqb, eqb-true, ltb-true, ne_eqb}
 use Rattle.std.proofs.lemmas.List.Sums.{sum_by-cons}
 use Rattle.ktm_world.specs.declared.change.Change.{Change}
@@ -7,6 +7,8 @@ use Rattle.ktm_world.specs.declared.change.Change.TheVariants.{Make, Put, Cut, M
 use Rattle.ktm_world.specs.declared.recorded.Node.{Node}
 use Rattle.ktm_world.specs.Changes.{changed, new_content, node_of}
 use Rattle.ktm_world.specs.Tree.{Tree, bytes_of, bytes_or_none, numbers_rise, units_of, with_changed, with_node, without_node}
+use Rattle.ktm_world.specs.declared.change.NodeKind.{NodeKind}
+use Rattle.ktm_world.specs.declared.change.NodeKind.TheVariants.{File, Directory}
 use Rattle.txf_durable.specs.State.{tree_units}
 
 -- the units of the file with this number
@@ -80,3 +82,23 @@ units-after tree c rise rise' =
     let after = units-apart (changed tree c) (node_of c) rise' in
     let same = ap tree_units (others-stay tree c) in
     omega (arith, before, after, same)
+
+-- ---- a node that comes
+
+-- a node that has no units adds none
+units-with : (tree : Tree) (node : Node) → units_of (bytes_or_none node.content) ≡ 0 → tree_units (with_node tree node) ≡ tree_units tree
+units-with [] node none = let all = sum_by-cons (λ (node : Node). units_of (bytes_or_none node.content)) node [] in omega (arith, all, none)
+units-with (n ∷ ns) node none =
+    let all = sum_by-cons (λ (node : Node). units_of (bytes_or_none node.content)) n ns in
+    elim (cases_Bool (nat_lt node.number n.number)) [
+      | inl before ↦ rw before (let more = sum_by-cons (λ (node : Node). units_of (bytes_or_none node.content)) node (n ∷ ns) in omega (arith, more, none))
+      | inr behind ↦
+          rw behind
+          (let rest = units-with ns node none in
+          let more = sum_by-cons (λ (node : Node). units_of (bytes_or_none node.content)) n (with_node ns node) in
+          omega (arith, rest, more, all))
+    ]
+
+pub units-made : (tree : Tree) (node parent : ℕ) (kind : NodeKind) (name : List ℕ) → tree_units (changed tree (Make node parent kind name)) ≡ tree_units tree
+units-made tree node parent File name = units-with tree (record { number = node; parent = parent; name = name; content = Some [] }) refl
+units-made tree node parent Directory name = units-with tree (record { number = node; parent = parent; name = name; content = None }) refl

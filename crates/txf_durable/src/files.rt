@@ -1,17 +1,18 @@
 // The committed files while a log is read.
-ghost use Rattle.std.specs.Prelude.{◌≡◌, ◌+◌, ◌&&◌, ◌<◌, ◌≤◌, ◌^◌, [], ◌∷◌, true, length, sum_by, Ok, IfOk, IsOk};
+ghost use Rattle.std.specs.Prelude.{◌≡◌, ℕ, ◌+◌, ◌&&◌, ◌<◌, ◌≤◌, ◌^◌, [], ◌∷◌, true, length, max, sum_by, Ok, IfOk, IsOk};
+ghost use Rattle.ktm_world.specs.declared.change.Change.TheVariants.{Make};
 ghost use Rattle.std.specs.List.{list_all};
 ghost use Rattle.ktm_world.specs.Changes.{applies, changes_apply, changes_bytes, changed_all, next_after};
 ghost use Rattle.ktm_world.specs.Durable.{are_recorded_changes, is_new_in, next_after_all};
 ghost use Rattle.ktm_world.specs.Tree.{IsWellFormed, bytes_of, bytes_or_none, units_of};
 ghost use Rattle.txf_tree.specs.TreeState.{fits, tree_of, versions_of, KeepsRooms};
 ghost use Rattle.txf_tree.specs.UnitChanges.{CanAllBeMade, CanBeMade};
-ghost use Rattle.txf_durable.specs.State.{CanMake, CanMakeAll, IsCounted, IsMade};
+ghost use Rattle.txf_durable.specs.State.{AreSound, CanMake, CanMakeAll, IsCounted, IsMade};
 
 use crate::recorded::split_at_bytes;
 use crate::tried::{next_after_all, would_apply};
-use ktm_base::{NoMemory, UNIT_BYTES};
-use ktm_world::Change;
+use ktm_base::{NoMemory, Text, UNIT_BYTES};
+use ktm_world::{Change, NodeKind};
 use std::alloc::Global;
 use std::marker::Model;
 use txf_laws::law_of_forms;
@@ -101,6 +102,27 @@ fn restore(tree: &mut Tree, units: u64, change: Change) -> u64
     others + units_at(tree, node)
 }
 
+// Makes a node if that applies, and tells whether it does. It takes the memory for one, and has no units.
+fn make_node(
+    tree: &mut Tree,
+    node: u64,
+    parent: u64,
+    kind: NodeKind,
+    name: Text,
+) -> Result<bool, NoMemory>
+    ensures applies { IfOk result (λ done. done ≡ applies (tree_of tree.old) (Make node parent kind name)) }
+    ensures made { result ≡ Ok true → IsMade tree.old tree.new (Make node parent kind name) }
+    ensures few { result ≡ Ok true → node < 2 ^ 63 }
+    ensures sound { (units : ℕ) → AreSound tree.old units → AreSound tree.new units }
+    ensures enough { 0 < tree.old.spare → IsOk result }
+{
+    law_of_forms();
+    if let Err(NoMemory) = tree.reserve(1) {
+        return Err(NoMemory);
+    }
+    Ok(tree.make_new(node, parent, kind, name))
+}
+
 impl DurableFiles {
     /// No files.
     pub fn new(alloc: Global) -> Self
@@ -176,9 +198,6 @@ impl DurableFiles {
         ensures after { result ≡ Ok true → (tree_of self.new.tree ≡ changed_all (tree_of self.old.tree) (change ∷ [])) × (self.new.next_node ≡ next_after_all self.old.next_node (change ∷ [])) }
         ensures enough { CanMake self.old.tree change → IsOk result }
     {
-        if !self.is_new(&change) {
-            return Ok(false);
-        }
         self.make(change)
     }
 
@@ -244,8 +263,27 @@ impl DurableFiles {
         changes.iter().all(|change| self.is_new(change))
     }
 
+    // Makes a node if that applies, and tells whether it does.
+    fn make_node(
+        &mut self,
+        node: u64,
+        parent: u64,
+        kind: NodeKind,
+        name: Text,
+    ) -> Result<bool, NoMemory>
+        ensures applies { IfOk result (λ done. done ≡ applies (tree_of self.old.tree) (Make node parent kind name)) }
+        ensures after { result ≡ Ok true → IsMade self.old.tree self.new.tree (Make node parent kind name) × (self.new.next_node ≡ max self.old.next_node (node + 1)) }
+        ensures enough { 0 < self.old.tree.spare → IsOk result }
+    {
+        let made = make_node(&mut self.tree, node, parent, kind, name);
+        if let Ok(true) = made {
+            self.next_node = self.next_node.max(node + 1);
+        }
+        made
+    }
+
     // Makes a change if it applies, counts what it adds to the units and takes from them, and tells whether it applies.
-    fn make(&mut self, change: Change) -> Result<bool, NoMemory>
+    fn make_counted(&mut self, change: Change) -> Result<bool, NoMemory>
         requires { CanBeMade (tree_of self.old.tree) change }
         ensures applies { IfOk result (λ done. done ≡ applies (tree_of self.old.tree) change) }
         ensures after { result ≡ Ok true → IsMade self.old.tree self.new.tree change × (self.new.next_node ≡ next_after self.old.next_node change) }
@@ -258,5 +296,23 @@ impl DurableFiles {
             self.units = restore(&mut self.tree, self.units, change);
         }
         prepared
+    }
+
+    // Makes a change if it applies, and tells whether it does.
+    fn make(&mut self, change: Change) -> Result<bool, NoMemory>
+        requires { CanBeMade (tree_of self.old.tree) change }
+        ensures applies { IfOk result (λ done. done ≡ applies (tree_of self.old.tree) change) }
+        ensures after { result ≡ Ok true → IsMade self.old.tree self.new.tree change × (self.new.next_node ≡ next_after self.old.next_node change) }
+        ensures enough { CanMake self.old.tree change → IsOk result }
+    {
+        match change {
+            Change::Make {
+                node,
+                parent,
+                kind,
+                name,
+            } => self.make_node(node, parent, kind, name),
+            other => self.make_counted(other),
+        }
     }
 }

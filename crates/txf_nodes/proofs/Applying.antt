@@ -1,5 +1,5 @@
 -- Lemmas on changes of names that apply.
-use Rattle.std.proofs.Common.{◌≡◌, ℕ, ◌≤◌, ◌&&◌, not, true, false, eqb, List, [], ◌∷◌, length, nat_le, Option, Some, None, is_some, is_none, refl, sym, ap, ◌∙◌, inl, inr}
+use Rattle.std.proofs.Common.{◌≡◌, ℕ, ◌≤◌, ◌&&◌, not, true, false, eqb, List, [], ◌∷◌, length, nat_le, nat_lt, ◌^◌, arith, Option, Some, None, is_some, is_none, refl, sym, ap, ◌∙◌, inl, inr}
 use Rattle.std.specs.List.{list_all}
 use Rattle.std.specs.Option.{option_map}
 use Rattle.std.proofs.lemmas.Bool.{and_parts, cases_Bool, leb-true, not-true}
@@ -14,9 +14,10 @@ use Rattle.ktm_links.proofs.offered.Entries.{key_at-at}
 use Rattle.ktm_world.specs.Changes.{applies, is_free, is_node_number}
 use Rattle.ktm_world.specs.Paths.{is_name}
 use Rattle.ktm_world.specs.Tree.{Tree, child_of, is_at_or_below, is_directory, is_there, node_at, root}
-use Rattle.txf_nodes.specs.Indexes.{under, without_now}
+use Rattle.txf_nodes.specs.Indexes.{IsTree, under, without_now}
 use Rattle.txf_nodes.specs.NodesState.{NodeOf, node_by, now_at, tree_in}
-use Rattle.txf_nodes.proofs.Naming.{node_at-now}
+use Rattle.txf_nodes.specs.Places.{child_name}
+use Rattle.txf_nodes.proofs.Naming.{child_number, node_at-now}
 
 -- a name has at most 255 characters
 few_characters : (name : List ℕ) → is_name name ≡ true → length name ≤ MOST_NAME_BYTES
@@ -41,25 +42,41 @@ no_node tree n free = by_cases (node_at tree n) refl
         let gone = rw is at free in elim (cases_Bool (eqb n 1)) as (λ _. ⊥) [ inl at_root ↦ (let no = rw at_root at gone in absurd (cc)) | inr other ↦ (let no = rw other at gone in absurd (cc)) ]
         )
 
+-- what is so where a node can be made, if its name is free
+pub record IsNewPlace (tree : Tree) (n : ℕ) (name : List ℕ) : Type 0 where
+  pub number : node_at tree n ≡ None
+  pub not_root : n ≡ root → ⊥
+  pub few : length name ≤ MOST_NAME_BYTES
+
+pub new_place : (tree : Tree) (n parent : ℕ) (name : List ℕ) → (((is_node_number n && not (is_there tree n)) && is_directory tree parent) && is_name name) ≡ true → IsNewPlace tree n name
+new_place tree n parent name is =
+    let named = and_parts ((is_node_number n && not (is_there tree n)) && is_directory tree parent) (is_name name) is in
+    let parent_there = and_parts (is_node_number n && not (is_there tree n)) (is_directory tree parent) named.0 in
+    let number = and_parts (is_node_number n) (not (is_there tree n)) parent_there.0 in
+    record {
+      number = no_node tree n number.1;
+      not_root = λ same. absurd (let low : 2 ≤ n = leb-true 2 n (and_parts (nat_le 2 n) (nat_lt n (2 ^ 63)) number.0).0 in omega (arith, low, same));
+      few = few_characters name named.1;
+    }
+
 -- what is so where a node can be made
 pub record CanMake (tree : Tree) (n parent : ℕ) (name : List ℕ) : Type 0 where
-  pub number : node_at tree n ≡ None
-  pub few : length name ≤ MOST_NAME_BYTES
+  pub place : IsNewPlace tree n name
   pub free : child_of tree parent name ≡ None
 
 pub can_make : (tree : Tree) (n parent : ℕ) (kind : NodeKind) (name : List ℕ) → applies tree (Make n parent kind name) ≡ true → CanMake tree n parent name
 can_make tree n parent kind name is =
     let free = and_parts (((is_node_number n && not (is_there tree n)) && is_directory tree parent) && is_name name) (is_free tree parent name) is in
-    let named = and_parts ((is_node_number n && not (is_there tree n)) && is_directory tree parent) (is_name name) free.0 in
-    let parent_there = and_parts (is_node_number n && not (is_there tree n)) (is_directory tree parent) named.0 in
-    let number = and_parts (is_node_number n) (not (is_there tree n)) parent_there.0 in
     record {
-      number = no_node tree n number.1;
-      few = few_characters name named.1;
+      place = new_place tree n parent name free.0;
       free = none_from (child_of tree parent name) free.1;
     }
 
 -- ---- names that are free
+is_some-map : {A B : Type 0} (f : A → B) (o : Option A) → is_some (option_map f o) ≡ is_some o
+is_some-map f None = refl
+is_some-map f (Some x) = refl
+
 at_none : (names : List (NamedItem ℕ)) (name : List ℕ) → under names name ≡ None → at names name ≡ None
 at_none names name none = by_cases (at names name) none
   where
@@ -72,6 +89,13 @@ key_none names name none = key_at-at names name ∙ ap (λ o. option_map (λ (e 
 
 pub name_key_free : (names : List (NamedItem ℕ)) (name : List ℕ) → under names name ≡ None → key_at names name ≡ None
 name_key_free names name none = key_none names name (at_none names name none)
+
+pub under_free : (names : List (NamedItem ℕ)) (name : List ℕ) → key_at names name ≡ None → under names name ≡ None
+under_free names name free = by_cases (at names name) (sym (key_at-at names name) ∙ free)
+  where
+    by_cases : (o : Option (Key × ℕ)) → option_map (λ (e : Key × ℕ). e.0) o ≡ None → option_map (λ (e : Key × ℕ). e.1) o ≡ None
+    by_cases None none = refl
+    by_cases (Some e) none = absurd (cc)
 
 pub under-same : (names new : List (NamedItem ℕ)) (q : List ℕ) → at new q ≡ at names q → under new q ≡ under names q
 under-same names new q is = ap (λ o. option_map (λ (e : Key × ℕ). e.1) o) is
@@ -108,6 +132,23 @@ IsRenamed-from names less new was name key n m old free gone less_others here ne
     }
 
 module _ {V : Type 0} where
+  -- a name stands in the map where a node has it
+  pub name_there : (bytes : V → List ℕ) (nodes : List (NodeOf V)) (names : List (NamedItem ℕ)) (directory : ℕ) (name : List ℕ) → IsTree nodes names
+      → is_some (key_at names (child_name directory name)) ≡ is_some (child_of (tree_in bytes nodes) directory name)
+  name_there bytes nodes names directory name tree =
+      let here = at names (child_name directory name) in
+      ap (λ o. is_some o) (key_at-at names (child_name directory name))
+      ∙ is_some-map (λ (e : Key × ℕ). e.0) here
+      ∙ sym (is_some-map (λ (e : Key × ℕ). e.1) here)
+      ∙ ap (λ o. is_some o) (child_number bytes nodes names directory name tree)
+      ∙ is_some-map (λ (node : Node). node.number) (child_of (tree_in bytes nodes) directory name)
+
+  pub name_none : (bytes : V → List ℕ) (nodes : List (NodeOf V)) (names : List (NamedItem ℕ)) (directory : ℕ) (name : List ℕ) → IsTree nodes names
+      → key_at names (child_name directory name) ≡ None → child_of (tree_in bytes nodes) directory name ≡ None
+  name_none bytes nodes names directory name tree free =
+      none_from (child_of (tree_in bytes nodes) directory name)
+      (ap not (sym (name_there bytes nodes names directory name tree) ∙ ap (λ o. is_some o) free))
+
   -- ---- nodes
   pub now_none : (bytes : V → List ℕ) (nodes : List (NodeOf V)) (n : ℕ) → node_at (tree_in bytes nodes) n ≡ None → now_at nodes n ≡ None
   now_none bytes nodes n none = by_cases (now_at nodes n) (sym (node_at-now bytes nodes n) ∙ none)

@@ -3,8 +3,8 @@ use Rattle.std.proofs.Common.{◌≡◌, ℕ, ◌^◌, ◌<◌, List, [], ◌++�
 use Rattle.std.specs.Int.{w64, to_be_bytes}
 use Rattle.std.specs.declared.cmp.Ordering.TheVariants.{Less}
 use Rattle.ktm_links.specs.Mapped.{name_cmp, Begins}
-use Rattle.ktm_links.specs.Numbers.{digits}
-use Rattle.ktm_links.proofs.offered.Digits.{digits-alike, digits-append, digits-less, digits-same, to_be_bytes-digits}
+use Rattle.ktm_base.specs.Order.{digits}
+use Rattle.ktm_base.proofs.offered.Digits.{digits-alike, digits-append, digits-less, digits-same, to_be_bytes-digits}
 use Rattle.txf_nodes.specs.Places.{number_bytes}
 
 -- bytes of numbers are in the order of the numbers

@@ -7,11 +7,11 @@ use Rattle.std.proofs.lemmas.Bool.{cases_eq}
 use Rattle.ktm_world.specs.declared.recorded.Node.{Node}
 use Rattle.ktm_links.specs.Mapped.{NamedItem}
 use Rattle.ktm_world.specs.Committed.{version_of, without_version}
-use Rattle.ktm_world.specs.Tree.{content_of, is_file, node_at, with_changed}
+use Rattle.ktm_world.specs.Tree.{content_of, is_file, node_at, with_changed, with_node}
 use Rattle.txf_nodes.specs.Indexes.{AreRising, IsTree, refilled, refilled_in, replaced, with_content, with_now, without_now}
 use Rattle.txf_nodes.specs.Lends.{with_content_at}
-use Rattle.txf_nodes.specs.NodesState.{NodeOf, NodesState, content_at, content_in, node_by, now_at, raised, tree_in, versions_in, IsRefilled}
-use Rattle.txf_nodes.proofs.Changing.{AreRising-replaced, now_at-replaced_other, now_at-replaced_same, now_at-with_other, now_at-with_same, now_at-without_other, now_at-without_same, replaced-replaced, tree_in-replaced, versions_in-forgotten, versions_in-raised, versions_in-replaced, versions_in-without}
+use Rattle.txf_nodes.specs.NodesState.{NodeOf, NodesState, content_at, content_in, node_by, now_at, raised, tree_by, tree_in, versions_in, IsInserted, IsRefilled}
+use Rattle.txf_nodes.proofs.Changing.{AreRising-replaced, now_at-replaced_other, now_at-replaced_same, now_at-with_other, now_at-with_same, now_at-without_other, now_at-without_same, replaced-replaced, tree_in-replaced, tree_in-with, versions_in-forgotten, versions_in-raised, versions_in-replaced, versions_in-with, versions_in-without}
 use Rattle.txf_nodes.proofs.Applying.{without_now-none}
 use Rattle.txf_nodes.proofs.Counting.{version_in, version_of-now}
 use Rattle.txf_nodes.proofs.Naming.{is_some-mapped, node_at-now, numbered_now}
@@ -188,3 +188,21 @@ module _ {V : Type 0} where
             versions = ap versions_in is ∙ versions_in-forgotten nodes n (record s { version = 0 }) refl;
             contents = contents-kept nodes new n s _ swap refl;
           }
+
+  -- ---- a node that comes
+  pub inserted : (old new : NodesState V) (node : NodeOf V) (number parent : ℕ) (name : List ℕ) (content : Option V)
+      → node ≡ record { number = number; parent = parent; name = name; content = content; version = 0 } → now_at old.nodes number ≡ None
+      → new.nodes ≡ with_now old.nodes node → new.spare + 1 ≡ old.spare → IsInserted old new number parent name content
+  inserted old new node number parent name content is free nodes spare =
+      let same = ap (λ (n : NodeOf V). n.number) is in
+      record {
+        tree = λ bytes.
+            ap (tree_in bytes) nodes ∙ tree_in-with bytes old.nodes node ∙ ap (λ n. with_node (tree_by bytes old) (node_by bytes n)) is;
+        versions = ap versions_in nodes ∙ versions_in-with old.nodes node (ap (λ (n : NodeOf V). n.version) is);
+        was = ap content_in free;
+        contents = record {
+          here = content-with old.nodes _ number node same free nodes ∙ ap (λ (n : NodeOf V). n.content) is;
+          others = λ other differs. other-with old.nodes _ number node same nodes other differs;
+        };
+        spare = spare;
+      }

@@ -4,6 +4,7 @@ use Rattle.std.specs.Ordering.{is_eq}
 use Rattle.std.proofs.lemmas.Bool.{cases_Bool, cases_eq, eqb-false}
 use Rattle.std.proofs.lemmas.Option.{same_Some}
 use Rattle.ktm_base.specs.declared.limits.TheConstants.{MOST_NAME_BYTES}
+use Rattle.ktm_world.specs.Tree.{root}
 use Rattle.ktm_links.specs.Mapped.{NamedItem, name_cmp}
 use Rattle.ktm_links.proofs.offered.Names.{from_is_eq, name_equal, name_same}
 use Rattle.txf_nodes.specs.Indexes.{AreNamed, IsNamedAt, IsTree, name_of, replaced, under, with_now, without_now}
@@ -24,7 +25,11 @@ none_some names a b n same none some = absurd (let is = rw same at none in cc)
 module _ {V : Type 0} where
   -- of no node nothing is asked
   pub IsTree-none : IsTree {V = V} [] []
-  IsTree-none = record { rising = tt; named = tt; only = λ name number is. absurd (cc) }
+  IsTree-none = record { rising = tt; no_root = refl; named = tt; only = λ name number is. absurd (cc) }
+
+  -- no node has the root's number
+  not_root : (nodes : List (NodeOf V)) (names : List (NamedItem ℕ)) (n : ℕ) (s : NodeOf V) → IsTree nodes names → now_at nodes n ≡ Some s → root ≡ n → ⊥
+  not_root nodes names n s tree found same = absurd (let none = rw same at tree.no_root in cc)
 
   -- ---- a node that keeps its name
   AreNamed-replaced : (names : List (NamedItem ℕ)) (nodes : List (NodeOf V)) (n : ℕ) (x : NodeOf V) → AreNamed names nodes → IsNamedAt names x → AreNamed names (replaced nodes n x)
@@ -43,6 +48,7 @@ module _ {V : Type 0} where
       let named : name_of x ≡ name_of s = rw (parent, name) refl in
       record {
         rising = AreRising-replaced nodes n x tree.rising number;
+        no_root = now_at-replaced_other nodes n root x (not_root nodes names n s tree found) number ∙ tree.no_root;
         named =
             AreNamed-replaced names nodes n x tree.named
             (record {
@@ -87,6 +93,7 @@ module _ {V : Type 0} where
       let old : under names (name_of s) ≡ Some n = at.under ∙ ap Some (numbered_now nodes n s found) in
       record {
         rising = AreRising-replaced nodes n x tree.rising number;
+        no_root = now_at-replaced_other nodes n root x (not_root nodes names n s tree found) number ∙ tree.no_root;
         named =
             AreNamed-renamed names new nodes n (name_of s) x tree.named (record { few = few; under = here ∙ ap Some (sym number) }) old free others;
         only = λ q k is.
@@ -127,11 +134,12 @@ module _ {V : Type 0} where
 
   -- a node stands under its name, where no other did
   pub IsTree-with : (nodes : List (NodeOf V)) (names new : List (NamedItem ℕ)) (x : NodeOf V) → IsTree nodes names → now_at nodes x.number ≡ None
-      → length x.name ≤ MOST_NAME_BYTES → under names (name_of x) ≡ None → under new (name_of x) ≡ Some x.number
+      → (x.number ≡ root → ⊥) → length x.name ≤ MOST_NAME_BYTES → under names (name_of x) ≡ None → under new (name_of x) ≡ Some x.number
       → ((q : List ℕ) → (q ≡ name_of x → ⊥) → under new q ≡ under names q) → IsTree (with_now nodes x) new
-  IsTree-with nodes names new x tree free_number few free here others =
+  IsTree-with nodes names new x tree free_number other_number few free here others =
       record {
         rising = AreRising-with nodes x tree.rising free_number;
+        no_root = now_at-with_other nodes x root (λ same. other_number (sym same)) ∙ tree.no_root;
         named =
             AreNamed-with new nodes x (AreNamed-kept names new nodes (name_of x) tree.named free others) (record { few = few; under = here });
         only = λ q k is.
@@ -171,6 +179,7 @@ module _ {V : Type 0} where
       let old : under names (name_of s) ≡ Some n = at.under ∙ ap Some (numbered_now nodes n s found) in
       record {
         rising = AreRising-without nodes n tree.rising;
+        no_root = now_at-without_other nodes n root (not_root nodes names n s tree found) ∙ tree.no_root;
         named = AreNamed-without names new nodes n (name_of s) tree.named old others;
         only = λ q k is.
             elim (cases_name q (name_of s)) [

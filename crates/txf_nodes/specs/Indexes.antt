@@ -5,6 +5,7 @@ use Rattle.ktm_base.specs.declared.limits.TheConstants.{MOST_NAME_BYTES}
 use Rattle.ktm_links.specs.declared.list.Key.{Key}
 use Rattle.ktm_links.specs.Items.{Item, value_at}
 use Rattle.ktm_links.specs.Mapped.{NamedItem, at, IsNotBelow}
+use Rattle.ktm_world.specs.Tree.{root}
 use Rattle.txf_nodes.specs.NodesState.{NodeOf, is_numbered, now_at}
 use Rattle.txf_nodes.specs.Places.{child_name, number_bytes}
 
@@ -99,9 +100,10 @@ module _ {V : Type 0} where
   AreRising [] = Unit {0}
   AreRising (n ∷ ns) = AreAbove n.number ns × AreRising ns
 
-  -- numbers rise, and the map has the number of each node under its name, and nothing else
+  -- numbers rise, none is the root's, and the map has the number of each node under its name, and nothing else
   pub record IsTree (nodes : List (NodeOf V)) (names : List (NamedItem ℕ)) : Type 0 where
     pub rising : AreRising nodes
+    pub no_root : now_at nodes root ≡ None
     pub named : AreNamed names nodes
     pub only : (name : List ℕ) (number : ℕ) → under names name ≡ Some number → (n : NodeOf V) × (now_at nodes number ≡ Some n) × (name_of n ≡ name)
 

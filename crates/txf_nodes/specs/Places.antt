@@ -3,7 +3,7 @@ use Rattle.std.specs.Prelude.{ℕ, not, List, [], ◌∷◌, ◌++◌, filter}
 use Rattle.std.specs.Ordering.{is_lt}
 use Rattle.ktm_base.specs.Names.{folded}
 use Rattle.ktm_links.specs.Mapped.{name_cmp}
-use Rattle.ktm_links.specs.Numbers.{digits}
+use Rattle.ktm_base.specs.Order.{digits}
 use Rattle.txf_nodes.specs.Children.{Shown}
 
 -- the eight bytes of a number, the greatest first

@@ -1,10 +1,10 @@
 // When a change of the names applies.
-ghost use Rattle.std.specs.Prelude.{◌≡◌, ℕ, List};
+ghost use Rattle.std.specs.Prelude.{◌≡◌, ◌&&◌, ℕ, List, not};
 ghost use Rattle.ktm_world.specs.declared.change.Change.TheVariants.{Make, Move, Drop};
 ghost use Rattle.ktm_world.specs.declared.change.NodeKind.{NodeKind};
 ghost use Rattle.ktm_world.specs.Changes.{applies, is_free, is_node_number};
 ghost use Rattle.ktm_world.specs.Paths.{is_name};
-ghost use Rattle.ktm_world.specs.Tree.{is_there};
+ghost use Rattle.ktm_world.specs.Tree.{is_directory, is_there};
 ghost use Rattle.txf_nodes.specs.NodesState.{tree_by};
 
 use crate::table::NodeTable;
@@ -31,11 +31,7 @@ impl<C> NodeTable<C> {
     pub fn may_make(&self, node: u64, parent: u64, name: &[u8]) -> bool
         ensures { (bytes : C → List ℕ) (kind : NodeKind) → result ≡ applies (tree_by bytes self.now) (Make node parent kind name.now) }
     {
-        is_node_number(node)
-            && !self.is_there(node)
-            && self.is_directory(parent)
-            && is_name(name)
-            && self.is_free(parent, name)
+        self.is_new_place(node, parent, name) && self.is_free(parent, name)
     }
 
     /// May the node get this directory and this name. It goes up from the directory to the root.
@@ -55,6 +51,13 @@ impl<C> NodeTable<C> {
         ensures { (bytes : C → List ℕ) → result ≡ applies (tree_by bytes self.now) (Drop node) }
     {
         node != ROOT && self.is_there(node) && !self.has_entries(node)
+    }
+
+    // May a node with this number come into the directory under this name, if the name is free.
+    pub(crate) fn is_new_place(&self, node: u64, parent: u64, name: &[u8]) -> bool
+        ensures { (bytes : C → List ℕ) → result ≡ (is_node_number node && not (is_there (tree_by bytes self.now) node) && is_directory (tree_by bytes self.now) parent && is_name name.now) }
+    {
+        is_node_number(node) && !self.is_there(node) && self.is_directory(parent) && is_name(name)
     }
 
     // Is there a node with the number. The root always is.

@@ -1,5 +1,5 @@
 // Files and directories by number and by name.
-ghost use Rattle.std.specs.Prelude.{◌≡◌, List as Seq, ◌+◌, ◌^◌, ◌<◌, ◌≤◌, ℕ, [], None, Some, true, is_some, length, option_copied, OnOk, IsOk, OnSome, IfOk};
+ghost use Rattle.std.specs.Prelude.{◌≡◌, List as Seq, ◌+◌, ◌^◌, ◌<◌, ◌≤◌, ℕ, [], None, Some, true, is_some, length, option_copied, OnOk, OnErr, IsOk, OnSome, IfOk, IfErr, ◌≢◌, false};
 ghost use Rattle.std.specs.Option.{option_copied_mut, option_map};
 ghost use Rattle.ktm_base.specs.declared.limits.TheConstants.{MOST_NAME_BYTES};
 ghost use Rattle.ktm_links.specs.Mapped.{Begins};
@@ -7,7 +7,7 @@ ghost use Rattle.ktm_world.specs.declared.change.Change.TheVariants.{Make, Move}
 ghost use Rattle.ktm_world.specs.declared.change.NodeKind.{NodeKind};
 ghost use Rattle.ktm_world.specs.Changes.{applies};
 ghost use Rattle.ktm_world.specs.Committed.{version_of, without_version};
-ghost use Rattle.ktm_world.specs.Tree.{bytes_of, child_of, content_of, has_entries, is_at_or_below, is_directory, is_file, node_at, numbers_rise, parent_of, with_changed, without_node};
+ghost use Rattle.ktm_world.specs.Tree.{bytes_of, child_of, content_of, has_entries, is_at_or_below, is_directory, is_file, node_at, numbers_rise, parent_of, root, with_changed, without_node};
 ghost use Rattle.txf_nodes.specs.Children.{entries_in, matching};
 ghost use Rattle.txf_nodes.specs.Indexes.{under, with_now};
 ghost use Rattle.txf_nodes.specs.Lends.{with_content_at};
@@ -99,7 +99,11 @@ impl<C> NodeTable<C> {
         ensures now { option_copied result ≡ now_at self.now.nodes number }
         ensures node { (bytes : C → Seq ℕ) → option_map (node_by bytes) (option_copied result) ≡ node_at (tree_by bytes self.now) number }
     {
-        self.nodes.get(number)
+        let nodes = &self.nodes;
+        if number == ROOT {
+            return None;
+        }
+        nodes.get(number)
     }
 
     /// The nodes but the root, by rising number, one after another.
@@ -236,11 +240,14 @@ impl<C> NodeTable<C> {
     fn insert(&mut self, number: u64, parent: u64, name: Text, content: Option<C>)
         requires spare { 0 < self.old.spare }
         requires few { length name ≤ MOST_NAME_BYTES }
+        requires not_root { number ≢ root }
         requires number { (bytes : C → Seq ℕ) × (node_at (tree_by bytes self.old) number ≡ None) }
         requires name { (bytes : C → Seq ℕ) × (child_of (tree_by bytes self.old) parent name ≡ None) }
         ensures { IsInserted self.old self.new number parent name content }
     {
-        self.put(StoredNode::new(number, parent, name, content));
+        if let Err(_) = self.put(StoredNode::new(number, parent, name, content)) {
+            unreachable!();
+        }
     }
 
     /// Makes a node, for which the memory is there.
@@ -250,6 +257,30 @@ impl<C> NodeTable<C> {
         ensures { IsInserted self.old self.new number parent name content }
     {
         self.insert(number, parent, name, content);
+    }
+
+    /// Makes a node if that applies, or hands back its content. The memory is there.
+    pub fn make_new(
+        &mut self,
+        number: u64,
+        parent: u64,
+        name: Text,
+        content: Option<C>,
+    ) -> Result<(), Option<C>>
+        requires { 0 < self.old.spare }
+        ensures applies { OnOk result ((bytes : C → Seq ℕ) (kind : NodeKind) → applies (tree_by bytes self.old) (Make number parent kind name) ≡ true) }
+        ensures refused { OnErr result ((bytes : C → Seq ℕ) (kind : NodeKind) → applies (tree_by bytes self.old) (Make number parent kind name) ≡ false) }
+        ensures inserted { OnOk result (IsInserted self.old self.new number parent name content) }
+        ensures unchanged { OnErr result (self.new ≡ self.old) }
+        ensures given_back { IfErr result (λ back. back ≡ content) }
+    {
+        if !self.is_new_place(number, parent, name.as_slice()) {
+            return Err(content);
+        }
+        match self.put(StoredNode::new(number, parent, name, content)) {
+            Ok(()) => Ok(()),
+            Err(node) => Err(node.into_content()),
+        }
     }
 
     /// Gives a node another name, or another directory, for which the memory is there.
@@ -336,17 +367,24 @@ impl<C> NodeTable<C> {
         }
     }
 
-    // Puts a node whose number and name are free at its place, and takes no memory.
-    fn put(&mut self, node: StoredNode<C>)
+    // Puts a node whose number is free at its place, or hands it back where its name is not. It takes no memory.
+    fn put(&mut self, node: StoredNode<C>) -> Result<(), StoredNode<C>>
         requires spare { 0 < self.old.spare }
         requires number { now_at self.old.nodes node.number ≡ None }
-        requires name { (bytes : C → Seq ℕ) × (child_of (tree_by bytes self.old) node.parent node.name ≡ None) }
-        ensures nodes { self.new.nodes ≡ with_now self.old.nodes node }
-        ensures spare { self.new.spare + 1 ≡ self.old.spare }
+        requires not_root { node.number ≢ root }
+        ensures free { OnOk result ((bytes : C → Seq ℕ) → child_of (tree_by bytes self.old) node.parent node.name ≡ None) }
+        ensures taken { OnErr result ((bytes : C → Seq ℕ) → is_some (child_of (tree_by bytes self.old) node.parent node.name) ≡ true) }
+        ensures nodes { OnOk result (self.new.nodes ≡ with_now self.old.nodes node) }
+        ensures spare { OnOk result (self.new.spare + 1 ≡ self.old.spare) }
+        ensures unchanged { OnErr result (self.new ≡ self.old) }
+        ensures given_back { IfErr result (λ back. back ≡ node) }
     {
         let number = node.number();
         let name = child_name(node.parent(), node.name());
+        if let Err(_) = self.names.insert_new(name, number) {
+            return Err(node);
+        }
         self.nodes.insert(node);
-        self.names.insert(name, number);
+        Ok(())
     }
 }

@@ -1,5 +1,5 @@
 // The tree.
-ghost use Rattle.std.specs.Prelude.{◌≡◌, ◌+◌, ◌-◌, ◌^◌, ◌<◌, ◌≤◌, ℕ, [], None, true, length, OnOk, IsOk, IfOk, fold, ◌≢◌};
+ghost use Rattle.std.specs.Prelude.{◌≡◌, ◌+◌, ◌-◌, ◌^◌, ◌<◌, ◌≤◌, ℕ, [], None, false, true, length, OnOk, IsOk, IfOk, fold, ◌≢◌};
 ghost use Rattle.std.specs.Option.{option_map};
 ghost use Rattle.ktm_content.specs.Places.{CanBePut};
 ghost use Rattle.ktm_world.specs.declared.change.Change.TheVariants.{Make, Put, Cut, Move, Drop};
@@ -301,6 +301,20 @@ impl Tree {
             self.forget_version(node);
         }
         bytes
+    }
+
+    /// Makes a node if that applies, and tells whether it does. The memory is there.
+    pub fn make_new(&mut self, node: u64, parent: u64, kind: NodeKind, name: Text) -> bool
+        requires { 0 < self.old.spare }
+        ensures applies { result ≡ applies (tree_of self.old) (Make node parent kind name) }
+        ensures applied { result ≡ true → IsApplied self.old self.new (Make node parent kind name) }
+        ensures unchanged { result ≡ false → self.new ≡ self.old }
+    {
+        let content = new_content(self.alloc, kind);
+        if let Err(_) = self.nodes.make_new(node, parent, name, content) {
+            return false;
+        }
+        true
     }
 
     /// Gives a file other bytes, which a commit has put together, and hands out those that it had. No byte is copied.

@@ -1,7 +1,7 @@
 -- A transaction on its way, put back among the others: the machine is sound again.
 use Rattle.std.specs.Prelude.{if◌then◌else◌}
-use Rattle.std.proofs.Common.{◌≡◌, ◌==◌, ◌&&◌, ◌||◌, not, Bool, true, false, List, [], ◌∷◌, length, map, filter, nat_le, Option, Some, None, is_some, refl, sym, ◌∙◌, ap, subst, inl, inr, ◌⊎◌}
-use Rattle.std.proofs.lemmas.Bool.{cases_Bool, and_parts, and_from, and_left, and_right, or_cases, or_left, or_right, true≢false, not-true, not_from_true, not_from_false, false_from_ne_true}
+use Rattle.std.proofs.Common.{◌≡◌, ◌==◌, ◌&&◌, ◌||◌, not, Bool, true, false, List, [], ◌∷◌, length, map, filter, nat_le, Option, Some, None, is_some, refl, sym, ◌∙◌, ap, subst, arith, inl, inr, ◌⊎◌}
+use Rattle.std.proofs.lemmas.Bool.{cases_Bool, le-leb, leb-true, and_parts, and_from, and_left, and_right, or_cases, or_left, or_right, true≢false, not-true, not_from_true, not_from_false, false_from_ne_true}
 use Rattle.std.proofs.lemmas.List.Sums.{length-filter}
 use Rattle.std.specs.List.{list_any, list_all}
 use Rattle.ktm_base.specs.declared.limits.TheConstants.{MOST_INFORMATION_BYTES}
@@ -266,7 +266,7 @@ module _ (x : Present) (sound : IsSoundCourse x) (t : Transaction) (there : IsIn
       boots = each (is_of_its_boot (x.recorded).boots) (arrives.stands).boots (λ v is other. list_all-at (is_of_its_boot (x.recorded).boots) ts sound.transactions.boots v is);
       outcomes = each (λ v. is_outcome_of v.phase v) (arrives.stands).outcome (λ v is other. list_all-at (λ (v : Transaction). is_outcome_of v.phase v) ts sound.transactions.outcomes v is);
       begun = each (λ v. nat_le v.created (x.transactions).clock)
-          (subst (λ n. nat_le n (x.transactions).clock ≡ true) (sym moved.stays.created) (list_all-at (λ (v : Transaction). nat_le v.created (x.transactions).clock) ts sound.transactions.begun t there))
+          (le-leb u.created (x.transactions).clock (omega (arith, moved.stays.created, leb-true t.created (x.transactions).clock (list_all-at (λ (v : Transaction). nat_le v.created (x.transactions).clock) ts sound.transactions.begun t there))))
           (λ v is other. list_all-at (λ (v : Transaction). nat_le v.created (x.transactions).clock) ts sound.transactions.begun v is);
     };
     enlistments = record {

@@ -21,7 +21,7 @@ use Rattle.ktm_courses.specs.SoundCourse.{is_last_recover, is_unrecovered_well, 
 use Rattle.txf_laws.proofs.offered.Diamonds.{none-from}
 use Rattle.txf_laws.proofs.offered.Elements.{list_any-at, list_any-from}
 use Rattle.ktm_courses.proofs.offered.Moves.{IsIn-map, IsSame, IsSame-refl, Moved, Moved-then, moved-transaction, moved-telling, Changes, changes-none, stepped, with-unchanged, Stand, Stand-with, moved-still}
-use Rattle.ktm_courses.proofs.offered.Endings.{filter-with, superior-with, idle-parts, part-parts, unprepared-recovered, Arrives, arrives-then, its-own, arrives-ended, alike-owing, no-parts, Stand-nobody, only-one, arrives-all_ready, AllReady}
+use Rattle.ktm_courses.proofs.offered.Endings.{with_phase, filter-with, superior-with, idle-parts, part-parts, unprepared-recovered, Arrives, arrives-then, its-own, arrives-ended, alike-owing, no-parts, Stand-nobody, only-one, arrives-all_ready, AllReady}
 use Rattle.ktm_steps.proofs.offered.Counts.{parts-counted, some-counted}
 use Rattle.ktm_world.specs.Rows.{proceeds}
 use Rattle.std.specs.List.{list_any}
@@ -56,13 +56,13 @@ module _ (boot : ℕ) (c : Course) (fresh : Fresh boot c) where
       → ((es : List Enlistment) → Stand es (c.transaction).id is_idle → Stand es (c.transaction).id (is_part_as phase))
       → ((es : List Enlistment) → is_awaited es (record c.transaction { phase = phase }) ≡ true) → is_single_phase phase ≡ false
       → ((es : List Enlistment) → is_recorded_as_asked c.managers es (record c.transaction { phase = phase }) ≡ true)
-      → Arrives boot c (in_phase (telling c (is_its_superior c) kind unchanged) phase)
+      → Arrives boot c (with_phase (telling c (is_its_superior c) kind unchanged) phase)
   arrives-superior_told phase kind other known boots asks has stands awaits several recorded' =
       let told = telling c (is_its_superior c) kind unchanged in
-      let d = in_phase told phase in
+      let d = with_phase told phase in
       let still = with-unchanged (is_its_superior c) c.enlistments in
       record {
-        moved = Moved-then (moved-telling c (is_its_superior c) kind unchanged other (changes-none c (is_its_superior c) (its-own c c refl))) (moved-transaction told d.transaction refl refl refl);
+        moved = Moved-then (moved-telling c (is_its_superior c) kind unchanged other (changes-none c (is_its_superior c) (its-own c c refl))) (moved-transaction told d.transaction refl (omega arith));
         stands = record {
           outcome = known;
           boots = boots;
@@ -81,7 +81,7 @@ module _ (boot : ℕ) (c : Course) (fresh : Fresh boot c) where
 
   asked-moved : Moved c c_asked
   asked-moved = Moved-then (moved-telling c take_part Notify.Prepare (owing Owed.Prepare) refl (changes-parts take_part Owed.Prepare (λ e is. is)))
-      (moved-transaction (telling c take_part Notify.Prepare (owing Owed.Prepare)) c_asked.transaction refl refl refl)
+      (moved-transaction (telling c take_part Notify.Prepare (owing Owed.Prepare)) c_asked.transaction refl (omega arith))
 
   -- none of them is prepared
   asked-none : has_durable_part c.managers c_asked.enlistments (c.transaction).id (λ e. e.is_prepared) ≡ false
@@ -113,7 +113,7 @@ module _ (boot : ℕ) (c : Course) (fresh : Fresh boot c) where
   arrives-single : (part : Part) → counted c (λ e. true) ≡ 0 → Arrives boot c (ended (record (recording c (Event.Single (c.transaction).id part ∷ [])) { works = c.works ++ work_of c }) Committed)
   arrives-single part none =
       let d = record (recording c (Event.Single (c.transaction).id part ∷ [])) { works = c.works ++ work_of c } in
-      arrives-then boot (moved-still c c.transaction d.events d.works refl refl refl)
+      arrives-then boot (moved-still c c.transaction d.events d.works refl (omega arith))
       (arrives-ended boot d Committed refl (rw fresh.here refl) (Stand-nobody c.enlistments (c.transaction).id is_idle (is_part_as Ended) fresh.stand (no-parts c none)))
 
   abbrev c_single : Course
@@ -131,7 +131,7 @@ module _ (boot : ℕ) (c : Course) (fresh : Fresh boot c) where
       let parts = and_parts (takes_part (c.transaction).id first.0) (allows_one_phase first.0) first.2 in
       record {
         moved = Moved-then (moved-telling c take_part Notify.SinglePhaseCommit (owing Owed.Commit) refl (changes-parts take_part Owed.Commit (λ e is. is)))
-            (moved-transaction (telling c take_part Notify.SinglePhaseCommit (owing Owed.Commit)) c_single.transaction refl refl refl);
+            (moved-transaction (telling c take_part Notify.SinglePhaseCommit (owing Owed.Commit)) c_single.transaction refl (omega arith));
         stands = record {
           outcome = fresh.undecided;
           boots = rw fresh.here refl;
@@ -161,7 +161,7 @@ module _ (boot : ℕ) (c : Course) (fresh : Fresh boot c) where
   arrives-pre_preparing : list_any ask c.enlistments ≡ true → Arrives boot c c_pre_preparing
   arrives-pre_preparing some = record {
     moved = Moved-then (moved-telling c ask Notify.PrePrepare (owing Owed.PrePrepare) refl (changes-parts ask Owed.PrePrepare (λ e is. (and_parts (takes_part (c.transaction).id e) (asks_pre_prepare e) is).0)))
-        (moved-transaction (telling c ask Notify.PrePrepare (owing Owed.PrePrepare)) c_pre_preparing.transaction refl refl refl);
+        (moved-transaction (telling c ask Notify.PrePrepare (owing Owed.PrePrepare)) c_pre_preparing.transaction refl (omega arith));
     stands = record {
       outcome = fresh.undecided;
       boots = rw fresh.here refl;

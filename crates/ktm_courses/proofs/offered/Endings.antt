@@ -6,6 +6,7 @@ use Rattle.ktm_base.specs.declared.id.Id.{Id}
 use Rattle.ktm_base.specs.declared.notify.Notify.{Notify}
 use Rattle.ktm_world.specs.declared.event.Event.{Event}
 use Rattle.ktm_world.specs.declared.input.PhaseInput.{PhaseInput}
+use Rattle.ktm_world.specs.declared.object.Phase.{Phase}
 use Rattle.ktm_world.specs.declared.object.Phase.TheVariants.{Committing, Aborting, Ended}
 use Rattle.ktm_world.specs.declared.object.Transaction.{Transaction}
 use Rattle.ktm_world.specs.declared.object.TransactionOutcome.{TransactionOutcome}
@@ -128,6 +129,10 @@ pub record Stands (boot : ℕ) (c : Course) : Type 0 where
   pub alone : (not (is_single_phase (c.transaction).phase) || (not (has_changes c.changes) && not (has_settings c.settings))) ≡ true
   pub recorded : is_recorded_as_asked c.managers c.enlistments c.transaction ≡ true
 
+-- it is in this phase, and nothing else of it is changed; what a step makes of it, but where it has ended
+abbrev pub with_phase : Course → Phase → Course
+with_phase c phase = record c { transaction = record c.transaction { phase = phase } }
+
 -- it has gone on, and is sound again
 pub record Arrives (boot : ℕ) (c d : Course) : Type 0 where
   pub moved : Moved c d
@@ -151,17 +156,24 @@ end_notice-other Aborted = refl
 abbrev is_known : Transaction → Bool
 is_known t = is_committed t || is_aborted t
 
+-- an earlier boot's transaction that has ended has no times, as each that was brought back
+backed-ended : (boot : ℕ) (t : Transaction) → is_backed boot t ≡ true → is_of_its_boot boot (record t { phase = Ended; timeout = 0; created = 0 }) ≡ true
+backed-ended boot t is = elim (cases_Bool (nat_lt (t.id).boot boot)) [
+  | inl earlier ↦ let is' = rw earlier at is in rw earlier (and_parts _ t.is_recorded is').1
+  | inr now ↦ rw now refl
+]
+
 pub arrives-ended : (boot : ℕ) (c : Course) (outcome : TransactionOutcome) → is_known (record c.transaction { outcome = outcome }) ≡ true → is_backed boot c.transaction ≡ true
     → Stand c.enlistments (c.transaction).id (is_part_as Ended) → Arrives boot c (ended c outcome)
 unfolding ended
 arrives-ended boot c outcome known backed stand =
     let d = in_phase (decided c outcome) Ended in
     record {
-      moved = Moved-then (moved-transaction c d.transaction refl refl refl)
+      moved = Moved-then (moved-transaction c d.transaction refl (omega arith))
           (moved-telling d (is_its_superior c) (end_notice outcome) unchanged (end_notice-other outcome) (changes-none d (is_its_superior c) (its-own c d refl)));
       stands = record {
         outcome = known;
-        boots = backed;
+        boots = backed-ended boot c.transaction backed;
         superior = refl;
         stand = subst (λ es. Stand es (c.transaction).id (is_part_as Ended)) (sym (with-unchanged (is_its_superior c) c.enlistments)) stand;
         awaited = refl;
@@ -200,7 +212,7 @@ arrives-if_finished boot c outcome before known backed stand each goes_on =
     (λ none. arrives-ended boot c outcome known backed (all-finished c.enlistments (c.transaction).id before stand each none))
   where
     Moved-stays : (c : Course) → Moved c c
-    Moved-stays c = moved-transaction c c.transaction refl refl refl
+    Moved-stays c = moved-transaction c c.transaction refl (omega arith)
 
 pub alike-owing : (owed : Owed) (e : Enlistment) → IsAlike e (owing owed e)
 alike-owing owed e = record { same = record { id = refl; manager = refl; transaction = refl; kind = refl; information = refl }; read_only = refl }
@@ -233,7 +245,7 @@ module _ (boot : ℕ) (c : Course) (can : CanCommit boot c) where
 
   committing-moved : Moved c c_committing
   committing-moved = Moved-then
-      (moved-still c c_decided.transaction c_decided.events c_decided.works refl refl refl)
+      (moved-still c c_decided.transaction c_decided.events c_decided.works refl (omega arith))
       (moved-telling c_decided to_commit_now Notify.Commit (owing Owed.Commit) refl (record {
         own = λ e there is. (part-parts (c.transaction).id e (commit-parts e is).0).0;
         same = λ e. (alike-owing Owed.Commit e).same;
@@ -290,7 +302,7 @@ module _ (boot : ℕ) (c : Course) (backed : is_backed boot c.transaction ≡ tr
   aborting-moved : Moved c c_aborting
   aborting-moved = Moved-then
       (Moved-then
-      (Moved-then (moved-still c c.transaction c_undone.events c.works refl refl refl)
+      (Moved-then (moved-still c c.transaction c_undone.events c.works refl (omega arith))
       (moved-telling c_undone to_roll_back Notify.Rollback (owing Owed.Rollback) refl (record {
         own = λ e there is. (part-parts (c.transaction).id e (and_parts (takes_part (c.transaction).id e) e.is_recovered is).0).0;
         same = λ e. (alike-owing Owed.Rollback e).same;
@@ -298,7 +310,7 @@ module _ (boot : ℕ) (c : Course) (backed : is_backed boot c.transaction ≡ tr
       })))
       (moved-telling c_told to_tell Notify.Rollback unchanged refl (changes-none c_told to_tell (λ e there is.
       its-own c c_told refl e there (and_parts (is_its_superior c e) (not (is_given (id_of c.caller) e)) is).0))))
-      (moved-transaction (telling c_told to_tell Notify.Rollback unchanged) c_aborting.transaction refl refl refl)
+      (moved-transaction (telling c_told to_tell Notify.Rollback unchanged) c_aborting.transaction refl (omega arith))
 
   aborting-stand : Stand c_aborting.enlistments (c.transaction).id (is_part_as Aborting)
   aborting-stand = subst (λ es. Stand es (c.transaction).id (is_part_as Aborting)) (sym (with-unchanged to_tell c_told.enlistments))
@@ -348,7 +360,7 @@ module _ (boot : ℕ) (c : Course) (all : AllReady boot c) where
   c_readied = readied c
 
   readied-moved : Moved c c_readied
-  readied-moved = moved-still c c_readied.transaction c_readied.events c.works refl refl refl
+  readied-moved = moved-still c c_readied.transaction c_readied.events c.works refl (omega arith)
 
   can-commit : CanCommit boot c_readied
   can-commit = record {
@@ -379,9 +391,9 @@ module _ (boot : ℕ) (c : Course) (all : AllReady boot c) where
           let told = telling c_held (is_its_superior c_readied) Notify.PrepareComplete unchanged in
           record {
             moved = Moved-then
-                (Moved-then (moved-still c c_held.transaction c_held.events c.works refl refl refl)
+                (Moved-then (moved-still c c_held.transaction c_held.events c.works refl (omega arith))
                 (moved-telling c_held (is_its_superior c_readied) Notify.PrepareComplete unchanged refl (changes-none c_held (is_its_superior c_readied) (its-own c_readied c_held refl))))
-                (moved-transaction told (held c_readied e).transaction refl refl refl);
+                (moved-transaction told (held c_readied e).transaction refl (omega arith));
             stands = record {
               outcome = all.undecided;
               boots = rw all.here refl;

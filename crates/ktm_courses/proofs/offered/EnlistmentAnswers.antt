@@ -1,6 +1,6 @@
 -- The answers of enlistments: what their transaction comes to is sound again.
 use Rattle.std.specs.Prelude.{if◌then◌else◌}
-use Rattle.std.proofs.Common.{◌≡◌, ℕ, ◌==◌, ◌&&◌, ◌||◌, not, Bool, true, false, List, [], ◌∷◌, ◌++◌, nat_lt, Option, Some, None, is_some, is_none, refl, sym, ◌∙◌, ap, subst, inl, inr, ◌⊎◌}
+use Rattle.std.proofs.Common.{◌≡◌, ℕ, ◌==◌, ◌&&◌, ◌||◌, not, Bool, true, false, List, [], ◌∷◌, ◌++◌, nat_lt, Option, Some, None, is_some, is_none, refl, sym, ◌∙◌, ap, subst, arith, inl, inr, ◌⊎◌}
 use Rattle.std.proofs.lemmas.Bool.{cases_Bool, and_parts, and_from, and_cases, and_left, and_right, or_cases, or_left, or_right, eqb-true, not-true, not_from_false, true≢false, false_from_ne_true}
 use Rattle.std.proofs.lemmas.List.Sums.{length-filter}
 use Rattle.ktm_base.specs.declared.notify.Notify.{Notify}
@@ -21,7 +21,7 @@ use Rattle.txf_laws.proofs.offered.Diamonds.{none-from}
 use Rattle.txf_laws.proofs.offered.Lists.{IsIn-unmap}
 use Rattle.txf_laws.proofs.offered.Elements.{list_any-at, list_any-from, list_all-at}
 use Rattle.ktm_courses.proofs.offered.Moves.{same-by_id, if_parts, moved-changing, unrecovered-moved, IsIn-map, IsSame, IsSame-refl, IsAlike, Moved, Moved-then, moved-transaction, moved-telling, Changes, stepped, with-unchanged, is_bystander, Stand, Stand-with, Stand-as, moved-still}
-use Rattle.ktm_courses.proofs.offered.Endings.{is_backed-from, waiting-parts, over-part, arrives-if_finished, may_be_told, arrives-aborting, none-at, list_any-told, list_any-with, filter-with, superior-with, idle-parts, part-parts, unprepared-recovered, Arrives, Stands, arrives-then, alike-owing, Stand-nobody, only-one, arrives-ended, arrives-all_ready}
+use Rattle.ktm_courses.proofs.offered.Endings.{with_phase, is_backed-from, waiting-parts, over-part, arrives-if_finished, may_be_told, arrives-aborting, none-at, list_any-told, list_any-with, filter-with, superior-with, idle-parts, part-parts, unprepared-recovered, Arrives, Stands, arrives-then, alike-owing, Stand-nobody, only-one, arrives-ended, arrives-all_ready}
 use Rattle.ktm_world.specs.Durable.{is_before}
 use Rattle.ktm_world.specs.Steps.{led, answered, run, seen, share_of}
 use Rattle.ktm_world.specs.TransactionCalls.{is_voting, recovery_of}
@@ -188,11 +188,11 @@ none-owed d none x there part = elim (and_cases _ _ (none-at _ d.enlistments non
 
 -- ---- a transaction in a phase
 
-pub stands-in : (boot : ℕ) (c : Course) (phase : Phase) → (c.transaction).phase ≡ phase → Stands boot c → Stands boot (in_phase c phase)
-stands-in boot c phase is stands = subst (λ p. Stands boot (in_phase c p)) is stands
+pub stands-in : (boot : ℕ) (c : Course) (phase : Phase) → (c.transaction).phase ≡ phase → Stands boot c → Stands boot (with_phase c phase)
+stands-in boot c phase is stands = subst (λ p. Stands boot (with_phase c p)) is stands
 
-pub stands-back : (boot : ℕ) (c : Course) (phase : Phase) → (c.transaction).phase ≡ phase → Stands boot (in_phase c phase) → Stands boot c
-stands-back boot c phase is stands = subst (λ p. Stands boot (in_phase c p)) (sym is) stands
+pub stands-back : (boot : ℕ) (c : Course) (phase : Phase) → (c.transaction).phase ≡ phase → Stands boot (with_phase c phase) → Stands boot c
+stands-back boot c phase is stands = subst (λ p. Stands boot (with_phase c p)) (sym is) stands
 
 pub here-from : (boot : ℕ) (t : Transaction) → is_phase_back t.phase ≡ false → is_of_its_boot boot t ≡ true → nat_lt (t.id).boot boot ≡ false
 here-from boot t other is = elim (cases_Bool (nat_lt (t.id).boot boot)) [
@@ -417,7 +417,7 @@ module _ (boot : ℕ) (begun : Course) (e : Enlistment) (stands : Stands boot (b
     here_preparing = here-from boot (in_phase c Preparing).transaction refl at_preparing.boots
 
     prepared-moved : Moved c c_prepared
-    prepared-moved = Moved-then (moved-one prepared (λ x. (alike-prepared x).same) (recovered-owing Owed.Prepare is_prepare)) (moved-still (changing_one c e.id prepared) c_prepared.transaction c_prepared.events c.works refl refl refl)
+    prepared-moved = Moved-then (moved-one prepared (λ x. (alike-prepared x).same) (recovered-owing Owed.Prepare is_prepare)) (moved-still (changing_one c e.id prepared) c_prepared.transaction c_prepared.events c.works refl (omega arith))
 
     -- the log has it where an enlistment with a durable resource manager is prepared
     prepared-recorded : is_recorded_as Preparing c.managers c_prepared.enlistments (c.transaction).id (c_prepared.transaction).is_recorded ≡ true
@@ -644,7 +644,7 @@ module _ (boot : ℕ) (begun : Course) (e : Enlistment) (stands : Stands boot (b
     unfolding led
     arrives-single_phase_reject = record {
       moved = Moved-then (moved-telling c (has_id e.id) Notify.Prepare (owing Owed.Prepare) refl (changes-one (owing Owed.Prepare) (λ x. (alike-owing Owed.Prepare x).same) (recovered-owing Owed.Commit (owed-commit e owes))))
-          (moved-transaction (telling c (has_id e.id) Notify.Prepare (owing Owed.Prepare)) c_rejected.transaction refl refl refl);
+          (moved-transaction (telling c (has_id e.id) Notify.Prepare (owing Owed.Prepare)) c_rejected.transaction refl (omega arith));
       stands = record {
         outcome = at_single.outcome;
         boots = rw (here-from boot (in_phase c SinglePhase).transaction refl at_single.boots) refl;
@@ -684,7 +684,7 @@ module _ (boot : ℕ) (begun : Course) (e : Enlistment) (stands : Stands boot (b
 
     -- it was one of many
     one-committed : (c.transaction).phase ≡ Committing → Stands boot (in_phase c Committing) → Arrives boot c (ended_if_finished (recording c_finished done_event) TransactionOutcome.Committed)
-    one-committed phase at = arrives-then boot (Moved-then (finished-moved Owed.Commit is_commit) (moved-still c_finished c.transaction (c.events ++ done_event) c.works refl refl refl))
+    one-committed phase at = arrives-then boot (Moved-then (finished-moved Owed.Commit is_commit) (moved-still c_finished c.transaction (c.events ++ done_event) c.works refl (omega arith)))
         (arrives-if_finished boot (recording c_finished done_event) TransactionOutcome.Committed (is_part_as Committing) refl (is_backed-from boot c.transaction stands.boots) stand
         (λ x fits over. over-part owes_commit x (and_parts x.is_prepared _ fits).1 over)
         (λ some. stands-back boot (recording c_finished done_event) Committing phase (record {

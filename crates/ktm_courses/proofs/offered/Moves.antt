@@ -1,5 +1,5 @@
 -- A transaction on its way: what its steps leave of the enlistments, and what they send and record.
-use Rattle.std.proofs.Common.{◌≡◌, ℕ, ◌&&◌, not, Bool, true, false, List, [], ◌∷◌, ◌++◌, map, filter, Some, refl, sym, ◌∙◌, ap, subst, inl, inr, ◌⊎◌, find, Option, None}
+use Rattle.std.proofs.Common.{◌≡◌, ℕ, ◌≤◌, ◌&&◌, not, Bool, true, false, List, [], ◌∷◌, ◌++◌, map, filter, Some, refl, sym, ◌∙◌, ap, subst, inl, inr, ◌⊎◌, find, Option, None, arith}
 use Rattle.std.specs.Prelude.{if◌then◌else◌}
 use Rattle.std.proofs.lemmas.Bool.{cases_Bool, true≢false}
 use Rattle.std.proofs.lemmas.List.{map-id}
@@ -183,14 +183,14 @@ Moved-then {c} {d} {e} first second = let a = first.enlistments in record {
 }
 
 -- of the transaction itself something else is so, and events and works are recorded
-pub moved-still : (c : Course) (t : Transaction) (events : List Event) (works : List Work) → t.id ≡ (c.transaction).id → t.timeout ≡ (c.transaction).timeout → t.created ≡ (c.transaction).created → Moved c (record c { transaction = t; events = events; works = works })
-moved-still c t events works id timeout created = record {
-  stays = record { id = id; timeout = timeout; created = created; managers = refl; changes = refl; settings = refl; caller = refl };
+pub moved-still : (c : Course) (t : Transaction) (events : List Event) (works : List Work) → t.id ≡ (c.transaction).id → t.created ≤ (c.transaction).created → Moved c (record c { transaction = t; events = events; works = works })
+moved-still c t events works id created = record {
+  stays = record { id = id; created = created; managers = refl; changes = refl; settings = refl; caller = refl };
   enlistments = moves-none c (record c { transaction = t; events = events; works = works }) refl;
   sent = λ s there. inl there;
 }
 
-pub moved-transaction : (c : Course) (t : Transaction) → t.id ≡ (c.transaction).id → t.timeout ≡ (c.transaction).timeout → t.created ≡ (c.transaction).created → Moved c (record c { transaction = t })
+pub moved-transaction : (c : Course) (t : Transaction) → t.id ≡ (c.transaction).id → t.created ≤ (c.transaction).created → Moved c (record c { transaction = t })
 moved-transaction c t = moved-still c t c.events c.works
 
 -- enlistments that pass a test are changed
@@ -208,7 +208,7 @@ pub moved-changing : (c : Course) (test : Enlistment → Bool) (f : Enlistment �
     → ((s : Sent) → IsIn s sent → IsIn s c.sent ⊎ IsTold c.enlistments s)
     → Moved c (record c { sent = sent; enlistments = with_enlistments test f c.enlistments })
 moved-changing c test f sent changes told = record {
-  stays = record { id = refl; timeout = refl; created = refl; managers = refl; changes = refl; settings = refl; caller = refl };
+  stays = record { id = refl; created = omega arith; managers = refl; changes = refl; settings = refl; caller = refl };
   enlistments = record {
     step = stepped test f;
     is = refl;

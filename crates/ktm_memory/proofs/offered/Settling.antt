@@ -44,6 +44,7 @@ settles_with m j (Begin process label timeout) may = may
 settles_with m j (Change process label plan ready) may = (may.0, may.1, may_bind m j process label plan.opened may.2)
 settles_with m j (Course t caller steps) may = record {
   there = may.there;
+  live = may.live;
   leads = λ x shows. may.leads x (shows_with m j x shows);
   few = may.few;
   noted = may.noted;

@@ -7,4 +7,4 @@ pub bytes-init : goal.bytes-init
 bytes-init c = unhex-start (unhex c.args.text.now)
 
 pub bytes-preserved : goal.bytes-preserved
-bytes-preserved c = unhex-step _ _ c.bytes.i _ _ (omega arith) (omega arith) c.digit_value-high.ensures.value c.digit_value-low.ensures.value c.bytes.invariant
+bytes-preserved c = unhex-step _ _ c.bytes.i _ (omega arith) (omega arith) c.byte_of.ensures c.bytes.invariant

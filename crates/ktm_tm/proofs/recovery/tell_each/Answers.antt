@@ -15,23 +15,23 @@ tell_one-requires-clause-there c = ap (λ (ms : List Manager). is_some (manager_
 
 pub tell_one-requires-clause-spare : goal.tell_one-requires-clause-spare
 tell_one-requires-clause-spare c =
-    let more = recovers_more c.args.items.now c.args.manager c.args.enlistments.now c.loop-e.e-index c.e-item.result c.loop-e-test.true c.e-item.is in
+    let more = recovers_more c.args.transactions.now.items c.args.manager c.args.enlistments.now c.loop-e.e-index c.e-item.result c.loop-e-test.true c.e-item.is in
     omega (
       arith,
       c.loop-e.invariant.spare,
       c.requires.spare,
-      recovers_first c.args.items.now c.args.manager c.args.enlistments.now (c.loop-e.e-index + 1),
+      recovers_first c.args.transactions.now.items c.args.manager c.args.enlistments.now (c.loop-e.e-index + 1),
       ap length more,
-      length-append (recovers c.args.items.now c.args.manager (take c.loop-e.e-index c.args.enlistments.now)) (recovers c.args.items.now c.args.manager (c.e-item.result ∷ [])),
+      length-append (recovers c.args.transactions.now.items c.args.manager (take c.loop-e.e-index c.args.enlistments.now)) (recovers c.args.transactions.now.items c.args.manager (c.e-item.result ∷ [])),
     )
 
 pub loop-e-preserved : goal.loop-e-preserved
 loop-e-preserved c =
-    let more = recovers_more c.args.items.now c.args.manager c.args.enlistments.now c.loop-e.e-index c.e-item.result c.loop-e-test.true c.e-item.is in
+    let more = recovers_more c.args.transactions.now.items c.args.manager c.args.enlistments.now c.loop-e.e-index c.e-item.result c.loop-e-test.true c.e-item.is in
     record {
       managers =
-          c.tell_one.ensures.managers ∙ ap (map (served None (recovers c.args.items.now c.args.manager (c.e-item.result ∷ [])))) c.loop-e.invariant.managers
+          c.tell_one.ensures.managers ∙ ap (map (served None (recovers c.args.transactions.now.items c.args.manager (c.e-item.result ∷ [])))) c.loop-e.invariant.managers
           ∙ served_twice _ _ _ ∙ ap (λ l. map (served None l) c.args.managers.now.managers) (sym more);
-      spare = omega (arith, c.tell_one.ensures.spare, c.loop-e.invariant.spare, ap length more, length-append (recovers c.args.items.now c.args.manager (take c.loop-e.e-index c.args.enlistments.now)) (recovers c.args.items.now c.args.manager (c.e-item.result ∷ [])));
+      spare = omega (arith, c.tell_one.ensures.spare, c.loop-e.invariant.spare, ap length more, length-append (recovers c.args.transactions.now.items c.args.manager (take c.loop-e.e-index c.args.enlistments.now)) (recovers c.args.transactions.now.items c.args.manager (c.e-item.result ∷ [])));
       room = c.tell_one.ensures.room ∙ c.loop-e.invariant.room;
     }

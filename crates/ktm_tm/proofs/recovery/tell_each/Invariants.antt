@@ -5,7 +5,7 @@ use Rattle.ktm_tm.proofs.recovery.tell_each.Given as goal
 
 abbrev pub invariant-loop-e : goal.invariant-loop-e
 invariant-loop-e l = record {
-  managers : l.managers.managers ≡ map (served None (recovers l.items l.manager (take l.e-index l.enlistments))) l.fn.managers.managers;
-  spare : l.managers.spare + length (recovers l.items l.manager (take l.e-index l.enlistments)) ≡ l.fn.managers.spare;
+  managers : l.managers.managers ≡ map (served None (recovers l.transactions.items l.manager (take l.e-index l.enlistments))) l.fn.managers.managers;
+  spare : l.managers.spare + length (recovers l.transactions.items l.manager (take l.e-index l.enlistments)) ≡ l.fn.managers.spare;
   room : l.managers.room ≡ l.fn.managers.room;
 }

@@ -14,7 +14,7 @@ returns-in-Change-clause-carries g c =
     rw c.in-Change.is record { transaction = refl; enlistments = c.answer.ensures.enlistments; managers = sym (served_nothing c.args.managers.now.managers); spare = omega arith; enlistment_room = c.answer.ensures.room; manager_room = refl }
 
 pub returns-in-Enter-clause-carries : goal.returns-in-Enter-clause-carries
-returns-in-Enter-clause-carries g c = rw c.in-Enter.is (only_carries _ c.args.enlistments.now c.args.managers.now)
+returns-in-Enter-clause-carries g c = rw (c.in-Enter.is, c.enter.ensures) (only_carries _ c.args.enlistments.now c.args.managers.now)
 
 pub returns-in-Decide-clause-carries : goal.returns-in-Decide-clause-carries
 returns-in-Decide-clause-carries g c = rw c.in-Decide.is (only_carries _ c.args.enlistments.now c.args.managers.now)

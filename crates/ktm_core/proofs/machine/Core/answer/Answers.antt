@@ -24,25 +24,25 @@ pub settle-requires-clause-may : goal.settle-requires-clause-may
 settle-requires-clause-may g c =
     let a = c.args.self.now.memory in
     let o = decided (present_of a) c.args.asked in
-    let decides = c.in_ok-decision.ensures.ok in
+    let decides = c.in_ok-reply.ensures.ok in
     decides.may
 
 pub settle-requires-clause-told : goal.settle-requires-clause-told
 settle-requires-clause-told g c =
     let a = c.args.self.now.memory in
     let o = decided (present_of a) c.args.asked in
-    let decides = c.in_ok-decision.ensures.ok in
+    let decides = c.in_ok-reply.ensures.ok in
     let well = asked_well c.law_of_standing.ensures c.law_of_slots.ensures c.law_of_frames.ensures c.law_of_lawful_worlds.ensures c.law_of_debts.ensures (core_of a c.args.self.now.store) c.decide.new.memory.tm.slots _ _ c.args.asked c.requires.ready
-    c.requires.counts c.requires.asked c.in_ok-decision.ensures.slots in
+    c.requires.counts c.requires.asked c.in_ok-reply.ensures.slots in
     may_tell _ _ a o _ _ _ _ decides well c.decide.new.memory (itself c.decide.new.memory)
 
 pub make_room-requires-clause-standing : goal.make_room-requires-clause-standing
 make_room-requires-clause-standing g c =
     let a = c.args.self.now.memory in
     let o = decided (present_of a) c.args.asked in
-    let decides = c.in_ok-decision.ensures.ok in
+    let decides = c.in_ok-reply.ensures.ok in
     let well = asked_well c.law_of_standing.ensures c.law_of_slots.ensures c.law_of_frames.ensures c.law_of_lawful_worlds.ensures c.law_of_debts.ensures (core_of a c.args.self.now.store) c.decide.new.memory.tm.slots _ _ c.args.asked c.requires.ready
-    c.requires.counts c.requires.asked c.in_ok-decision.ensures.slots in
+    c.requires.counts c.requires.asked c.in_ok-reply.ensures.slots in
     let none = none_by _ _ a o _ _ _ _ decides well c.is_empty.result (c.is_empty.ensures.events _ decides.records.holds) c.if-is_empty.true in
     stands_alone _ _ a o _ _ _ _ decides well none c.law_of_contents.ensures c.law_of_kept.ensures c.settle.new.self c.settle.ensures.settles c.settle.ensures.journal
 
@@ -50,11 +50,11 @@ pub returns-then-is_empty-clause-leaves : goal.returns-then-is_empty-clause-leav
 returns-then-is_empty-clause-leaves g c =
     let a = c.args.self.now.memory in
     let o = decided (present_of a) c.args.asked in
-    let decides = c.in_ok-decision.ensures.ok in
+    let decides = c.in_ok-reply.ensures.ok in
     let well = asked_well c.law_of_standing.ensures c.law_of_slots.ensures c.law_of_frames.ensures c.law_of_lawful_worlds.ensures c.law_of_debts.ensures (core_of a c.args.self.now.store) c.decide.new.memory.tm.slots _ _ c.args.asked c.requires.ready
-    c.requires.counts c.requires.asked c.in_ok-decision.ensures.slots in
+    c.requires.counts c.requires.asked c.in_ok-reply.ensures.slots in
     let none = none_by _ _ a o _ _ _ _ decides well c.is_empty.result (c.is_empty.ensures.events _ decides.records.holds) c.if-is_empty.true in
-    let sound = sound_outcome (held a) c.args.asked o (files_of c.decide.new.memory.files) c.requires.sound c.in_ok-decision.ensures.rules in
+    let sound = sound_outcome (held a) c.args.asked o (files_of c.decide.new.memory.files) c.requires.sound c.in_ok-reply.ensures.rules in
     answered_alone _ _ a o _ _ _ _ decides well none c.law_of_contents.ensures c.law_of_kept.ensures c.settle.new.self c.settle.ensures.settles c.settle.ensures.journal (g.D.Disk.told c.args.disk.now) (g.D.Disk.status c.args.disk.now) c.args.self.now.store
     c.requires.ready.powered c.requires.up _ (on c.make_room.new.memory (g.D.Disk.told c.make_room.new.disk) (g.D.Disk.status c.make_room.new.disk)) sound (rw (c.may_rise-rises.ensures, c.owes_more-owing.ensures) at c.in_default.ensures.leaves)
 
@@ -62,11 +62,11 @@ pub returns-in-Err-clause-leaves : goal.returns-in-Err-clause-leaves
 returns-in-Err-clause-leaves g c =
     let a = c.args.self.now.memory in
     let o = decided (present_of a) c.args.asked in
-    let decides = c.in_ok-decision.ensures.ok in
+    let decides = c.in_ok-reply.ensures.ok in
     let well = asked_well c.law_of_standing.ensures c.law_of_slots.ensures c.law_of_frames.ensures c.law_of_lawful_worlds.ensures c.law_of_debts.ensures (core_of a c.args.self.now.store) c.decide.new.memory.tm.slots _ _ c.args.asked c.requires.ready
-    c.requires.counts c.requires.asked c.in_ok-decision.ensures.slots in
+    c.requires.counts c.requires.asked c.in_ok-reply.ensures.slots in
     let none = none_by _ _ a o _ _ _ _ decides well c.is_empty.result (c.is_empty.ensures.events _ decides.records.holds) c.if-is_empty.true in
-    let sound = sound_outcome (held a) c.args.asked o (files_of c.decide.new.memory.files) c.requires.sound c.in_ok-decision.ensures.rules in
+    let sound = sound_outcome (held a) c.args.asked o (files_of c.decide.new.memory.files) c.requires.sound c.in_ok-reply.ensures.rules in
     rw c.fall.ensures.says
     (down_alone _ _ a o _ _ _ _ decides well none c.law_of_contents.ensures c.law_of_kept.ensures c.settle.new.self c.settle.ensures.settles c.settle.ensures.journal (g.D.Disk.told c.args.disk.now) (g.D.Disk.status c.args.disk.now) c.args.self.now.store
     c.requires.ready.powered c.requires.up _ (on c.make_room.new.memory (g.D.Disk.told c.make_room.new.disk) (g.D.Disk.status c.make_room.new.disk)) c.fall.new.memory sound (rw (c.may_rise-rises.ensures, c.owes_more-owing.ensures) at c.in-Err.ensures.leaves)
@@ -74,46 +74,46 @@ returns-in-Err-clause-leaves g c =
 
 pub returns-then-is_empty-clause-rules : goal.returns-then-is_empty-clause-rules
 returns-then-is_empty-clause-rules g c = λ rule none files puts. (
-    let both = c.in_ok-decision.ensures.rules rule none files puts in
+    let both = c.in_ok-reply.ensures.rules rule none files puts in
     let n = c.decide.new.memory in
     let same = room_files _ (on c.settle.new.self (g.D.Disk.told c.args.disk.now) (g.D.Disk.status c.args.disk.now)) (on c.make_room.new.memory (g.D.Disk.told c.make_room.new.disk) (g.D.Disk.status c.make_room.new.disk)) c.make_room.result c.make_room.ensures.leaves in
     subst (λ (f : FilesHeld). EachOfFiles (Follows rule) (files_of f)) (sym same)
-    (settled_rules n n c.settle.new.self c.in_ok-decision.decision.settlement (decided (present_of c.args.self.now.memory) c.args.asked) (itself n) c.in_ok-decision.ensures.ok.group c.settle.ensures.rules rule none both.1 both.0))
+    (settled_rules n n c.settle.new.self c.decide.new.settlement (decided (present_of c.args.self.now.memory) c.args.asked) (itself n) c.in_ok-reply.ensures.ok.group c.settle.ensures.rules rule none both.1 both.0))
 
 pub returns-in-Err-clause-rules : goal.returns-in-Err-clause-rules
 returns-in-Err-clause-rules g c = λ rule none files puts. (
-    let both = c.in_ok-decision.ensures.rules rule none files puts in
+    let both = c.in_ok-reply.ensures.rules rule none files puts in
     let n = c.decide.new.memory in
     let same = room_files _ (on c.settle.new.self (g.D.Disk.told c.args.disk.now) (g.D.Disk.status c.args.disk.now)) (on c.make_room.new.memory (g.D.Disk.told c.make_room.new.disk) (g.D.Disk.status c.make_room.new.disk)) c.make_room.result c.make_room.ensures.leaves in
     subst (λ (f : FilesHeld). EachOfFiles (Follows rule) (files_of f)) (sym (ap (λ (b : MemoryState). b.files) c.fall.ensures.falls ∙ same))
-    (settled_rules n n c.settle.new.self c.in_ok-decision.decision.settlement (decided (present_of c.args.self.now.memory) c.args.asked) (itself n) c.in_ok-decision.ensures.ok.group c.settle.ensures.rules rule none both.1 both.0))
+    (settled_rules n n c.settle.new.self c.decide.new.settlement (decided (present_of c.args.self.now.memory) c.args.asked) (itself n) c.in_ok-reply.ensures.ok.group c.settle.ensures.rules rule none both.1 both.0))
 
 -- ---- one that records something
 
 pub put-requires-clause-headed : goal.put-requires-clause-headed
-put-requires-clause-headed g c = subst (λ (j : JournalState). IfSome (g.D.Disk.told c.args.disk.now) (λ s. IsHeaded j.units j.image j.selector s.seen)) (sym c.in_ok-decision.ensures.ok.journal) (c.requires.ready.powered.image c.requires.up)
+put-requires-clause-headed g c = subst (λ (j : JournalState). IfSome (g.D.Disk.told c.args.disk.now) (λ s. IsHeaded j.units j.image j.selector s.seen)) (sym c.in_ok-reply.ensures.ok.journal) (c.requires.ready.powered.image c.requires.up)
 
 pub put-requires-clause-may : goal.put-requires-clause-may
 put-requires-clause-may g c =
     let a = c.args.self.now.memory in
     let o = decided (present_of a) c.args.asked in
-    let decides = c.in_ok-decision.ensures.ok in
+    let decides = c.in_ok-reply.ensures.ok in
     let well = asked_well c.law_of_standing.ensures c.law_of_slots.ensures c.law_of_frames.ensures c.law_of_lawful_worlds.ensures c.law_of_debts.ensures (core_of a c.args.self.now.store) c.decide.new.memory.tm.slots _ _ c.args.asked c.requires.ready
-    c.requires.counts c.requires.asked c.in_ok-decision.ensures.slots in
+    c.requires.counts c.requires.asked c.in_ok-reply.ensures.slots in
     let some = some_by _ _ a o _ _ _ _ decides well c.is_empty.result (c.is_empty.ensures.events _ decides.records.holds) c.if-is_empty.false in
-    let sound = sound_outcome (held a) c.args.asked o (files_of c.decide.new.memory.files) c.requires.sound c.in_ok-decision.ensures.rules in (
+    let sound = sound_outcome (held a) c.args.asked o (files_of c.decide.new.memory.files) c.requires.sound c.in_ok-reply.ensures.rules in (
       raw _ _ a o _ _ _ _ decides well,
       subst (λ (group : Group). MayRecord c.decide.new.memory c.decide.new.events (raw _ _ a o _ _ _ _ decides well) group) (sym decides.group) (may_record _ _ a o _ _ _ _ decides well c.law_of_records.ensures sound some),
     )
 
 pub put-requires-clause-most : goal.put-requires-clause-most
-put-requires-clause-most g c = omega (arith, c.requires.roomy.most, ap (λ (j : JournalState). j.units) c.in_ok-decision.ensures.ok.journal)
+put-requires-clause-most g c = omega (arith, c.requires.roomy.most, ap (λ (j : JournalState). j.units) c.in_ok-reply.ensures.ok.journal)
 
 pub put-requires-clause-room : goal.put-requires-clause-room
-put-requires-clause-room g c = omega (arith, c.requires.room, ap (λ (j : JournalState). area_len j.units) c.in_ok-decision.ensures.ok.journal)
+put-requires-clause-room g c = omega (arith, c.requires.room, ap (λ (j : JournalState). area_len j.units) c.in_ok-reply.ensures.ok.journal)
 
 pub put-requires-clause-pages : goal.put-requires-clause-pages
-put-requires-clause-pages g c = c.requires.pages ∙ sym (ap (λ (j : JournalState). page_count j.units) c.in_ok-decision.ensures.ok.journal)
+put-requires-clause-pages g c = c.requires.pages ∙ sym (ap (λ (j : JournalState). page_count j.units) c.in_ok-reply.ensures.ok.journal)
 
 pub put-requires-clause-none : goal.put-requires-clause-none
 put-requires-clause-none g c = c.requires.ready.powered.wanted c.requires.up
@@ -122,38 +122,38 @@ pub put-requires-clause-files : goal.put-requires-clause-files
 put-requires-clause-files g c =
     let a = c.args.self.now.memory in
     subst (λ n. FilesLieBelow n (files_of c.decide.new.memory.files)) (sym c.requires.pages)
-    (files_below (held a) c.args.asked (decided (present_of a) c.args.asked) (files_of c.decide.new.memory.files) c.requires.sound c.in_ok-decision.ensures.rules)
+    (files_below (held a) c.args.asked (decided (present_of a) c.args.asked) (files_of c.decide.new.memory.files) c.requires.sound c.in_ok-reply.ensures.rules)
 
 pub put-requires-clause-puts : goal.put-requires-clause-puts
-put-requires-clause-puts g c = c.in_ok-decision.ensures.ok.puts
+put-requires-clause-puts g c = c.in_ok-reply.ensures.ok.puts
 
 pub settle-requires-2-clause-may : goal.settle-requires-2-clause-may
 settle-requires-2-clause-may g c =
     let a = c.args.self.now.memory in
     let o = decided (present_of a) c.args.asked in
-    let decides = c.in_ok-decision.ensures.ok in
+    let decides = c.in_ok-reply.ensures.ok in
     let well = asked_well c.law_of_standing.ensures c.law_of_slots.ensures c.law_of_frames.ensures c.law_of_lawful_worlds.ensures c.law_of_debts.ensures (core_of a c.args.self.now.store) c.decide.new.memory.tm.slots _ _ c.args.asked c.requires.ready
-    c.requires.counts c.requires.asked c.in_ok-decision.ensures.slots in
+    c.requires.counts c.requires.asked c.in_ok-reply.ensures.slots in
     may_settle _ _ a o _ _ _ _ decides well c.put.new.memory c.in_default-put.ensures.leaves.same
 
 pub settle-requires-2-clause-told : goal.settle-requires-2-clause-told
 settle-requires-2-clause-told g c =
     let a = c.args.self.now.memory in
     let o = decided (present_of a) c.args.asked in
-    let decides = c.in_ok-decision.ensures.ok in
+    let decides = c.in_ok-reply.ensures.ok in
     let well = asked_well c.law_of_standing.ensures c.law_of_slots.ensures c.law_of_frames.ensures c.law_of_lawful_worlds.ensures c.law_of_debts.ensures (core_of a c.args.self.now.store) c.decide.new.memory.tm.slots _ _ c.args.asked c.requires.ready
-    c.requires.counts c.requires.asked c.in_ok-decision.ensures.slots in
+    c.requires.counts c.requires.asked c.in_ok-reply.ensures.slots in
     may_tell _ _ a o _ _ _ _ decides well c.put.new.memory c.in_default-put.ensures.leaves.same
 
 pub returns-clause-leaves : goal.returns-clause-leaves
 returns-clause-leaves g c =
     let a = c.args.self.now.memory in
     let o = decided (present_of a) c.args.asked in
-    let decides = c.in_ok-decision.ensures.ok in
+    let decides = c.in_ok-reply.ensures.ok in
     let well = asked_well c.law_of_standing.ensures c.law_of_slots.ensures c.law_of_frames.ensures c.law_of_lawful_worlds.ensures c.law_of_debts.ensures (core_of a c.args.self.now.store) c.decide.new.memory.tm.slots _ _ c.args.asked c.requires.ready
-    c.requires.counts c.requires.asked c.in_ok-decision.ensures.slots in
+    c.requires.counts c.requires.asked c.in_ok-reply.ensures.slots in
     let some = some_by _ _ a o _ _ _ _ decides well c.is_empty.result (c.is_empty.ensures.events _ decides.records.holds) c.if-is_empty.false in
-    let sound = sound_outcome (held a) c.args.asked o (files_of c.decide.new.memory.files) c.requires.sound c.in_ok-decision.ensures.rules in
+    let sound = sound_outcome (held a) c.args.asked o (files_of c.decide.new.memory.files) c.requires.sound c.in_ok-reply.ensures.rules in
     let put = subst
     (λ (group : Group). IsPut c.room_beside-beside.result c.decide.new.events group (kept_on c.decide.new.memory c.args.self.now.store (g.D.Disk.told c.args.disk.now) (g.D.Disk.status c.args.disk.now)) (kept_on c.put.new.memory c.put.new.store (g.D.Disk.told c.put.new.disk) (g.D.Disk.status c.put.new.disk)))
     decides.group c.in_default-put.ensures.leaves in
@@ -164,11 +164,11 @@ pub returns-in-Err-put-clause-leaves : goal.returns-in-Err-put-clause-leaves
 returns-in-Err-put-clause-leaves g c =
     let a = c.args.self.now.memory in
     let o = decided (present_of a) c.args.asked in
-    let decides = c.in_ok-decision.ensures.ok in
+    let decides = c.in_ok-reply.ensures.ok in
     let well = asked_well c.law_of_standing.ensures c.law_of_slots.ensures c.law_of_frames.ensures c.law_of_lawful_worlds.ensures c.law_of_debts.ensures (core_of a c.args.self.now.store) c.decide.new.memory.tm.slots _ _ c.args.asked c.requires.ready
-    c.requires.counts c.requires.asked c.in_ok-decision.ensures.slots in
+    c.requires.counts c.requires.asked c.in_ok-reply.ensures.slots in
     let some = some_by _ _ a o _ _ _ _ decides well c.is_empty.result (c.is_empty.ensures.events _ decides.records.holds) c.if-is_empty.false in
-    let sound = sound_outcome (held a) c.args.asked o (files_of c.decide.new.memory.files) c.requires.sound c.in_ok-decision.ensures.rules in
+    let sound = sound_outcome (held a) c.args.asked o (files_of c.decide.new.memory.files) c.requires.sound c.in_ok-reply.ensures.rules in
     let left = subst
     (λ (group : Group). IsNotPut c.room_beside-beside.result c.decide.new.events group (kept_on c.decide.new.memory c.args.self.now.store (g.D.Disk.told c.args.disk.now) (g.D.Disk.status c.args.disk.now)) (kept_on c.put.new.memory c.put.new.store (g.D.Disk.told c.put.new.disk) (g.D.Disk.status c.put.new.disk)))
     decides.group c.in-Err-put.ensures.leaves in
@@ -178,11 +178,11 @@ returns-in-Err-put-clause-leaves g c =
 
 pub returns-clause-rules : goal.returns-clause-rules
 returns-clause-rules g c = λ rule none files puts. (
-    let both = c.in_ok-decision.ensures.rules rule none files puts in
-    settled_rules c.decide.new.memory c.put.new.memory c.settle-2.new.self c.in_ok-decision.decision.settlement (decided (present_of c.args.self.now.memory) c.args.asked) c.in_default-put.ensures.leaves.same c.in_ok-decision.ensures.ok.group
+    let both = c.in_ok-reply.ensures.rules rule none files puts in
+    settled_rules c.decide.new.memory c.put.new.memory c.settle-2.new.self c.decide.new.settlement (decided (present_of c.args.self.now.memory) c.args.asked) c.in_default-put.ensures.leaves.same c.in_ok-reply.ensures.ok.group
     c.settle-2.ensures.rules rule none both.1 both.0)
 
 pub returns-in-Err-put-clause-rules : goal.returns-in-Err-put-clause-rules
 returns-in-Err-put-clause-rules g c = λ rule none files puts. (
-    let both = c.in_ok-decision.ensures.rules rule none files puts in
+    let both = c.in_ok-reply.ensures.rules rule none files puts in
     subst (λ (b : MemoryState). EachOfFiles (Follows rule) (files_of b.files)) (sym (c.fall-in-Err-put.ensures.falls ∙ ap (λ (b : MemoryState). record b { is_up = false }) c.in-Err-put.ensures.leaves.same.is)) both.1)

@@ -27,6 +27,15 @@ use Rattle.txf_volume.specs.Held.{FilesHeld, files_of}
 use Rattle.ktm_memory.proofs.memory.Memory.carry_out.Goals as goal
 use Rattle.ktm_memory.proofs.memory.Memory.carry_out.Goals.{then-records_files, else-records_files}
 
+pub carry_uncounted-requires-clause-there : goal.carry_uncounted-requires-clause-there
+carry_uncounted-requires-clause-there c =
+    let tm : c.if-records_files.self-inside.tm ≡ c.self.inside.tm =
+    elim c.if-records_files.branch [ then-records_files w ↦ ap (λ (s : Inside). s.tm) w.self-inside-is | else-records_files w ↦ ap (λ (s : Inside). s.tm) w.self-inside-is ] in
+    ap (λ (n : TmState). transaction_at n.now.items c.args.t.id) tm ∙ ap (λ (m : MemoryState). transaction_at m.tm.now.items c.args.t.id) c.self.view_is ∙ c.requires.may.there
+
+pub carry_uncounted-requires-clause-live : goal.carry_uncounted-requires-clause-live
+carry_uncounted-requires-clause-live c = c.requires.may.live
+
 pub carry_uncounted-requires-clause-slots : goal.carry_uncounted-requires-clause-slots
 carry_uncounted-requires-clause-slots c = λ d is.
     let m = the_view c.self.inside in

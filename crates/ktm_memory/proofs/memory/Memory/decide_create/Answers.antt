@@ -22,7 +22,7 @@ returns-then-is_full-clause-ok c = λ events holds.
     ] in
     let full = ap (λ m. no_handle_left m.handles.handles || no_transaction_left m.tm.now) (sym c.self.view_is) ∙ passed in
     let x = present_of c.args.self.now in
-    rw (c.only.ensures.reply, c.only.ensures.settlement) (only_decided c.args.self.now _ (Refused NotEnoughQuota) events
+    rw c.requires.nothing (only_decided c.args.self.now _ (Refused NotEnoughQuota) events
     (test_refuses x _ NotEnoughQuota [] (create_transaction x c.args.process c.args.label c.args.timeout) full) holds)
 
 pub returns-clause-ok : goal.returns-clause-ok

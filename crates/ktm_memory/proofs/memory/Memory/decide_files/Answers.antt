@@ -20,7 +20,7 @@ use Rattle.txf_tree.specs.UnitChanges.{CanBeMadeOver}
 use Rattle.ktm_world.specs.Outcome.{only_reply}
 use Rattle.txf_laws.specs.FileEffects.{IsOrderly}
 use Rattle.txf_volume.specs.Held.{files_of}
-use Rattle.ktm_memory.specs.declared.settlement.Decision.{Decision}
+use Rattle.ktm_world.specs.declared.reply.Reply.{Reply}
 use Rattle.ktm_memory.specs.Decided.{CanAnswer, Decides}
 use Rattle.ktm_memory.specs.Memory.{held, present_of}
 use Rattle.ktm_memory.specs.Opening.{files_outcome}
@@ -55,9 +55,9 @@ returns-then-changes_nothing-clause-ok c =
     let x = present_of c.args.self.now in
     let plan = planned (held c.args.self.now) _ _ c.args.who c.args.call c.in_ok-plan.plan c.in_ok-plan.ensures.plan c.file_room-room.ensures (ap (λ m. files_of m.files) c.self.view_is) in
     let quiet = quiet_outcome x c.args.process c.args.who c.args.label c.in_ok-plan.plan (sym c.changes_nothing.ensures ∙ c.if-changes_nothing.true) in
-    let reply = c.only.ensures.reply ∙ ap (λ (p : FileOutcome). p.reply) c.plan.view_is in
-    rw c.only.ensures.settlement
-    (only_decided c.args.self.now _ c.only.result.reply c.args.events.now
+    let reply = ap (λ (p : FileOutcome). p.reply) c.plan.view_is in
+    rw c.requires.nothing
+    (only_decided c.args.self.now _ c.plan.inside.reply c.args.events.now
     (ap (files_outcome x c.args.process c.args.who c.args.label) (sym plan) ∙ quiet ∙ ap (only_reply x) (sym reply)) c.requires.empty)
 
 pub decide_plain-requires-clause-may : goal.decide_plain-requires-clause-may
@@ -98,7 +98,7 @@ returns-in-Some-clause-rules c =
     let x = present_of c.args.self.now in
     let plan = planned (held c.args.self.now) _ _ c.args.who c.args.call c.in_ok-plan.plan c.in_ok-plan.ensures.plan c.file_room-room.ensures (ap (λ m. files_of m.files) c.self.view_is) in
     IfOk-weaker c.decide_own.result (λ d. files_of c.decide_own.new.self.files ≡ files_after (files_of c.args.self.now.files) (Some c.in-Some.id) c.in_ok-plan.plan) _
-    (λ (d : Decision) so rule none each puts. (
+    (λ (reply : Reply) so rule none each puts. (
       call_events rule x c.args.process c.args.who c.args.label c.args.call puts,
       subst (EachOfFiles (Follows rule)) (sym so)
           (files_after-each (Follows rule) none (files_of c.args.self.now.files) (Some c.in-Some.id) c.in_ok-plan.plan each
@@ -109,8 +109,8 @@ returns-in-Some-clause-rules c =
 pub returns-in-None-clause-rules : goal.returns-in-None-clause-rules
 returns-in-None-clause-rules c =
     let x = present_of c.args.self.now in
-    ok_all (λ (d : Decision). KeepsRules (λ rule. CallPutsBy rule c.args.call) (files_of c.args.self.now.files) (files_outcome x c.args.process c.args.who c.args.label (file_outcome x.files (file_room x) c.args.who c.args.call)).events (files_of c.decide_plain.new.self.files))
-    (λ d rule none each puts. (call_events rule x c.args.process c.args.who c.args.label c.args.call puts, subst (EachOfFiles (Follows rule)) (sym c.decide_plain.ensures.files) each)) c.decide_plain.result
+    ok_all (λ (reply : Reply). KeepsRules (λ rule. CallPutsBy rule c.args.call) (files_of c.args.self.now.files) (files_outcome x c.args.process c.args.who c.args.label (file_outcome x.files (file_room x) c.args.who c.args.call)).events (files_of c.decide_plain.new.self.files))
+    (λ reply rule none each puts. (call_events rule x c.args.process c.args.who c.args.label c.args.call puts, subst (EachOfFiles (Follows rule)) (sym c.decide_plain.ensures.files) each)) c.decide_plain.result
 
 pub decide_plain-requires-clause-answers : goal.decide_plain-requires-clause-answers
 decide_plain-requires-clause-answers c =
@@ -133,9 +133,9 @@ returns-in-Some-clause-ok c =
     let x = present_of c.args.self.now in
     let plan = planned (held c.args.self.now) _ _ c.args.who c.args.call c.in_ok-plan.plan c.in_ok-plan.ensures.plan c.file_room-room.ensures (ap (λ m. files_of m.files) c.self.view_is) in
     IfOk-weaker c.decide_own.result _ _
-    (λ (d : Decision) so.
-    subst (λ o. Decides (held c.args.self.now) (files_outcome x c.args.process c.args.who c.args.label o) d.reply d.settlement c.args.events.now c.decide_own.new.self) plan
-    (subst (λ who. Decides (held c.args.self.now) (files_outcome x c.args.process who c.args.label c.in_ok-plan.plan) d.reply d.settlement c.args.events.now c.decide_own.new.self) (sym c.in-Some.is)
+    (λ (reply : Reply) so.
+    subst (λ o. Decides (held c.args.self.now) (files_outcome x c.args.process c.args.who c.args.label o) reply c.decide_own.new.settlement c.args.events.now c.decide_own.new.self) plan
+    (subst (λ who. Decides (held c.args.self.now) (files_outcome x c.args.process who c.args.label c.in_ok-plan.plan) reply c.decide_own.new.settlement c.args.events.now c.decide_own.new.self) (sym c.in-Some.is)
     (so c.args.events.now c.requires.empty)))
     c.decide_own.ensures.ok
 

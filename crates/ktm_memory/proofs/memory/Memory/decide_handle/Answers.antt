@@ -14,7 +14,7 @@ pub returns-then-is_full-clause-ok : goal.returns-then-is_full-clause-ok
 returns-then-is_full-clause-ok c = λ events holds.
     let x = present_of c.args.self.now in
     let full = ap (λ m. no_handle_left m.handles.handles) (sym c.self.view_is) ∙ sym c.is_full.ensures ∙ c.if-is_full.true in
-    rw (c.only.ensures.reply, c.only.ensures.settlement) (only_decided c.args.self.now _ (Refused NotEnoughQuota) events
+    rw c.requires.nothing (only_decided c.args.self.now _ (Refused NotEnoughQuota) events
     (test_refuses x _ NotEnoughQuota [] (labels_outcome x c.args.process c.args.labels) full) holds)
 
 pub returns-clause-ok : goal.returns-clause-ok
@@ -23,9 +23,8 @@ returns-clause-ok c = λ events holds.
     let handles = ap (λ m. no_handle_left m.handles.handles) (sym c.self.view_is) ∙ sym c.is_full.ensures ∙ c.if-is_full.false in
     let n : MemoryState = record { is_up = c.self.inside.is_up; journal = c.self.inside.journal; handles = c.reserve.new.self; tm = c.self.inside.tm; trace = c.self.inside.trace; files = c.self.inside.files; next_node = c.self.inside.next_node; keys = c.self.inside.keys } in
     let same = (rw c.in_ok-reserve.ensures.handles refl) ∙ ap held c.self.view_is in
-    rw (c.done.ensures.reply, c.done.ensures.settlement)
-    (handles_decided (held c.args.self.now) n c.args.process c.args.labels events c.requires.done same (c.requires.may n same c.in_ok-reserve.ensures.room) holds _
-    (test_passes x _ NotEnoughQuota [] (labels_outcome x c.args.process c.args.labels) handles))
+    handles_decided (held c.args.self.now) n c.args.process c.args.labels events c.requires.done same (c.requires.may n same c.in_ok-reserve.ensures.room) holds _
+    (test_passes x _ NotEnoughQuota [] (labels_outcome x c.args.process c.args.labels) handles)
 
 pub returns-in_err-reserve-clause-enough : goal.returns-in_err-reserve-clause-enough
 returns-in_err-reserve-clause-enough c = λ none.

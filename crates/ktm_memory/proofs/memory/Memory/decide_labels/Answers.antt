@@ -22,5 +22,5 @@ returns-in-Unbind-clause-ok c = λ events holds.
       | inl unbind ↦ rw unbind.1 (tt, refl)
       | inr all ↦ rw all (tt, refl)
     ] in
-    rw (c.done.ensures.reply, c.done.ensures.settlement, quiet.1)
+    rw quiet.1
     (handles_decided (held c.args.self.now) c.args.self.now c.args.process c.args.labels events (labels_done x c.args.process c.args.labels (kept x c.requires.standing).sound.course) refl quiet.0 holds _ refl)

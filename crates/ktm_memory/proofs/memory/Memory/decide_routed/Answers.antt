@@ -43,7 +43,7 @@ returns-in-Course-clause-ok c = rw c.in-Course.is (c.decide_course.ensures.decid
 pub returns-in-Information-clause-ok : goal.returns-in-Information-clause-ok
 returns-in-Information-clause-ok c =
     let x = present_of c.args.self.now in
-    rw (c.in-Information.is, c.only.ensures.reply, c.only.ensures.settlement)
+    rw (c.in-Information.is, c.requires.nothing)
     (only_decided c.args.self.now (get_transaction_information x (Some c.in-Information.t)) _ c.args.events.now
     (information_is x c.in-Information.t _ c.information.ensures) c.requires.empty)
 
@@ -57,16 +57,16 @@ pub returns-in-Enlist-clause-ok : goal.returns-in-Enlist-clause-ok
 returns-in-Enlist-clause-ok c = rw c.in-Enlist.is (with_list _ c.args.events.now c.requires.empty c.decide_enlistment.result c.decide_enlistment.ensures.ok)
 
 pub returns-in-Inform-clause-ok : goal.returns-in-Inform-clause-ok
-returns-in-Inform-clause-ok c = rw (c.in-Inform.is, c.done.ensures.reply, c.done.ensures.settlement) (inform_decided c.args.self.now c.in-Inform.enlistment c.in-Inform.information c.args.events.now c.requires.empty)
+returns-in-Inform-clause-ok c = rw c.in-Inform.is (inform_decided c.args.self.now c.in-Inform.enlistment c.in-Inform.information c.args.events.now c.requires.empty)
 
 pub returns-in-Tell-clause-ok : goal.returns-in-Tell-clause-ok
-returns-in-Tell-clause-ok c = rw c.in-Tell.is (with_process _ c.args.events.now c.args.process c.requires.empty c.decide_told.result c.decide_told.ensures)
+returns-in-Tell-clause-ok c = rw (c.in-Tell.is, c.requires.nothing) (with_process _ c.args.events.now c.args.process c.requires.empty c.decide_told.result c.decide_told.ensures)
 
 pub returns-in-Handles-clause-ok : goal.returns-in-Handles-clause-ok
 returns-in-Handles-clause-ok c = rw c.in-Handles.is (with_list _ c.args.events.now c.requires.empty c.decide_labels.result c.decide_labels.ensures.ok)
 
 pub returns-in-Keys-clause-ok : goal.returns-in-Keys-clause-ok
-returns-in-Keys-clause-ok c = rw c.in-Keys.is (with_list _ c.args.events.now c.requires.empty c.decide_keys.result c.decide_keys.ensures.ok)
+returns-in-Keys-clause-ok c = rw (c.in-Keys.is, c.requires.nothing) (with_list _ c.args.events.now c.requires.empty c.decide_keys.result c.decide_keys.ensures.ok)
 
 pub returns-in-Create-clause-enough : goal.returns-in-Create-clause-enough
 returns-in-Create-clause-enough c = rw c.in-Create.is c.decide_create.ensures.enough

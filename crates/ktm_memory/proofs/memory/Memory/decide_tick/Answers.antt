@@ -36,9 +36,8 @@ pub returns-clause-decided : goal.returns-clause-decided
 returns-clause-decided c =
     let x = present_of c.args.self.now in
     let undoes = ap (λ m. undone m c.args.ms) c.self.view_is ∙ tick_undoes x c.args.ms (kept x c.requires.standing).sound.course in
-    rw (c.done.ensures.reply, c.done.ensures.settlement)
-    (tick_decided c.args.self.now c.args.ms c.record_undone.new.events c.requires.standing
-    (bare_record x.recorded c.record_undone.new.events (tick x c.args.ms).events (tick_bare x c.args.ms (kept x c.requires.standing).sound.course) (subst (Holds c.record_undone.new.events) undoes c.record_undone.ensures.holds)))
+    tick_decided c.args.self.now c.args.ms c.record_undone.new.events c.requires.standing
+    (bare_record x.recorded c.record_undone.new.events (tick x c.args.ms).events (tick_bare x c.args.ms (kept x c.requires.standing).sound.course) (subst (Holds c.record_undone.new.events) undoes c.record_undone.ensures.holds))
 
 pub returns-clause-rules : goal.returns-clause-rules
 returns-clause-rules c = λ rule none each puts.

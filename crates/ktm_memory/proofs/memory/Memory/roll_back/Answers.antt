@@ -17,6 +17,7 @@ pub carry_out-requires-clause-may : goal.carry_out-requires-clause-may
 carry_out-requires-clause-may c =
     subst (λ (steps : List Step). CanGoOn c.args.self.now c.args.t None steps) (sym (c.as_slice.ensures.value ∙ c.step-steps.ensures.row)) (record {
       there = c.requires.there;
+      live = c.requires.live;
       leads = λ x shows. row_leads x c.args.t None PhaseInput.Rollback;
       few = λ some. absurd (omega (arith, some));
       noted = omega arith;

@@ -1,16 +1,20 @@
 use Rattle.std.proofs.Common.{None, ap, sym, ◌∙◌}
+use Rattle.ktm_world.specs.declared.object.Phase.{Phase}
 use Rattle.ktm_world.specs.declared.reply.Reply.TheVariants.{Done}
 use Rattle.ktm_standing.proofs.offered.Found.{found_again}
 use Rattle.ktm_world.specs.HandleCalls.{abort_active}
 use Rattle.ktm_world.specs.Outcome.{only_reply}
 use Rattle.ktm_world.specs.TransactionCalls.{aborted_by}
-use Rattle.ktm_world.specs.Transactions.{transaction_at}
+use Rattle.ktm_world.specs.Transactions.{is_live, transaction_at}
 use Rattle.ktm_memory.proofs.Behind.{settles-reply, settles-same, told-same}
 use Rattle.ktm_memory.proofs.HandlesLeft.{active-aborts, none-stays, others-stay}
 use Rattle.ktm_memory.proofs.memory.Memory.roll_back_if_active.Goals as goal
 
 pub roll_back-requires-clause-there : goal.roll_back-requires-clause-there
 roll_back-requires-clause-there c = found_again c.args.self.now.tm.now.items c.args.id c.in-Some.t (ap (λ m. transaction_at m.tm.now.items c.args.id) (sym c.self.view_is) ∙ sym c.find.ensures ∙ c.in-Some.is)
+
+pub roll_back-requires-clause-live : goal.roll_back-requires-clause-live
+roll_back-requires-clause-live c = ap (λ (p : Phase). is_live (record c.in-Some.t { phase = p })) c.in-Active.is
 
 pub roll_back-requires-clause-told : goal.roll_back-requires-clause-told
 roll_back-requires-clause-told c =

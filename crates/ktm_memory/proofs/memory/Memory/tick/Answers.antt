@@ -12,7 +12,7 @@ use Rattle.ktm_world.specs.TransactionCalls.{aborted_by, is_due, tick}
 use Rattle.ktm_world.specs.Transactions.{is_live}
 use Rattle.ktm_memory.specs.Memory.{MemoryState, Settles, TellsWithin, present_of}
 use Rattle.ktm_memory.proofs.Behind.{settles-behind, settles-same, shows-held, told-first, told-rest, told-same}
-use Rattle.ktm_memory.proofs.Ticks.{fewer_over, fewer_rolled, from-behind, from-over, from_here, held_rolled, left_from, live_at, looks-from, rolled_few, rolled_rise, settles-over, settles-tick, told-tick}
+use Rattle.ktm_memory.proofs.Ticks.{fewer_over, fewer_rolled, from-behind, from-over, from_here, held_rolled, left_from, live_at, live_if_due, looks-from, rolled_few, rolled_rise, settles-over, settles-tick, told-tick}
 use Rattle.ktm_memory.proofs.memory.Memory.tick.Goals as goal
 
 pub loop-t-init : goal.loop-t-init
@@ -56,6 +56,10 @@ loop-t-smaller c =
 
 pub roll_back-requires-clause-there : goal.roll_back-requires-clause-there
 roll_back-requires-clause-there c = (live_at c.loop-t.self.tm.now.items c.loop-t.place c.in-Some.t c.loop-t.invariant.rise (ap (λ m. slice_get (filter is_live m.tm.now.items) c.loop-t.place) (sym c.self-in-loop-t.view_is) ∙ sym c.live_at.ensures ∙ c.in-Some.is)).found
+
+pub roll_back-requires-clause-live : goal.roll_back-requires-clause-live
+roll_back-requires-clause-live c =
+    live_if_due c.loop-t.self.tm.now.clock c.in-Some.t (ap (λ m. is_due m.tm.now.clock c.in-Some.t) (sym c.self-in-loop-t.view_is) ∙ sym c.is_due.ensures ∙ c.if-is_due.true)
 
 pub roll_back-requires-clause-told : goal.roll_back-requires-clause-told
 roll_back-requires-clause-told c =

@@ -9,10 +9,9 @@ use Rattle.ktm_tm.proofs.tm.Tm.bring_back_enlistment.Goals as goal
 pub invariant_of-self : goal.invariant_of-self
 invariant_of-self c = (
   c.self.invariant.0,
-  c.self.invariant.1,
   rw c.add.ensures.enlistments
-      (back_push (λ (e : Enlistment). e.id) c.self.inside.boot c.self.inside.last_enlistment c.self.inside.enlistments.enlistments _ c.self.invariant.2 (omega (arith, c.requires.earlier, ap (λ (s : TmState). s.boot) c.self.view_is))),
+      (back_push (λ (e : Enlistment). e.id) c.self.inside.transactions.boot c.self.inside.last_enlistment c.self.inside.enlistments.enlistments _ c.self.invariant.1 (omega (arith, c.requires.earlier, ap (λ (s : TmState). s.boot) c.self.view_is))),
   rw c.add.ensures.enlistments
-      (there_push c.self.inside.managers.managers c.self.inside.enlistments.enlistments _ c.self.invariant.3 (subst (λ (s : TmState). is_some (manager_at s.managers c.args.e.manager) ≡ true) (sym c.self.view_is) c.requires.there)),
+      (there_push c.self.inside.managers.managers c.self.inside.enlistments.enlistments _ c.self.invariant.2 (subst (λ (s : TmState). is_some (manager_at s.managers c.args.e.manager) ≡ true) (sym c.self.view_is) c.requires.there)),
   recovered_end _ c.add.new.self.enlistments (ap length c.as_slice.ensures),
 )

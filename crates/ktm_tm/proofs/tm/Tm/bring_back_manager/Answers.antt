@@ -7,9 +7,8 @@ use Rattle.ktm_tm.proofs.tm.Tm.bring_back_manager.Goals as goal
 
 pub invariant_of-self : goal.invariant_of-self
 invariant_of-self c = (
-  c.self.invariant.0,
-  rw c.add.ensures.managers (back_push (λ (m : Manager). m.id) c.self.inside.boot c.self.inside.last_manager c.self.inside.managers.managers _ c.self.invariant.1 (omega (arith, c.requires.earlier, ap (λ (s : TmState). s.boot) c.self.view_is))),
-  c.self.invariant.2,
-  rw c.add.ensures.managers (there_more c.self.inside.managers.managers _ c.self.inside.enlistments.enlistments c.self.invariant.3),
-  c.self.invariant.4,
+  rw c.add.ensures.managers (back_push (λ (m : Manager). m.id) c.self.inside.transactions.boot c.self.inside.last_manager c.self.inside.managers.managers _ c.self.invariant.0 (omega (arith, c.requires.earlier, ap (λ (s : TmState). s.boot) c.self.view_is))),
+  c.self.invariant.1,
+  rw c.add.ensures.managers (there_more c.self.inside.managers.managers _ c.self.inside.enlistments.enlistments c.self.invariant.2),
+  c.self.invariant.3,
 )

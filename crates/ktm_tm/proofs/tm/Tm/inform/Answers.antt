@@ -8,8 +8,7 @@ use Rattle.ktm_tm.proofs.tm.Tm.inform.Goals as goal
 pub invariant_of-self : goal.invariant_of-self
 invariant_of-self c = (
   c.self.invariant.0,
-  c.self.invariant.1,
-  rw c.inform.ensures.enlistments (changed_test (λ id manager. is_before id (id_after c.self.inside.boot c.self.inside.last_enlistment)) (has_id c.args.id) (λ e. record e { information = c.args.information }) record { id = λ e. refl; manager = λ e. refl; recovered = λ e is. is } c.self.inside.enlistments.enlistments ∙ c.self.invariant.2),
-  rw c.inform.ensures.enlistments (changed_test (λ id manager. is_some (manager_at c.self.inside.managers.managers manager)) (has_id c.args.id) (λ e. record e { information = c.args.information }) record { id = λ e. refl; manager = λ e. refl; recovered = λ e is. is } c.self.inside.enlistments.enlistments ∙ c.self.invariant.3),
-  rw c.inform.ensures.enlistments (changed_recovered (has_id c.args.id) (λ e. record e { information = c.args.information }) record { id = λ e. refl; manager = λ e. refl; recovered = λ e is. is } c.self.inside.back_enlistments c.self.inside.enlistments.enlistments c.self.invariant.4),
+  rw c.inform.ensures.enlistments (changed_test (λ id manager. is_before id (id_after c.self.inside.transactions.boot c.self.inside.last_enlistment)) (has_id c.args.id) (λ e. record e { information = c.args.information }) record { id = λ e. refl; manager = λ e. refl; recovered = λ e is. is } c.self.inside.enlistments.enlistments ∙ c.self.invariant.1),
+  rw c.inform.ensures.enlistments (changed_test (λ id manager. is_some (manager_at c.self.inside.managers.managers manager)) (has_id c.args.id) (λ e. record e { information = c.args.information }) record { id = λ e. refl; manager = λ e. refl; recovered = λ e is. is } c.self.inside.enlistments.enlistments ∙ c.self.invariant.2),
+  rw c.inform.ensures.enlistments (changed_recovered (has_id c.args.id) (λ e. record e { information = c.args.information }) record { id = λ e. refl; manager = λ e. refl; recovered = λ e is. is } c.self.inside.back_enlistments c.self.inside.enlistments.enlistments c.self.invariant.3),
 )

@@ -7,9 +7,8 @@ use Rattle.ktm_tm.proofs.tm.Tm.take_note.Goals as goal
 
 pub invariant_of-self : goal.invariant_of-self
 invariant_of-self c = (
-  c.self.invariant.0,
-  rw c.take.ensures.managers (served_before (λ id. is_before id (id_after c.self.inside.boot c.self.inside.last_manager)) (Some c.args.id) [] c.self.inside.managers.managers ∙ c.self.invariant.1),
-  c.self.invariant.2,
-  rw c.take.ensures.managers (there_all (Some c.args.id) [] c.self.inside.managers.managers c.self.inside.enlistments.enlistments ∙ c.self.invariant.3),
-  c.self.invariant.4,
+  rw c.take.ensures.managers (served_before (λ id. is_before id (id_after c.self.inside.transactions.boot c.self.inside.last_manager)) (Some c.args.id) [] c.self.inside.managers.managers ∙ c.self.invariant.0),
+  c.self.invariant.1,
+  rw c.take.ensures.managers (there_all (Some c.args.id) [] c.self.inside.managers.managers c.self.inside.enlistments.enlistments ∙ c.self.invariant.2),
+  c.self.invariant.3,
 )
