@@ -278,7 +278,8 @@ def of_memory(sides, options):
     rows.append(["reads of 1,000 files of 4 KiB", reads_of_files(sides.wattorju, many_files), ""])
     rows += [[name, peak, ""] for name, peak in of_forms(sides.wattorju, options)]
     if options.large:
-        rows.append(["a script of 64 MiB", sides.wattorju.measured(measuring.peak_of_memory, large_script()), ""])
+        for name, script in [("a script of 64 MiB that reads", reads_of_a_key()), ("a script of 64 MiB of transactions", transactions_of_nothing())]:
+            rows.append([name, sides.wattorju.measured(measuring.peak_of_memory, script), ""])
     return Table("memory", "the most memory of a run, in KiB", ["workload", "Wattorju", "SQLite"], rows)
 
 
@@ -306,11 +307,20 @@ def reads_of_files(side, made):
         return side.measured(measuring.peak_of_memory, lines, image)
 
 
-def large_script():
-    """Returns a script of 64 MiB, the longest there may be: a key, and reads of it."""
-    begun = workloads.script(sets(["key"], 64))
-    read = workloads.script([("get", "key")])[0]
-    return [*begun, *[read] * ((64 * 1024 * 1024 - sum(len(it) + 1 for it in begun)) // (len(read) + 1))]
+def repeated(lines, begun=()):
+    """Returns a script of 64 MiB, the longest there may be: these lines again and again."""
+    length = lambda some: sum(len(it) + 1 for it in some)
+    return [*begun, *lines * ((64 * 1024 * 1024 - length(begun)) // length(lines))]
+
+
+def reads_of_a_key():
+    """Returns the longest script that reads a key again and again."""
+    return repeated(workloads.script([("get", "key")]), workloads.script(sets(["key"], 64)))
+
+
+def transactions_of_nothing():
+    """Returns the longest script of transactions that change nothing: nearly a million in one boot."""
+    return repeated(workloads.script([("begin",), ("commit",)]))
 
 
 def medians(side, *how):
