@@ -86,7 +86,7 @@ module _ (completing owing : Bool) (a : MemoryState) (o : Outcome) (reply : Repl
       disk = holds_still;
     }
 
-    alone_answered : debts (apply was o) + 1 ≤ log_left a.journal → IsAnswered completing owing o (on (core_of a t) before s) (on (core_of m t) before s) reply
+    alone_answered : debts (apply was o) + 1 ≤ log_left a.journal → IsAnswered completing owing false o (on (core_of a t) before s) (on (core_of m t) before s) reply
     alone_answered room =
         let on_disk = powered.power up in
         record {
@@ -99,7 +99,7 @@ module _ (completing owing : Bool) (a : MemoryState) (o : Outcome) (reply : Repl
           };
           slots = λ on. slots_alone;
           room = λ on. subst (λ l. debts (present_of m) + 1 ≤ l) (sym (ap log_left journal_is)) (subst (λ (y : Present). debts y + 1 ≤ log_left a.journal) (sym now_is) room);
-          calls = subst (λ b. DeviceCalls (most_calls completing a.journal o.events) s s b) (sym on_disk) (more_calls 0 (most_calls completing a.journal o.events) s s false (omega arith) (no-calls s));
+          calls = subst (λ b. DeviceCalls (most_calls completing false a.journal o.events) s s b) (sym on_disk) (more_calls 0 (most_calls completing false a.journal o.events) s s false (omega arith) (no-calls s));
           untouched = λ nothing. record { told = refl; status = refl };
         }
 
@@ -115,20 +115,20 @@ module _ (completing owing : Bool) (a : MemoryState) (o : Outcome) (reply : Repl
       room_wanted : makes_room owing a.journal ≡ false → ⊥
       room_wanted enough = both_ways (makes_room owing a.journal) enough (ap (λ b. b && lacks_room a.journal []) owing_is ∙ full)
 
-      saved_touches : TouchesNothing owing a.journal o reply → ⊥
+      saved_touches : TouchesNothing owing false a.journal o reply → ⊥
       saved_touches touches = elim touches [
         | inl (refusal, is, other) ↦ both_ways (is_refusal o.reply) no_refusal (ap is_refusal (sym decided.says ∙ is))
-        | inr (no_event, enough) ↦ room_wanted enough
+        | inr (no_event, enough, no_unit) ↦ room_wanted enough
       ]
 
-      cut_touches : TouchesNothing owing a.journal o (Refused MachineDown) → ⊥
+      cut_touches : TouchesNothing owing false a.journal o (Refused MachineDown) → ⊥
       cut_touches touches = elim touches [
         | inl (refusal, is, other) ↦ (let down : refusal ≡ MachineDown = cc in other down)
-        | inr (no_event, enough) ↦ room_wanted enough
+        | inr (no_event, enough, no_unit) ↦ room_wanted enough
       ]
 
-      few_calls : 6 ≤ most_calls completing a.journal o.events
-      few_calls = subst (λ (es : List Event). 6 ≤ most_calls completing a.journal es) (sym none) (rw (well.owes.apart owing_is, full) (omega arith))
+      few_calls : 6 ≤ most_calls completing false a.journal o.events
+      few_calls = subst (λ (es : List Event). 6 ≤ most_calls completing false a.journal es) (sym none) (rw (well.owes.apart owing_is, full) (omega arith))
 
       -- what was recorded is good, and each of its places has its owner
       owned : EachOfDurable (IsSound sound.owner (page_count (present_of m).recorded.units)) (present_of m).recorded
@@ -165,7 +165,7 @@ module _ (completing owing : Bool) (a : MemoryState) (o : Outcome) (reply : Repl
               (subst (λ (y : Present). debts y + 1 ≤ area_len a.journal.units) (sym (ap present_of saved.is ∙ now_is)) (room_empty was o a.journal refl completing owing well.owes))
 
           -- a snapshot of what is recorded stands for what the log held
-          saved_answered : IsAnswered completing owing o (on (core_of a t) before s) (on (core_of new.it t) new.told new.status) reply
+          saved_answered : IsAnswered completing owing false o (on (core_of a t) before s) (on (core_of new.it t) new.told new.status) reply
           saved_answered = record {
             ends = subst (λ b. Ends b (core_of a t) o reply (core_of new.it t) before new.told) (sym saved.compacts.synced.up) saved_done;
             powered = record {
@@ -176,8 +176,8 @@ module _ (completing owing : Bool) (a : MemoryState) (o : Outcome) (reply : Repl
             };
             slots = λ on. subst (λ (b : MemoryState). owed_slots (present_of b) ≤ b.tm.slots) (sym saved.is) slots_alone;
             room = λ on. saved_room;
-            calls = subst (λ b. DeviceCalls (most_calls completing a.journal o.events) s new.status b) (sym saved.compacts.synced.up)
-                (more_calls 6 (most_calls completing a.journal o.events) s new.status false few_calls saved.compacts.synced.calls);
+            calls = subst (λ b. DeviceCalls (most_calls completing false a.journal o.events) s new.status b) (sym saved.compacts.synced.up)
+                (more_calls 6 (most_calls completing false a.journal o.events) s new.status false few_calls saved.compacts.synced.calls);
             untouched = λ nothing. absurd (saved_touches nothing);
           }
 
@@ -206,9 +206,9 @@ module _ (completing owing : Bool) (a : MemoryState) (o : Outcome) (reply : Repl
             disk = half_disk;
           }
 
-          half_answered : IsAnswered completing owing o (on (core_of a t) before s) (on (core_of f t) new.told new.status) (Refused MachineDown)
-          half_answered = down_answered completing owing a f o t t before new.told s new.status (ap (λ (b : MemoryState). b.is_up) falls) half_cut
-              (more_calls 6 (most_calls completing a.journal o.events) s new.status true few_calls half.cut.calls) cut_touches
+          half_answered : IsAnswered completing owing false o (on (core_of a t) before s) (on (core_of f t) new.told new.status) (Refused MachineDown)
+          half_answered = down_answered completing owing false a f o t t before new.told s new.status (ap (λ (b : MemoryState). b.is_up) falls) half_cut
+              (more_calls 6 (most_calls completing false a.journal o.events) s new.status true few_calls half.cut.calls) cut_touches
 
     -- ---- by whether room was made
 
@@ -216,7 +216,7 @@ module _ (completing owing : Bool) (a : MemoryState) (o : Outcome) (reply : Repl
     makes = may_rise owing o.reply && lacks_room m.journal []
 
     abbrev Answered : MemoryState → OnDisk MemoryState → Reply → Type 0
-    Answered f new says = IsAnswered completing owing o (on (core_of a t) before s) (on (core_of f t) new.told new.status) says
+    Answered f new says = IsAnswered completing owing false o (on (core_of a t) before s) (on (core_of f t) new.told new.status) says
 
     made_ok : (b : Bool) (unit : Unit {0}) (new : OnDisk MemoryState) → IsSoundOutcome was o → makes ≡ b → RoomLeaves b (on m before s) new (Ok unit) → Answered new.it new reply
     made_ok true unit new sound is saved = let both = and_parts (may_rise owing o.reply) (lacks_room m.journal []) is in saved_answered both.0 (ap (λ (j : JournalState). lacks_room j []) (sym journal_is) ∙ both.1) sound new saved

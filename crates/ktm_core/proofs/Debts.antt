@@ -83,7 +83,7 @@ module _ (x : Present) (o : Outcome) (j : JournalState) (units : x.recorded.unit
   ]
 
   -- what completes a transaction is recorded without a snapshot
-  pub calls_by : (completing owing : Bool) → OwesWell completing owing x o (log_left j) → put_calls (beside_of completing j.units) j o.events ≤ most_calls completing j o.events
+  pub calls_by : (completing owing : Bool) → OwesWell completing owing x o (log_left j) → put_calls (beside_of completing j.units) j o.events ≤ most_calls completing false j o.events
   calls_by true owing owes =
       let free : lacks_room_beside 0 j o.events ≡ false = le-ltb (log_left j) (frame_of o.events + 0 + 1) (omega (arith, owes.room, owes.completes refl)) in
       rw free (omega arith)

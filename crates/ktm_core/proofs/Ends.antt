@@ -77,10 +77,10 @@ behind_none x o none = by o.events none
     by (e ∷ es) none = absurd (cc)
 
 -- a machine that is down answers so, and asks for nothing more
-pub down_answered : (completing owing : Bool) (a m : MemoryState) (o : Outcome) (t u : StoreState) (before now : Option DiskState) (s after : DiskStatus) → m.is_up ≡ false
-    → IsCutOff (core_of a t) o (Refused MachineDown) (core_of m u) before now → DeviceCalls (most_calls completing a.journal o.events) s after true → (TouchesNothing owing a.journal o (Refused MachineDown) → ⊥)
-    → IsAnswered completing owing o (on (core_of a t) before s) (on (core_of m u) now after) (Refused MachineDown)
-down_answered completing owing a m o t u before now s after off cut calls touches =
+pub down_answered : (completing owing writing : Bool) (a m : MemoryState) (o : Outcome) (t u : StoreState) (before now : Option DiskState) (s after : DiskStatus) → m.is_up ≡ false
+    → IsCutOff (core_of a t) o (Refused MachineDown) (core_of m u) before now → DeviceCalls (most_calls completing writing a.journal o.events) s after true → (TouchesNothing owing writing a.journal o (Refused MachineDown) → ⊥)
+    → IsAnswered completing owing writing o (on (core_of a t) before s) (on (core_of m u) now after) (Refused MachineDown)
+down_answered completing owing writing a m o t u before now s after off cut calls touches =
     let down : after.is_down ≡ true = calls.down ∙ or_right s.is_down true refl in
     record {
       ends = subst (λ b. Ends b (core_of a t) o (Refused MachineDown) (core_of m u) before now) (sym down) cut;
@@ -92,7 +92,7 @@ down_answered completing owing a m o t u before now s after off cut calls touche
       };
       slots = λ up. absurd (both_ways m.is_up off up);
       room = λ up. absurd (both_ways m.is_up off up);
-      calls = subst (λ b. DeviceCalls (most_calls completing a.journal o.events) s after b) (sym down) calls;
+      calls = subst (λ b. DeviceCalls (most_calls completing writing a.journal o.events) s after b) (sym down) calls;
       untouched = λ nothing. absurd (touches nothing);
     }
 
@@ -217,17 +217,17 @@ module _ (completing owing : Bool) (a : MemoryState) (o : Outcome) (reply : Repl
     frame_few : frame_of raw ≤ frame_of o.events
     frame_few = frame-fewer x.recorded raw o.events decided.records.is.means decided.records.is.size
 
-    few_calls : put_calls beside n.journal o.events ≤ most_calls completing a.journal o.events
-    few_calls = subst (λ (j : JournalState). put_calls beside j o.events ≤ most_calls completing a.journal o.events) (sym decided.journal) (calls_by x o a.journal refl completing owing well.owes)
+    few_calls : put_calls beside n.journal o.events ≤ most_calls completing false a.journal o.events
+    few_calls = subst (λ (j : JournalState). put_calls beside j o.events ≤ most_calls completing false a.journal o.events) (sym decided.journal) (calls_by x o a.journal refl completing owing well.owes)
 
     -- it was not refused
-    done_touches : (P : Type 0) → TouchesNothing owing a.journal o reply → P
-    done_touches P touches = elim touches [ inl (refusal, is, other) ↦ absurd (decided.answers some refusal is) | inr (no_event, no_room) ↦ absurd (some no_event) ]
+    done_touches : (P : Type 0) → TouchesNothing owing false a.journal o reply → P
+    done_touches P touches = elim touches [ inl (refusal, is, other) ↦ absurd (decided.answers some refusal is) | inr (no_event, no_room, no_unit) ↦ absurd (some no_event) ]
 
-    cut_touches : TouchesNothing owing a.journal o (Refused MachineDown) → ⊥
+    cut_touches : TouchesNothing owing false a.journal o (Refused MachineDown) → ⊥
     cut_touches touches = elim touches [
       | inl (refusal, is, other) ↦ (let down : refusal ≡ MachineDown = cc in other down)
-      | inr (no_event, no_room) ↦ some no_event
+      | inr (no_event, no_room, no_unit) ↦ some no_event
     ]
 
     module _ (r m : MemoryState) (u : StoreState) (now : Option DiskState) (after : DiskStatus) where
@@ -248,8 +248,8 @@ module _ (completing owing : Bool) (a : MemoryState) (o : Outcome) (reply : Repl
               (subst (λ (d : Durable). IsSomeAnd now (HoldsState r.journal d u)) recorded_then (put.disk raw (may_record records sound some) (at_first at)));
         }
 
-        calls_made : AllSynced (most_calls completing a.journal o.events) s after
-        calls_made = synced_more (put_calls beside n.journal o.events) (most_calls completing a.journal o.events) s after few_calls (put.synced raw (may_record records sound some))
+        calls_made : AllSynced (most_calls completing false a.journal o.events) s after
+        calls_made = synced_more (put_calls beside n.journal o.events) (most_calls completing false a.journal o.events) s after few_calls (put.synced raw (may_record records sound some))
 
         -- the log has room for what is owed then
         room_then : debts (present_of m) + 1 ≤ log_left m.journal
@@ -258,7 +258,7 @@ module _ (completing owing : Bool) (a : MemoryState) (o : Outcome) (reply : Repl
             subst (λ l. debts (present_of m) + 1 ≤ l) (sym left) (subst (λ (y : Present). debts y + 1 ≤ left_after beside a.journal raw) (sym now_is) (room_after x o a.journal refl completing owing raw well.owes frame_few))
 
         -- the group was recorded, and memory has settled
-        pub done_answered : IsAnswered completing owing o (on (core_of a t) before s) (on (core_of m u) now after) reply
+        pub done_answered : IsAnswered completing owing false o (on (core_of a t) before s) (on (core_of m u) now after) reply
         done_answered = record {
           ends = subst (λ b. Ends b (core_of a t) o reply (core_of m u) before now) (sym calls_made.up) done;
           powered = record {
@@ -269,7 +269,7 @@ module _ (completing owing : Bool) (a : MemoryState) (o : Outcome) (reply : Repl
           };
           slots = λ up. slots_then contents traces r m put.same (put.counts raw decided.records.holds) settles keeps;
           room = λ up. room_then;
-          calls = subst (λ b. DeviceCalls (most_calls completing a.journal o.events) s after b) (sym calls_made.up) calls_made.calls;
+          calls = subst (λ b. DeviceCalls (most_calls completing false a.journal o.events) s after b) (sym calls_made.up) calls_made.calls;
           untouched = done_touches _;
         }
 
@@ -293,8 +293,8 @@ module _ (completing owing : Bool) (a : MemoryState) (o : Outcome) (reply : Repl
           disk = λ at. subst (λ (d : Durable). IsSomeAnd now (LeavesEitherPlaces t.seen d (after_events d o.events))) recorded_still (left.disk raw (may_record records sound some) (at_first at));
         }
 
-        calls_cut : DeviceCalls (most_calls completing a.journal o.events) s after true
-        calls_cut = more_calls (put_calls beside n.journal o.events) (most_calls completing a.journal o.events) s after true few_calls (left.calls raw (may_record records sound some))
+        calls_cut : DeviceCalls (most_calls completing false a.journal o.events) s after true
+        calls_cut = more_calls (put_calls beside n.journal o.events) (most_calls completing false a.journal o.events) s after true few_calls (left.calls raw (may_record records sound some))
 
-        pub cut_answered : IsAnswered completing owing o (on (core_of a t) before s) (on (core_of m u) now after) (Refused MachineDown)
-        cut_answered = down_answered completing owing a m o t u before now s after (ap (λ (b : MemoryState). b.is_up) falls) cut calls_cut cut_touches
+        pub cut_answered : IsAnswered completing owing false o (on (core_of a t) before s) (on (core_of m u) now after) (Refused MachineDown)
+        cut_answered = down_answered completing owing false a m o t u before now s after (ap (λ (b : MemoryState). b.is_up) falls) cut calls_cut cut_touches

@@ -14,7 +14,8 @@ mod Asks
 mod Ends
 mod Puts
 mod Alone
-mod Reading
+mod Parts
+mod Waiting
 mod LeftToDo
 mod Answering
 pub mod offered

@@ -15,6 +15,8 @@ use Rattle.ktm_journal.specs.Image.{IsHeaded, JournalAt, JournalState, page_coun
 use Rattle.ktm_journal.specs.Pages.{JournalBut, PageTorn, PageWritten, PagesLaw, SamePagesBut}
 use Rattle.ktm_journal.proofs.offered.Rows.{others_kept}
 use Rattle.ktm_page.specs.Row.{page_of}
+use Rattle.ktm_store.specs.Pool.{Shows, kept_at}
+use Rattle.ktm_store.specs.Store.{PoolState}
 use Rattle.ktm_world.specs.Groups.{Group}
 use Rattle.ktm_core.specs.Done.{page_calls}
 use Rattle.ktm_core.specs.Pages.{ArePagesTorn, ArePagesWritten, LeavesBut, WritingLeaves, WrotePages}
@@ -38,6 +40,10 @@ page-written page old bytes full fits =
     ap (λ (l : List ℕ). take (page * 4096 + 4096 - page * 4096) (drop (page * 4096) l)) (append_assoc (take (page * 4096) old) bytes (drop (page * 4096 + length bytes) old))
     ∙ ap (λ (l : List ℕ). take (page * 4096 + 4096 - page * 4096) l) (drop_at (take (page * 4096) old) (bytes ++ drop (page * 4096 + length bytes) old) (page * 4096) (omega (arith, fits, length-take (page * 4096) old)))
     ∙ take_at bytes (drop (page * 4096 + length bytes) old) (page * 4096 + 4096 - page * 4096) (omega (arith, full))
+
+-- a page that is in memory is that of each row that the store shows
+pub page-shown : (pool : PoolState) (row : List ℕ) (page : ℕ) (bytes : List ℕ) → Shows pool row → Some bytes ≡ kept_at pool.seen page → bytes ≡ page_of row page
+page-shown pool row page bytes shows is = sym (shows.bytes page bytes (sym is))
 
 -- ---- disks
 

@@ -17,16 +17,16 @@ use Rattle.ktm_world.specs.Present.{Present}
 use Rattle.ktm_core.specs.Core.{CoreState, IsPowered, log_left}
 use Rattle.ktm_core.specs.Done.{Ends, TouchesNothing, most_calls}
 
--- an outcome was answered: of a command that completes a transaction or not, and that may owe more or not
-pub record IsAnswered (completing owing : Bool) (o : Outcome) (old new : OnDisk CoreState) (reply : Reply) : Type 0 where
+-- an outcome was answered: of a command that completes a transaction or not, that may owe more or not, and that puts units or not
+pub record IsAnswered (completing owing writing : Bool) (o : Outcome) (old new : OnDisk CoreState) (reply : Reply) : Type 0 where
   pub ends : Ends new.status.is_down old.it o reply new.it old.told new.told
   pub powered : IsPowered new.it new.told new.status
   -- there is room for all notifications that may come to be sent without a call that makes room
   pub slots : new.it.now.machine.is_up ≡ true → owed_slots new.it.now ≤ new.it.slots
   -- the log has room for all that transactions under way may still record
   pub room : new.it.now.machine.is_up ≡ true → debts new.it.now + 1 ≤ log_left new.it.journal
-  pub calls : DeviceCalls (most_calls completing old.it.journal o.events) old.status new.status new.status.is_down
-  pub untouched : TouchesNothing owing old.it.journal o reply → IsUntouched old new
+  pub calls : DeviceCalls (most_calls completing writing old.it.journal o.events) old.status new.status new.status.is_down
+  pub untouched : TouchesNothing owing writing old.it.journal o reply → IsUntouched old new
 
 -- does what is asked complete a transaction; so does time that passes
 abbrev pub asked_completes : Asked → Bool
@@ -40,9 +40,15 @@ asked_owes_more (Call process command) = may_owe_more command
 asked_owes_more (Units process file start contents extent) = true
 asked_owes_more (Tick ms) = false
 
+-- does what is asked put units
+abbrev pub asked_writes : Asked → Bool
+asked_writes (Call process command) = false
+asked_writes (Units process file start contents extent) = true
+asked_writes (Tick ms) = false
+
 -- what that leaves; out of memory the disk is as it was
 abbrev pub CoreLeaves : Present → Asked → OnDisk CoreState → OnDisk CoreState → Result Reply NoMemory → Type 0
-CoreLeaves x asked old new (Ok reply) = IsAnswered (asked_completes asked) (asked_owes_more asked) (decided x asked) old new reply
+CoreLeaves x asked old new (Ok reply) = IsAnswered (asked_completes asked) (asked_owes_more asked) (asked_writes asked) (decided x asked) old new reply
 CoreLeaves x asked old new (Err fault) = IsUntouched old new
 
 -- out of memory: nothing has changed, and there is room for no fewer notifications

@@ -55,15 +55,21 @@ lacks_room journal events = nat_lt (log_left journal) (frame_of events + most_de
 abbrev pub makes_room : Bool → JournalState → Bool
 makes_room owing journal = owing && lacks_room journal []
 
--- it was refused, but not for a machine that is down, or it records nothing and makes no room
-abbrev pub TouchesNothing : Bool → JournalState → Outcome → Reply → Type 0
-TouchesNothing owing journal o reply = ((refusal : Refusal) × (reply ≡ Refused refusal) × (refusal ≢ MachineDown)) ⊎ ((o.events ≡ []) × (makes_room owing journal ≡ false))
+-- it was refused, but not for a machine that is down, or it records nothing, makes no room, and puts no units, which may be written to the disk
+abbrev pub TouchesNothing : Bool → Bool → JournalState → Outcome → Reply → Type 0
+TouchesNothing owing writing journal o reply = ((refusal : Refusal) × (reply ≡ Refused refusal) × (refusal ≢ MachineDown)) ⊎ ((o.events ≡ []) × (makes_room owing journal ≡ false) × (writing ≡ false))
 
 -- how many device calls write so many pages at most: one for each, and one more behind each 64 and behind the last
 abbrev pub page_calls : ℕ → ℕ
 page_calls pages = pages + (pages + 63) / 64
 
+-- how many device calls write the pages that wait in memory at most, where a command that puts units records nothing
+abbrev pub waiting_calls : Bool → ℕ → Group → ℕ
+waiting_calls writing units [] = if writing then page_calls (page_count units) else 0
+waiting_calls writing units (event ∷ events) = 0
+
 -- how many device calls a command makes at most: those for the pages of what its events put, of which there are no more than the disk has, and four; and six more for a snapshot of all that was
--- recorded before, where the log has no room beside the greatest debts, but none where it completes a transaction, for which room was kept
-abbrev pub most_calls : Bool → JournalState → Group → ℕ
-most_calls completing journal events = page_calls (min (units_put events) (page_count journal.units)) + (if completing then 4 else if lacks_room journal events then 10 else 4)
+-- recorded before, where the log has no room beside the greatest debts, but none where it completes a transaction, for which room was kept; and where it puts units and records nothing, those for
+-- the pages that wait in memory
+abbrev pub most_calls : Bool → Bool → JournalState → Group → ℕ
+most_calls completing writing journal events = page_calls (min (units_put events) (page_count journal.units)) + (if completing then 4 else if lacks_room journal events then 10 else 4) + waiting_calls writing journal.units events

@@ -2,6 +2,7 @@ pub mod Core
 pub mod Done
 pub mod Answers
 pub mod Pages
+pub mod Reading
 pub mod Recording
 pub mod Starting
 pub use Rattle.ktm_debts.specs.Debts

@@ -1,20 +1,13 @@
--- What is left where pages are written, and where they are read.
-use Rattle.std.specs.Prelude.{◌≡◌, ℕ, true, List, [], length, All, Option, Result, Ok, Err, IfSome, IsSomeAnd}
+-- What is left where pages are written.
+use Rattle.std.specs.Prelude.{◌≡◌, ℕ, true, List, length, All, Option, Result, Ok, Err, IfSome, IsSomeAnd}
 use Rattle.ktm_base.specs.declared.fault.Down.{Down}
 use Rattle.ktm_base.specs.Disk.{DeviceCalls, DiskState, DiskStatus, MayLeave}
 use Rattle.ktm_base.specs.Told.{Goes}
-use Rattle.ktm_each.specs.Each.{EachOfFiles}
 use Rattle.ktm_journal.specs.Image.{IsHeaded, IsImage, JournalAt, JournalState, row_of}
 use Rattle.ktm_journal.specs.Pages.{SamePagesBut}
 use Rattle.ktm_log.specs.OnDisk.{AllSynced}
 use Rattle.ktm_page.specs.Row.{page_of}
-use Rattle.ktm_store.specs.Marks.{is_held}
-use Rattle.ktm_store.specs.Store.{IsStoredAt, StoreState}
-use Rattle.ktm_store.specs.Stored.{is_stored}
 use Rattle.ktm_world.specs.Groups.{Group}
-use Rattle.ktm_world.specs.Files.{FilesNow}
-use Rattle.ktm_memory.specs.Stored.{AreFilesHeld}
-use Rattle.ktm_core.specs.Core.{PagesAgree}
 use Rattle.ktm_core.specs.Done.{page_calls}
 
 -- these pages have the bytes of the row, and all others are as they were
@@ -45,25 +38,3 @@ pub record ArePagesTorn (j : JournalState) (pages : List ℕ) (before now : Opti
 abbrev pub WritingLeaves : JournalState → List ℕ → List ℕ → Option DiskState → Option DiskState → DiskStatus → DiskStatus → Result (Unit {0}) Down → Type 0
 WritingLeaves j pages row before now old new (Ok done) = ArePagesWritten j pages row before now old new
 WritingLeaves j pages row before now old new (Err down) = ArePagesTorn j pages before now old new
-
--- ---- a start
-
--- a page is stored then if it is held, and what is stored is as the disk has it, if it was so before
-pub record IsPageRead (units page : ℕ) (told : Option DiskState) (old new : StoreState) : Type 0 where
-  pub this : is_held old.marks.held page ≡ true → is_stored new.stored page ≡ true
-  pub stored : (other : ℕ) → is_stored old.stored other ≡ true → is_stored new.stored other ≡ true
-  pub wanted : new.wanted ≡ old.wanted
-  pub agree : IfSome told (λ s. PagesAgree units old s → PagesAgree units new s)
-
--- each page that is held is stored, as the disk has it, and no other one
-pub record AreHeldRead (units : ℕ) (told : Option DiskState) (store : StoreState) : Type 0 where
-  pub stored : (page : ℕ) → is_held store.marks.held page ≡ true → is_stored store.stored page ≡ true
-  pub wanted : store.wanted ≡ []
-  pub agree : IfSome told (PagesAgree units store)
-
--- the pages of all places of the files are held, and stored as the disk has them
-pub record ArePagesLoaded (units : ℕ) (files : FilesNow) (told : Option DiskState) (store : StoreState) : Type 0 where
-  pub held : AreFilesHeld store files
-  pub stored : EachOfFiles (λ file index place. IsStoredAt store.stored place) files
-  pub wanted : store.wanted ≡ []
-  pub agree : IfSome told (PagesAgree units store)

@@ -1,6 +1,7 @@
 -- What the recording of a group leaves, whether the log has room for it or not, and room that is made. No public clause cites this module.
 use Rattle.std.specs.Prelude.{◌≡◌, ◌⊎◌, ℕ, ◌+◌, ◌-◌, ◌≤◌, ◌&&◌, not, Bool, true, false, nat_lt, List, [], length, min, sum_by, if◌then◌else◌, IfSome, IsSomeAnd, Option, Result, Ok, Err}
 use Rattle.ktm_base.specs.declared.fault.Down.{Down}
+use Rattle.ktm_base.specs.declared.fault.NoMemory.{NoMemory}
 use Rattle.ktm_base.specs.Disk.{DeviceCalls, DiskState, DiskStatus, MayLeave}
 use Rattle.ktm_base.specs.Told.{Goes}
 use Rattle.ktm_debts.specs.Debts.{frame_of, most_debts}
@@ -11,20 +12,24 @@ use Rattle.ktm_journal.specs.Pages.{KeepsPages, LeavesPages}
 use Rattle.ktm_log.specs.OnDisk.{AllSynced, OnDisk}
 use Rattle.ktm_paged.specs.Paged.{IsSound, meant_group}
 use Rattle.ktm_restart.specs.Logs.{AppliesTo, JournalFor, PagedFor}
+use Rattle.ktm_route.specs.declared.asked.Asked.{Asked}
 use Rattle.ktm_route.specs.Frames.{FitsEmptyLog}
+use Rattle.ktm_route.specs.Route.{decided}
 use Rattle.ktm_saving.specs.Saved.{SavingLeaves}
 use Rattle.ktm_standing.specs.Standing.{IsStandingNow}
 use Rattle.ktm_world.specs.declared.reply.Reply.{Reply}
 use Rattle.ktm_world.specs.declared.reply.Reply.TheVariants.{Refused}
 use Rattle.ktm_world.specs.Groups.{Group}
 use Rattle.ktm_world.specs.Durable.{Durable, after_events}
+use Rattle.ktm_world.specs.Present.{Present}
 use Rattle.ktm_memory.specs.Memory.{MemoryState, present_of}
 use Rattle.ktm_memory.specs.Stored.{units_put}
 use Rattle.ktm_store.specs.Store.{StoreState}
 use Rattle.ktm_world.specs.Sizes.{area_len, event_size}
-use Rattle.ktm_core.specs.Core.{HoldsState, LeavesEitherPlaces, log_left}
+use Rattle.ktm_core.specs.Answers.{IsAnswered, asked_completes, asked_owes_more}
+use Rattle.ktm_core.specs.Core.{CoreState, HoldsState, LeavesEitherPlaces, log_left}
 use Rattle.ktm_core.specs.Done.{page_calls}
-use Rattle.ktm_memory.specs.Recorded.{AreCutOff, AreRecorded}
+use Rattle.ktm_memory.specs.Recorded.{AreCutOff, AreRecorded, IsUntouched}
 
 -- ---- room
 
@@ -160,3 +165,29 @@ pub record IsNotPut (beside : ℕ) (events : EventsState) (group : Group) (old n
 abbrev pub PutLeaves : ℕ → EventsState → Group → OnDisk Kept → OnDisk Kept → Result (Unit {0}) Down → Type 0
 PutLeaves beside events group old new (Ok done) = IsPut beside events group old new
 PutLeaves beside events group old new (Err down) = IsNotPut beside events group old new
+
+-- ---- the pages that wait in memory
+
+-- they are on the disk, which stands for all that it stood for
+pub record AreWaitingWritten (j : JournalState) (old new : StoreState) (before now : Option DiskState) (s u : DiskStatus) : Type 0 where
+  pub store : IsSameStore old new
+  pub wanted : new.wanted ≡ []
+  pub disk : (state : Durable) → IsSomeAnd before (HoldsState j state old) → IsSomeAnd now (HoldsState j state new)
+  pub headed : IfSome now (λ d. IsHeaded j.units j.image j.selector d.seen)
+  pub synced : AllSynced (page_calls (page_count j.units)) s u
+
+-- the power went: each image that may be left comes to what the disk stood for
+pub record AreWaitingTorn (j : JournalState) (old new : StoreState) (before now : Option DiskState) (s u : DiskStatus) : Type 0 where
+  pub store : IsSameStore old new
+  pub disk : (state : Durable) → IsSomeAnd before (HoldsState j state old) → IsSomeAnd now (LeavesEitherPlaces old.seen state state)
+  pub calls : DeviceCalls (page_calls (page_count j.units)) s u true
+
+-- what the writing of all of them leaves, by its answer
+abbrev pub WaitingLeaves : JournalState → StoreState → StoreState → Option DiskState → Option DiskState → DiskStatus → DiskStatus → Result (Unit {0}) Down → Type 0
+WaitingLeaves j old new before now s u (Ok done) = AreWaitingWritten j old new before now s u
+WaitingLeaves j old new before now s u (Err down) = AreWaitingTorn j old new before now s u
+
+-- what an answer leaves before pages that wait are written; out of memory the disk is as it was
+abbrev pub AskedLeaves : Present → Asked → OnDisk CoreState → OnDisk CoreState → Result Reply NoMemory → Type 0
+AskedLeaves x asked old new (Ok reply) = IsAnswered (asked_completes asked) (asked_owes_more asked) false (decided x asked) old new reply
+AskedLeaves x asked old new (Err fault) = IsUntouched old new

@@ -1,9 +1,9 @@
 // The machine over the places of bytes and its disk: the one way through.
-ghost use Rattle.std.specs.Prelude.{◌≡◌, ◌≤◌, ℕ, [], true, false, length, vec_capacity, IfSome, IsOk, OnErr};
+ghost use Rattle.std.specs.Prelude.{◌≡◌, ◌≤◌, ℕ, [], List, true, false, length, vec_capacity, IfSome, IsOk, OnErr, OnOk};
 ghost use Rattle.ktm_core.specs.Answers.{CoreLeaves, IsAsItWas, KeepsRules};
 ghost use Rattle.ktm_base.specs.declared.limits.TheConstants.{MOST_UNITS};
 ghost use Rattle.ktm_base.specs.declared.refusal.Refusal.TheVariants.{MachineDown};
-ghost use Rattle.ktm_core.specs.Recording.{MayRecord, PutLeaves, kept_on};
+ghost use Rattle.ktm_core.specs.Recording.{AskedLeaves, MayRecord, PutLeaves, is_refusal, kept_on};
 ghost use Rattle.ktm_core.specs.Core.{IsReady, IsSoundFor, core_of};
 ghost use Rattle.ktm_journal.specs.Image.{IsHeaded, page_count};
 ghost use Rattle.ktm_laws.specs.Running.{HasEventsLeft};
@@ -14,13 +14,14 @@ ghost use Rattle.ktm_memory.specs.Settled.{left_to_do};
 ghost use Rattle.ktm_memory.specs.Stored.{FilesLieBelow};
 ghost use Rattle.ktm_memory.specs.Held.{files_of};
 ghost use Rattle.ktm_world.specs.Groups.{Group};
-ghost use Rattle.ktm_route.specs.Route.{AskedPutsBy, CanBeAsked};
+ghost use Rattle.ktm_route.specs.Route.{AskedPutsBy, CanBeAsked, decided};
 ghost use Rattle.ktm_route.specs.Takes.{asked_takes_memory};
+ghost use Rattle.ktm_store.specs.Pool.{Shows, on_row};
 ghost use Rattle.ktm_world.specs.declared.reply.Reply.TheVariants.{Refused};
 ghost use Rattle.ktm_world.specs.Sizes.{area_len};
 
-use crate::owing::{may_rise, owes_more, room_beside};
-use crate::pages::write_wanted;
+use crate::owing::{is_refusal, may_rise, owes_more, room_beside, writes};
+use crate::pages::{write_waiting, write_wanted};
 use crate::recording::{make_room, record};
 use ktm_base::{Disk, Down, NoMemory, Refusal};
 use ktm_debts::law_of_debts;
@@ -31,7 +32,7 @@ use ktm_paged::law_of_records;
 use ktm_route::{Asked, decide, law_of_frames};
 use ktm_slots::law_of_slots;
 use ktm_standing::law_of_standing;
-use ktm_store::Store;
+use ktm_store::{Store, law_of_rows};
 use ktm_trace::{law_of_contents, law_of_kept};
 use ktm_world::Reply;
 use std::alloc::Global;
@@ -69,9 +70,12 @@ fn put<D: Disk>(
     requires none { store.old.wanted ≡ [] }
     requires files { FilesLieBelow (length store.old.marks.held) (files_of memory.old.files) }
     requires puts { PutsAlone (present_of memory.old) settlement.now }
-    ensures leaves { PutLeaves beside events.now (left_to_do (present_of memory.old) settlement.now).events (kept_on memory.old store.old (D.told disk.old) (D.status disk.old)) (kept_on memory.new store.new (D.told disk.new) (D.status disk.new)) result }
+    ensures leaves { (row : List ℕ) → Shows store.old row
+        → PutLeaves beside events.now (left_to_do (present_of memory.old) settlement.now).events (kept_on memory.old (on_row store.old row) (D.told disk.old) (D.status disk.old)) (kept_on memory.new (on_row store.new row) (D.told disk.new) (D.status disk.new)) result }
+    ensures seen { store.new.seen ≡ store.old.seen }
     ensures kept { vec_capacity snapshot.old ≤ vec_capacity snapshot.new }
 {
+    law_of_rows(store);
     memory.want_pages(settlement, store);
     if let Err(Down) = write_wanted(disk, memory.journal(), store) {
         return Err(Down);
@@ -89,32 +93,31 @@ fn fall(memory: &mut Memory) -> Reply
 }
 
 impl Core {
-    /// Answers what is asked while the machine is up: it is decided, the pages that its events put are written where the disk does not
-    /// have them yet, then the events are recorded, and then memory settles. The log keeps room for all that transactions under way may
-    /// still record: in that room stands what completes one, which never makes a snapshot. Whatever else is recorded leaves room for the
-    /// greatest debts, and what records nothing and may owe more makes that room once it is done, by a snapshot where the log has too
-    /// little. After MACHINE_DOWN the machine is down.
-    pub fn answer<D: Disk>(
+    // Answers what is asked, and writes no pages but those that are put by what is recorded.
+    fn answer_asked<D: Disk>(
         &mut self,
         alloc: Global,
         disk: &mut D,
         asked: Asked,
     ) -> Result<Reply, NoMemory>
         requires up { (present_of self.old.memory).machine.is_up ≡ true }
-        requires ready { IsReady (core_of self.old.memory self.old.store) (D.told disk.old) (D.status disk.old) }
+        requires ready { (row : List ℕ) → IsReady (core_of self.old.memory (on_row self.old.store row)) (D.told disk.old) (D.status disk.old) }
         requires roomy { IsRoomy self.old.memory.journal self.old.events }
         requires room { area_len self.old.memory.journal.units ≤ vec_capacity self.old.snapshot }
         requires pages { length self.old.store.marks.held ≡ page_count self.old.memory.journal.units }
         requires counts { HasEventsLeft (present_of self.old.memory) }
         requires asked { CanBeAsked (present_of self.old.memory) asked }
         requires sound { IsSoundFor (page_count self.old.memory.journal.units) (present_of self.old.memory) asked }
-        ensures leaves { CoreLeaves (present_of self.old.memory) asked (on (core_of self.old.memory self.old.store) (D.told disk.old) (D.status disk.old)) (on (core_of self.new.memory self.new.store) (D.told disk.new) (D.status disk.new)) result }
+        ensures leaves { (row : List ℕ) → Shows self.old.store row → AskedLeaves (present_of self.old.memory) asked (on (core_of self.old.memory (on_row self.old.store row)) (D.told disk.old) (D.status disk.old)) (on (core_of self.new.memory (on_row self.new.store row)) (D.told disk.new) (D.status disk.new)) result }
+        ensures shows { self.new.store.seen ≡ self.old.store.seen }
+        ensures none { self.new.events.count ≡ 0 → OnOk result ((decided (present_of self.old.memory) asked).events ≡ []) }
         ensures rules { KeepsRules (λ rule. AskedPutsBy (present_of self.old.memory) rule asked) (present_of self.old.memory) (present_of self.new.memory) }
         ensures roomy { IsRoomy self.new.memory.journal self.new.events }
         ensures room { area_len self.new.memory.journal.units ≤ vec_capacity self.new.snapshot }
-        ensures no_memory { OnErr result (IsAsItWas (core_of self.old.memory self.old.store) (core_of self.new.memory self.new.store)) }
+        ensures no_memory { OnErr result ((row : List ℕ) → IsAsItWas (core_of self.old.memory (on_row self.old.store row)) (core_of self.new.memory (on_row self.new.store row))) }
         ensures enough { asked_takes_memory (present_of self.old.memory) asked ≡ false → IsOk result }
     {
+        law_of_rows(&self.store);
         law_of_standing();
         law_of_slots();
         law_of_contents();
@@ -157,6 +160,54 @@ impl Core {
             return Ok(fall(&mut self.memory));
         }
         self.memory.settle(alloc, settlement);
+        Ok(reply)
+    }
+
+    // Are the pages that wait in memory to be written behind an answer: units were put and nothing was recorded, and many pages wait.
+    fn must_write(&self, writes: bool, reply: &Reply) -> bool
+        ensures { result ≡ true → (writes ≡ true) × (is_refusal reply.now ≡ false) × (self.now.events.count ≡ 0) }
+    {
+        writes && !is_refusal(reply) && self.events.is_empty() && self.store.is_full()
+    }
+
+    /// Answers what is asked while the machine is up: it is decided, the pages that its events put are written where the disk does not
+    /// have them yet, then the events are recorded, and then memory settles. The log keeps room for all that transactions under way may
+    /// still record: in that room stands what completes one, which never makes a snapshot. Whatever else is recorded leaves room for the
+    /// greatest debts, and what records nothing and may owe more makes that room once it is done, by a snapshot where the log has too
+    /// little. Where units were put and nothing was recorded, and many pages wait in memory for the disk, these are written. After
+    /// MACHINE_DOWN the machine is down.
+    pub fn answer<D: Disk>(
+        &mut self,
+        alloc: Global,
+        disk: &mut D,
+        asked: Asked,
+    ) -> Result<Reply, NoMemory>
+        requires up { (present_of self.old.memory).machine.is_up ≡ true }
+        requires ready { (row : List ℕ) → IsReady (core_of self.old.memory (on_row self.old.store row)) (D.told disk.old) (D.status disk.old) }
+        requires roomy { IsRoomy self.old.memory.journal self.old.events }
+        requires room { area_len self.old.memory.journal.units ≤ vec_capacity self.old.snapshot }
+        requires pages { length self.old.store.marks.held ≡ page_count self.old.memory.journal.units }
+        requires counts { HasEventsLeft (present_of self.old.memory) }
+        requires asked { CanBeAsked (present_of self.old.memory) asked }
+        requires sound { IsSoundFor (page_count self.old.memory.journal.units) (present_of self.old.memory) asked }
+        ensures leaves { (row : List ℕ) → Shows self.old.store row → CoreLeaves (present_of self.old.memory) asked (on (core_of self.old.memory (on_row self.old.store row)) (D.told disk.old) (D.status disk.old)) (on (core_of self.new.memory (on_row self.new.store row)) (D.told disk.new) (D.status disk.new)) result }
+        ensures shows { self.new.store.seen ≡ self.old.store.seen }
+        ensures rules { KeepsRules (λ rule. AskedPutsBy (present_of self.old.memory) rule asked) (present_of self.old.memory) (present_of self.new.memory) }
+        ensures roomy { IsRoomy self.new.memory.journal self.new.events }
+        ensures room { area_len self.new.memory.journal.units ≤ vec_capacity self.new.snapshot }
+        ensures no_memory { OnErr result ((row : List ℕ) → IsAsItWas (core_of self.old.memory (on_row self.old.store row)) (core_of self.new.memory (on_row self.new.store row))) }
+        ensures enough { asked_takes_memory (present_of self.old.memory) asked ≡ false → IsOk result }
+    {
+        let writes = writes(&asked);
+        law_of_rows(&self.store);
+        let reply = self.answer_asked(alloc, disk, asked)?;
+        if !self.must_write(writes, &reply) {
+            return Ok(reply);
+        }
+        if let Err(Down) = write_waiting(disk, self.memory.journal(), &mut self.store) {
+            drop(reply);
+            return Ok(fall(&mut self.memory));
+        }
         Ok(reply)
     }
 }

@@ -1,6 +1,6 @@
-// What is asked, by what it does to the debts of transactions.
+// What is asked, by what it does to the debts of transactions, and whether it puts units.
 ghost use Rattle.std.specs.Prelude.{◌≡◌};
-ghost use Rattle.ktm_core.specs.Answers.{asked_completes, asked_owes_more};
+ghost use Rattle.ktm_core.specs.Answers.{asked_completes, asked_owes_more, asked_writes};
 ghost use Rattle.ktm_core.specs.Recording.{beside_of, is_refusal, may_rise};
 ghost use Rattle.ktm_debts.specs.Debts.{may_owe_more, most_debts};
 
@@ -70,8 +70,18 @@ pub(crate) fn room_beside(memory: &Memory, asked: &Asked) -> u64
     }
 }
 
-// Is it a refusal.
-fn is_refusal(reply: &Reply) -> bool
+/// Does what is asked put units.
+pub(crate) fn writes(asked: &Asked) -> bool
+    ensures { result ≡ asked_writes asked.now }
+{
+    match asked {
+        Asked::Units { .. } => true,
+        _ => false,
+    }
+}
+
+/// Is it a refusal.
+pub(crate) fn is_refusal(reply: &Reply) -> bool
     ensures { result ≡ is_refusal reply.now }
 {
     match reply {

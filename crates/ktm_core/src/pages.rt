@@ -1,16 +1,13 @@
-// Pages that are written to a disk, and pages that are read from one.
-ghost use Rattle.std.specs.Prelude.{◌≡◌, ℕ, ◌<◌, ◌≤◌, false, [], All, IfSome, OnErr, OnOk, is_err, length};
-ghost use Rattle.ktm_base.specs.Disk.{OnlyReads};
-ghost use Rattle.ktm_core.specs.Pages.{AreHeldRead, ArePagesLoaded, IsPageRead, WritingLeaves};
-ghost use Rattle.ktm_core.specs.Core.{AreSoundFiles};
+// Pages that are written to a disk.
+ghost use Rattle.std.specs.Prelude.{◌≡◌, ℕ, ◌<◌, ◌≤◌, true, false, [], List, All, IfSome, OnErr, OnOk, length};
+ghost use Rattle.ktm_core.specs.Pages.{WritingLeaves};
+ghost use Rattle.ktm_core.specs.Recording.{WaitingLeaves};
 ghost use Rattle.ktm_journal.specs.Image.{IsHeaded, page_count};
-ghost use Rattle.ktm_store.specs.Stored.{is_stored};
-ghost use Rattle.ktm_memory.specs.Held.{files_of};
+ghost use Rattle.ktm_store.specs.Pool.{Shows, is_kept, on_row};
 
-use ktm_base::{Disk, Down, UNIT_BYTES};
+use ktm_base::{Disk, Down};
 use ktm_journal::{Journal, law_of_pages};
-use ktm_memory::Memory;
-use ktm_store::Store;
+use ktm_store::{Store, law_of_rows};
 
 /// How many pages are written before a sync.
 const AT_ONCE: usize = 64;
@@ -27,11 +24,13 @@ fn write_some<D: Disk>(
     requires headed { IfSome (D.told disk.old) (λ s. IsHeaded journal.now.units journal.now.image journal.now.selector s.seen) }
     requires count { length store.now.marks.held ≡ page_count journal.now.units }
     requires below { All (λ page. page < length store.now.marks.held) pages.now }
+    requires kept { All (λ page. is_kept store.now.seen page ≡ true) pages.now }
     requires some { 1 ≤ length pages.now }
     requires few { length pages.now ≤ 64 }
-    ensures { WritingLeaves journal.now pages.now store.now.seen (D.told disk.old) (D.told disk.new) (D.status disk.old) (D.status disk.new) result }
+    ensures { (row : List ℕ) → Shows store.now row → WritingLeaves journal.now pages.now row (D.told disk.old) (D.told disk.new) (D.status disk.old) (D.status disk.new) result }
 {
     law_of_pages();
+    law_of_rows(store);
     for page in pages {
         if let Err(Down) = journal.write_page(disk, *page, store.page(*page)) {
             return Err(Down);
@@ -52,8 +51,10 @@ fn write_pages<D: Disk>(
     requires headed { IfSome (D.told disk.old) (λ s. IsHeaded journal.now.units journal.now.image journal.now.selector s.seen) }
     requires count { length store.now.marks.held ≡ page_count journal.now.units }
     requires below { All (λ page. page < length store.now.marks.held) pages.now }
-    ensures { WritingLeaves journal.now pages.now store.now.seen (D.told disk.old) (D.told disk.new) (D.status disk.old) (D.status disk.new) result }
+    requires kept { All (λ page. is_kept store.now.seen page ≡ true) pages.now }
+    ensures { (row : List ℕ) → Shows store.now row → WritingLeaves journal.now pages.now row (D.told disk.old) (D.told disk.new) (D.status disk.old) (D.status disk.new) result }
 {
+    law_of_rows(store);
     let mut at = 0;
     while at < pages.len() {
         let end = pages.len().min(at + AT_ONCE);
@@ -75,7 +76,7 @@ pub(crate) fn write_wanted<D: Disk>(
     requires pending { (D.status disk.old).pending ≡ 0 }
     requires headed { IfSome (D.told disk.old) (λ s. IsHeaded journal.now.units journal.now.image journal.now.selector s.seen) }
     requires count { length store.old.marks.held ≡ page_count journal.now.units }
-    ensures leaves { WritingLeaves journal.now store.old.wanted store.old.seen (D.told disk.old) (D.told disk.new) (D.status disk.old) (D.status disk.new) result }
+    ensures leaves { (row : List ℕ) → Shows store.old row → WritingLeaves journal.now store.old.wanted row (D.told disk.old) (D.told disk.new) (D.status disk.old) (D.status disk.new) result }
     ensures ok { OnOk result (store.new ≡ record store.old { wanted = [] }) }
     ensures err { OnErr result (store.new ≡ store.old) }
     ensures few { length store.old.wanted ≤ length store.old.marks.held }
@@ -87,62 +88,21 @@ pub(crate) fn write_wanted<D: Disk>(
     Ok(())
 }
 
-// Reads a page if it is held.
-fn read_if_held<D: Disk>(
+/// Writes all pages that are not stored, and none is wanted any more.
+pub(crate) fn write_waiting<D: Disk>(
     disk: &mut D,
     journal: &Journal,
     store: &mut Store,
-    page: u32,
-    bytes: &mut [u8],
 ) -> Result<(), Down>
+    requires up { (D.status disk.old).is_down ≡ false }
+    requires pending { (D.status disk.old).pending ≡ 0 }
     requires headed { IfSome (D.told disk.old) (λ s. IsHeaded journal.now.units journal.now.image journal.now.selector s.seen) }
     requires count { length store.old.marks.held ≡ page_count journal.now.units }
-    requires within { page < page_count journal.now.units }
-    requires whole { length bytes.old ≡ 4096 }
-    ensures ok { OnOk result (IsPageRead journal.now.units page (D.told disk.old) store.old store.new) }
-    ensures marks { store.new.marks ≡ store.old.marks }
-    ensures reads { OnlyReads 1 (D.told disk.old) (D.told disk.new) (D.status disk.old) (D.status disk.new) (is_err result) }
+    requires none { store.old.wanted ≡ [] }
+    ensures leaves { (row : List ℕ) → Shows store.old row
+        → WaitingLeaves journal.now (on_row store.old row) (on_row store.new row) (D.told disk.old) (D.told disk.new) (D.status disk.old) (D.status disk.new) result }
+    ensures seen { store.new.seen ≡ store.old.seen }
 {
-    if !store.is_held(page) {
-        return Ok(());
-    }
-    if let Err(Down) = journal.read_page(disk, page, bytes) {
-        return Err(Down);
-    }
-    store.load(page, bytes);
-    Ok(())
-}
-
-// Reads each page that is held.
-fn read_held<D: Disk>(disk: &mut D, journal: &Journal, store: &mut Store) -> Result<(), Down>
-    requires headed { IfSome (D.told disk.old) (λ s. IsHeaded journal.now.units journal.now.image journal.now.selector s.seen) }
-    requires count { length store.old.marks.held ≡ page_count journal.now.units }
-    requires wanted { store.old.wanted ≡ [] }
-    requires none { (page : ℕ) → is_stored store.old.stored page ≡ false }
-    ensures ok { OnOk result (AreHeldRead journal.now.units (D.told disk.old) store.new) }
-    ensures marks { store.new.marks ≡ store.old.marks }
-    ensures reads { OnlyReads (page_count journal.now.units) (D.told disk.old) (D.told disk.new) (D.status disk.old) (D.status disk.new) (is_err result) }
-{
-    let mut bytes = [0u8; UNIT_BYTES as usize];
-    for page in 0..store.count() {
-        if let Err(Down) = read_if_held(disk, journal, store, page, &mut bytes) {
-            return Err(Down);
-        }
-    }
-    Ok(())
-}
-
-/// Reads the pages of all places of the files that memory has, each once, from the disk: they are held and stored then, and no others.
-/// What the store held before is given up. It makes one device call for each of these pages.
-pub fn load_pages<D: Disk>(disk: &mut D, memory: &Memory, store: &mut Store) -> Result<(), Down>
-    requires headed { IfSome (D.told disk.old) (λ s. IsHeaded memory.now.journal.units memory.now.journal.image memory.now.journal.selector s.seen) }
-    requires count { length store.old.marks.held ≡ page_count memory.now.journal.units }
-    requires sound { AreSoundFiles (page_count memory.now.journal.units) (files_of memory.now.files) }
-    ensures ok { OnOk result (ArePagesLoaded memory.now.journal.units (files_of memory.now.files) (D.told disk.old) store.new) }
-    ensures count { length store.new.marks.held ≡ length store.old.marks.held }
-    ensures reads { OnlyReads (page_count memory.now.journal.units) (D.told disk.old) (D.told disk.new) (D.status disk.old) (D.status disk.new) (is_err result) }
-{
-    store.reset();
-    memory.hold_pages(store);
-    read_held(disk, memory.journal(), store)
+    store.want_all();
+    write_wanted(disk, journal, store)
 }

@@ -9,6 +9,7 @@ ghost use Rattle.ktm_world.specs.Outcome.{served};
 ghost use Rattle.ktm_world.specs.Steps.{answered, is_one_of};
 ghost use Rattle.ktm_manager.specs.Rising.{are_rising, id_order, IsAt, IsNowhere};
 ghost use Rattle.ktm_enlist.specs.Counts.{is_live_until_end, AreCounts};
+ghost use Rattle.ktm_enlist.specs.Enlistments.{AreEnlisted};
 ghost use Rattle.ktm_enlist.specs.Groups.{GroupFor};
 ghost use Rattle.ktm_enlist.specs.Places.{changed, is_own, is_superior_of, linked, place_from, HasNone, IsOnlyAt, PassesAt};
 ghost use Rattle.ktm_enlist.specs.Telling.{asked, asked_if, has_manager, is_of_transaction, told, visited, HasTold, MayTell};
@@ -161,7 +162,8 @@ impl Enlistments {
 
     // What is kept of the transaction, if it has enlistments.
     fn group(&self, transaction: Id) -> Option<Group>
-        ensures { GroupFor self.now.enlistments transaction result }
+        ensures group { GroupFor self.now.enlistments transaction result }
+        ensures enlisted { AreEnlisted self.now.enlistments }
     {
         group_in(&self.groups, transaction)
     }
@@ -178,7 +180,8 @@ impl Enlistments {
 
     /// How many enlistments of the transaction are live, as long as that has not ended.
     pub fn live(&self, transaction: Id) -> u32
-        ensures { result ≡ count_by (is_live_until_end transaction) self.now.enlistments }
+        ensures live { result ≡ count_by (is_live_until_end transaction) self.now.enlistments }
+        ensures enlisted { AreEnlisted self.now.enlistments }
     {
         match self.group(transaction) {
             Some(group) => group.live,

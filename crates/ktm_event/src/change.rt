@@ -124,6 +124,7 @@ fn drop_at(bytes: &[u8], at: usize) -> Result<(Change, usize), EventFault>
     Ok((Change::Drop { node }, end))
 }
 
+#[inline(always)]
 pub(crate) fn change_at(
     alloc: Global,
     bytes: &[u8],

@@ -13,6 +13,7 @@ use Rattle.ktm_works.specs.Works.{Contents, Keeps, contents_now}
 use Rattle.ktm_world.specs.Decide.{decide}
 use Rattle.ktm_world.specs.Outcome.{apply}
 use Rattle.ktm_world.specs.Present.{Present}
+use Rattle.ktm_world.specs.World.{present}
 use Rattle.wattorju.specs.Calls.{own}
 use Rattle.wattorju.specs.declared.failure.Failure.{Failure}
 use Rattle.wattorju.specs.declared.failure.Failure.TheVariants.{Refused}
@@ -38,6 +39,11 @@ replacing transaction file label =
 abbrev pub installing : Label → Release → Label → Label → List Command
 installing transaction release program manual =
     replacing transaction release.program program ++ (replacing transaction release.manual manual ++ (KvSet transaction release.version.name.characters release.version.contents ∷ CommitTransaction transaction ∷ []))
+
+-- a loss of power leaves one of these, and this is so in the world that the machine stands for
+pub record KeepsAt (cs : List Contents) (x : Present) (m : OnDisk KernelState) : Type 0 where
+  pub keeps : Keeps cs m
+  pub now : present keeps.world ≡ x
 
 -- a loss of power leaves what was committed before or what is committed after, by what came of it
 pub record IsAllOrNothing (before after : Contents) (new : OnDisk KernelState) (result : Result CommitState Failure) : Type 0 where

@@ -1,9 +1,9 @@
 // Installs a release.
 ghost use Rattle.std.specs.Prelude.{◌≡◌, ◌∷◌, [], true, List, IfOk};
 ghost use Rattle.ktm_base.specs.declared.id.Label.{Label};
-ghost use Rattle.ktm_example.specs.Install.{IsAllOrNothing, IsInstallation, after_all, installing, replacing};
+ghost use Rattle.ktm_example.specs.Install.{IsAllOrNothing, IsInstallation, KeepsAt, after_all, installing, replacing};
 ghost use Rattle.ktm_kernel.specs.Stands.{KernelAt};
-ghost use Rattle.ktm_world.specs.World.{World};
+ghost use Rattle.ktm_world.specs.World.{World, present};
 ghost use Rattle.ktm_works.specs.Works.{Contents, Keeps, contents_now};
 
 use wattorju::{
@@ -32,7 +32,7 @@ fn replace<D: Disk>(
     file: Entry,
 ) -> Result<(), Failure>
     ensures nothing { (cs : List Contents) → Keeps cs machine.old → Keeps cs machine.new }
-    ensures done { IfOk result (λ done. (cs : List Contents) → Keeps cs machine.old → (label : Label) × (machine.new.it.now ≡ after_all machine.old.it.now (replacing transaction.now.label file label))) }
+    ensures done { IfOk result (λ done. (cs : List Contents) (keeps : Keeps cs machine.old) → (label : Label) × KeepsAt cs (after_all (present keeps.world) (replacing transaction.now.label file label)) machine.new) }
 {
     let open = machine.create_file_transacted(
         file.name,
@@ -52,7 +52,7 @@ fn install_in<D: Disk>(
     transaction: &Transaction,
     release: Release,
 ) -> Result<CommitState, Failure>
-    ensures { (before : Contents) → Keeps (before ∷ []) machine.old → (program : Label) × (manual : Label) × IsAllOrNothing before (contents_now (after_all machine.old.it.now (installing transaction.now.label release program manual))) machine.new result }
+    ensures { (before : Contents) (keeps : Keeps (before ∷ []) machine.old) → (program : Label) × (manual : Label) × IsAllOrNothing before (contents_now (after_all (present keeps.world) (installing transaction.now.label release program manual))) machine.new result }
 {
     replace(machine, transaction, release.program)?;
     replace(machine, transaction, release.manual)?;
@@ -65,7 +65,7 @@ fn install_in<D: Disk>(
 
 /// Installs a release: both files and the version change, or nothing does.
 pub fn install<D: Disk>(machine: &mut Machine<D>, release: Release) -> Result<CommitState, Failure>
-    ensures { (w : World) → KernelAt machine.old.it machine.old.told w → machine.old.it.now.machine.is_up ≡ true → IsInstallation machine.old.it.now release machine.new result }
+    ensures { (w : World) → KernelAt machine.old.it machine.old.told w → machine.old.it.now.machine.is_up ≡ true → IsInstallation (present w) release machine.new result }
 {
     let (transaction, _guid) = machine.create_transaction(0)?;
     let installed = install_in(machine, &transaction, release);

@@ -8,4 +8,4 @@ use Rattle.ktm_world.specs.World.{World}
 
 -- what a machine counts is what the log of its world has
 pub events_of : (k : KernelState) (told : Option DiskState) (w : World) → KernelAt k told w → k.now.recorded.events ≡ (stand w.base w.log).events
-events_of k told w at = let (recorded, standing) = recorded_is k told w at in ap (λ (s : Durable). s.events) (recorded ∙ sym standing.running.comes_to)
+events_of k told w at = let ((row, recorded), standing) = recorded_is k told w at in ap (λ (s : Durable). s.events) (recorded ∙ sym standing.running.comes_to)

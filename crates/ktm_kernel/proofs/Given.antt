@@ -3,18 +3,17 @@ use Rattle.std.proofs.Common.{◌≡◌, ℕ, ◌≤◌, true, false, List, [], 
 use Rattle.std.specs.Prelude.{is_none}
 use Rattle.ktm_base.specs.declared.id.Label.{Label}
 use Rattle.ktm_base.specs.declared.refusal.Refusal.{Refusal}
-use Rattle.ktm_core.specs.Core.{CoreState}
 use Rattle.ktm_core.specs.Stored.{units_put}
 use Rattle.ktm_core.specs.Takes.{takes_memory}
-use Rattle.ktm_alike.specs.Alike.{mapped_command, mapped_present}
+use Rattle.ktm_alike.specs.Alike.{mapped_command, mapped_present, mapped_reply}
 use Rattle.ktm_alike.specs.Laws.{AlikeLaw}
 use Rattle.ktm_base.specs.declared.id.Pid.{Pid}
-use Rattle.ktm_content.specs.Places.{byte_at}
 use Rattle.ktm_mapped.specs.Mapped.{IsBlank, mapped_group}
 use Rattle.ktm_paged.specs.Laws.{PagedLaw, RowsSeen, StatesApart}
 use Rattle.ktm_world.specs.Groups.{Group}
 use Rattle.ktm_world.specs.declared.command.Command.{Command}
-use Rattle.ktm_world.specs.declared.command.Command.TheVariants.{SetEndOfFile, WriteFile, WriteUnits}
+use Rattle.ktm_world.specs.declared.command.Command.TheVariants.{ReadFile, SetEndOfFile, WriteFile, WriteUnits}
+use Rattle.ktm_world.specs.declared.reply.Reply.{Reply}
 use Rattle.ktm_world.specs.Values.{IsCommand, IsGiven}
 use Rattle.ktm_units.specs.Units.{IsOfNoBytes, IsSameOutcome, UnitsLaw}
 use Rattle.ktm_world.specs.Decide.{decide, refusal_of}
@@ -23,7 +22,6 @@ use Rattle.ktm_world.specs.Present.{Present}
 use Rattle.ktm_world.specs.World.{decide_tick}
 use Rattle.ktm_kernel.specs.Done.{units_written}
 use Rattle.ktm_kernel.specs.Staging.{IsOverPlaces}
-use Rattle.ktm_kernel.specs.Stands.{KernelState, machine_of}
 use Rattle.ktm_kernel.proofs.Sizes.{group-writes}
 
 -- a command of the grammar is one that a machine is given
@@ -38,10 +36,15 @@ pub states-apart : PagedLaw → StatesApart
 states-apart law = law.6
 
 -- a command that has no bytes is the same with others in the place of its bytes
-same-command : (f : ℕ → ℕ) (c : Command) → IsOfNoBytes c → mapped_command f c ≡ c
+pub same-command : (f : ℕ → ℕ) (c : Command) → IsOfNoBytes c → mapped_command f c ≡ c
 same-command f (WriteFile file offset bytes) none = ap (WriteFile file offset) (ap (map f) none ∙ sym none)
 same-command f (WriteUnits file start contents) none = absurd none
 same-command f c none = refl
+
+-- and so is the reply to it
+pub same-reply : (f : ℕ → ℕ) (c : Command) → IsOfNoBytes c → (reply : Reply) → mapped_reply f c reply ≡ reply
+same-reply f (ReadFile file offset many) none reply = absurd none
+same-reply f c none reply = refl
 
 -- what comes to the same, and records the same with the bytes in the place of the places
 over : (f : ℕ → ℕ) (x : Present) (o asked : Outcome) → IsSameOutcome f x o asked → asked.events ≡ mapped_group f o.events → IsOverPlaces f x o asked
@@ -54,31 +57,18 @@ module _ (law : UnitsLaw) (alike : AlikeLaw) (f : ℕ → ℕ) (blank : IsBlank 
       (ap (λ (o : Outcome). o.events) (ap (decide (mapped_present f x) process) (sym (same-command f c none)) ∙ (alike f blank).0.decided x process c))
 
   -- the passing of time
-  tick-over : (ms : ℕ) → IsOverPlaces f x (decide_tick x ms) (decide_tick (mapped_present f x) ms)
+  pub tick-over : (ms : ℕ) → IsOverPlaces f x (decide_tick x ms) (decide_tick (mapped_present f x) ms)
   tick-over ms = over f x (decide_tick x ms) (decide_tick (mapped_present f x) ms) (((law.1 f blank).0 x).tick ms) (ap (λ (o : Outcome). o.events) ((alike f blank).0.ticked x ms))
-
-module _ (law : UnitsLaw) (alike : AlikeLaw) (k : KernelState) (is : k ≡ machine_of k.core) where
-  -- what a command that has no bytes comes to over the bytes
-  pub command-same : (process : Pid) (c : Command) → IsOfNoBytes c → IsOverPlaces (byte_at k.core.store.seen) k.core.now (decide k.core.now process c) (decide k.now process c)
-  command-same process c none = subst (λ x. IsOverPlaces (byte_at k.core.store.seen) k.core.now (decide k.core.now process c) (decide x process c)) (sym (ap (λ (l : KernelState). l.now) is))
-      (command-over law alike (byte_at k.core.store.seen) refl k.core.now process c none)
-
-  -- and what the passing of time does
-  pub tick-same : (ms : ℕ) → IsOverPlaces (byte_at k.core.store.seen) k.core.now (decide_tick k.core.now ms) (decide_tick k.now ms)
-  tick-same ms = subst (λ x. IsOverPlaces (byte_at k.core.store.seen) k.core.now (decide_tick k.core.now ms) (decide_tick x ms)) (sym (ap (λ (l : KernelState). l.now) is))
-      (tick-over law alike (byte_at k.core.store.seen) refl k.core.now ms)
 
 -- a write of some bytes that nothing refuses takes memory
 passed-takes : (refused : Option Refusal) → refused ≡ None → is_none refused ≡ true
 passed-takes None is = refl
 passed-takes (Some refusal) is = absurd (cc)
 
-pub write-takes : UnitsLaw → (c : CoreState) (process : Pid) (file : Label) (offset : ℕ) (bytes : List ℕ) → (bytes ≡ [] → false ≡ true) → refusal_of c.now process (WriteFile file offset bytes) ≡ None
-    → takes_memory (machine_of c).now process (WriteFile file offset bytes) ≡ true
-write-takes law c process file offset [] some passes = (let no : false ≡ true = some refl in absurd (cc))
-write-takes law c process file offset (b ∷ bs) some passes = passed-takes (refusal_of (machine_of c).now process (WriteFile file offset (b ∷ bs)))
-    (((law.1 (byte_at c.store.seen) refl).0 c.now).refused process file offset (b ∷ bs) ∙ passes)
+pub write-takes : (x : Present) (process : Pid) (file : Label) (offset : ℕ) (bytes : List ℕ) → (bytes ≡ [] → false ≡ true) → refusal_of x process (WriteFile file offset bytes) ≡ None → takes_memory x process (WriteFile file offset bytes) ≡ true
+write-takes x process file offset [] some passes = (let no : false ≡ true = some refl in absurd (cc))
+write-takes x process file offset (b ∷ bs) some passes = passed-takes (refusal_of x process (WriteFile file offset (b ∷ bs))) passes
 
 -- so does an end
-pub end-takes : AlikeLaw → (c : CoreState) (process : Pid) (file : Label) (size : ℕ) → refusal_of c.now process (SetEndOfFile file size) ≡ None → takes_memory (machine_of c).now process (SetEndOfFile file size) ≡ true
-end-takes law c process file size passes = passed-takes (refusal_of (machine_of c).now process (SetEndOfFile file size)) ((law (byte_at c.store.seen) refl).0.refused c.now process (SetEndOfFile file size) ∙ passes)
+pub end-takes : (x : Present) (process : Pid) (file : Label) (size : ℕ) → refusal_of x process (SetEndOfFile file size) ≡ None → takes_memory x process (SetEndOfFile file size) ≡ true
+end-takes x process file size passes = passed-takes (refusal_of x process (SetEndOfFile file size)) passes

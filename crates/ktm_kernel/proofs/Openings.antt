@@ -107,17 +107,17 @@ module _ (base : Durable) where
   safe_begins told tells = IsSomeAnd-map told (Begins base) _ tells (λ s begins image left. subst (λ (l : List ℕ). BeginsAs base l) (sym ((safe_law s image begins.0).0 left)) begins.1)
 
   few_calls : (old new : DiskState) (a b c : DiskStatus) (x : Bool) → Begins base old → Prepared old new → DeviceCalls 9 a b x
-      → ((units image selector : ℕ) → IsHeaded units image selector new.seen → c.calls ≤ b.calls + (4 * units + 91))
-      → c.calls ≤ a.calls + (4 * base.units + 100)
+      → ((units image selector : ℕ) → IsHeaded units image selector new.seen → c.calls ≤ b.calls + (2 * units + 27))
+      → c.calls ≤ a.calls + (2 * base.units + 36)
   few_calls old new a b c x begins prepared first few =
       let stands = (prepared_base base old new begins prepared).1 in
       let units : base.units ≡ stands.places.units = ap (λ (d : Durable). d.units) stands.is in
-      let calls : c.calls ≤ b.calls + (4 * base.units + 91) =
-      subst (λ n. c.calls ≤ b.calls + (4 * n + 91)) (sym units) (few stands.places.units stands.places.image stands.paged.is.selector stands.paged.is.formatted.headed) in
+      let calls : c.calls ≤ b.calls + (2 * base.units + 27) =
+      subst (λ n. c.calls ≤ b.calls + (2 * n + 27)) (sym units) (few stands.places.units stands.places.image stands.paged.is.selector stands.paged.is.formatted.headed) in
       omega (arith, first.few, calls)
 
-  opening_counts : (old new : Option DiskState) (a b c : DiskStatus) (x y : Bool) → IsSomeAnd old (Begins base) → Goes Prepared old new → DeviceCalls 9 a b x → DeviceCalls (4 * MOST_UNITS + 91) b c y
-      → ((units image selector : ℕ) → IsSomeAnd new (λ s. IsHeaded units image selector s.seen) → c.calls ≤ b.calls + (4 * units + 91))
+  opening_counts : (old new : Option DiskState) (a b c : DiskStatus) (x y : Bool) → IsSomeAnd old (Begins base) → Goes Prepared old new → DeviceCalls 9 a b x → DeviceCalls (2 * MOST_UNITS + 27) b c y
+      → ((units image selector : ℕ) → IsSomeAnd new (λ s. IsHeaded units image selector s.seen) → c.calls ≤ b.calls + (2 * units + 27))
       → OpeningCounts base.units a c
   opening_counts None new a b c x y tells goes first second few = absurd tells
   opening_counts (Some old) None a b c x y tells goes first second few = absurd goes
@@ -176,8 +176,8 @@ cut_before base (Some old) (Some new) tells goes = elim goes [
 -- ---- an opening, by what the restart says
 
 module _ (states : StatesLaw) (bad_images : BadImagesLaw) (old mid new : Option DiskState) (s u t : DiskStatus) (b d : BuffersState) (goes : Goes Prepared old mid) (prepared : DeviceCalls 9 s u false) where
-  pub opens : (r : Restarted) → IsStarted (on b mid u) (on d new t) r → DeviceCalls (4 * MOST_UNITS + 91) u t false
-      → ((units image selector : ℕ) → IsSomeAnd mid (λ s. IsHeaded units image selector s.seen) → t.calls ≤ u.calls + (4 * units + 91)) → IsOpened r old new s t
+  pub opens : (r : Restarted) → IsStarted (on b mid u) (on d new t) r → DeviceCalls (2 * MOST_UNITS + 27) u t false
+      → ((units image selector : ℕ) → IsSomeAnd mid (λ s. IsHeaded units image selector s.seen) → t.calls ≤ u.calls + (2 * units + 27)) → IsOpened r old new s t
   opens r is calls few = record {
     stands = λ base tells. let start = start_of base tells in (start.stands, start.unworn);
     found = λ base tells. let start = start_of base tells in (start.events_are, start.in_doubt_are);

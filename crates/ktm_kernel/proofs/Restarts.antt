@@ -1,23 +1,23 @@
 -- What a restart finds on a disk, and what it makes of it.
-use Rattle.std.proofs.Common.{◌≡◌, ℕ, ◌+◌, ◌*◌, ◌≤◌, Bool, true, false, List, length, Option, None, Some, Vec, refl, sym, ◌∙◌, ap, subst, arith, inl, inr}
+use Rattle.std.proofs.Common.{◌≡◌, ℕ, ◌+◌, ◌*◌, ◌≤◌, Bool, true, false, List, length, drop, Option, None, Some, Vec, refl, sym, ◌∙◌, ap, subst, arith, inl, inr, length-take}
+use Rattle.std.proofs.lemmas.List.{length-drop}
 use Rattle.std.specs.Prelude.{IfSome, IsSomeAnd, vec_capacity}
-use Rattle.ktm_base.specs.declared.limits.TheConstants.{LEAST_UNITS, MOST_UNITS}
+use Rattle.ktm_base.specs.declared.limits.TheConstants.{MOST_UNITS, UNIT_BYTES}
 use Rattle.ktm_base.specs.Disk.{DeviceCalls, DiskState, DiskStatus, IsSafe}
 use Rattle.ktm_base.specs.Told.{Goes}
 use Rattle.ktm_base.proofs.offered.Images.{calls_law, safe_law}
-use Rattle.ktm_base.proofs.offered.ToldSteps.{IfSome-map, IfSome-step, IsSomeAnd-map}
+use Rattle.ktm_base.proofs.offered.ToldSteps.{IfSome-map, IsSomeAnd-map}
 use Rattle.ktm_alike.specs.Alike.{mapped_present}
 use Rattle.ktm_alike.specs.Laws.{AlikeLaw}
 use Rattle.ktm_content.specs.Places.{byte_at}
-use Rattle.ktm_core.specs.Core.{AreSoundFiles, ArePlacesStored, HoldsPlaces, PagesAgree, core_of, log_left}
+use Rattle.ktm_core.specs.Core.{AreSoundFiles, ArePlacesStored, HoldsPlaces, log_left}
 use Rattle.ktm_core.specs.Debts.{DebtsLaw, debts}
-use Rattle.ktm_core.specs.Starting.{Begun, IsOnStart, ListsStart, LeavesOwnOrNot as LeavesPlaces, started as what_starts}
-use Rattle.ktm_core.proofs.offered.Places.{files-weaker, durable-weaker, recorded-each}
-use Rattle.ktm_each.specs.Each.{EachOfFiles}
+use Rattle.ktm_core.specs.Starting.{Begun, IsNotRecorded, IsOnStart, ListsStart, LeavesOwnOrNot as LeavesPlaces, started as what_starts}
+use Rattle.ktm_core.proofs.offered.Places.{files-weaker, recorded-each}
 use Rattle.ktm_event.specs.Kept.{EventsState}
-use Rattle.ktm_journal.specs.Image.{JournalState, IsHeaded, page_count, row_of}
+use Rattle.ktm_journal.specs.Image.{JournalState, IsHeaded, image_len, page_count, pages_at, row_of}
 use Rattle.ktm_journal.specs.Open.{log_reads}
-use Rattle.ktm_journal.specs.Pages.{LeavesPages}
+use Rattle.ktm_journal.specs.Pages.{KeepsPages, LeavesPages}
 use Rattle.ktm_laws.proofs.offered.LogCounts.{own-counts}
 use Rattle.ktm_log.specs.declared.area.Area.{Area}
 use Rattle.ktm_log.specs.OnDisk.{OnDisk, ReadsInto, on}
@@ -25,7 +25,6 @@ use Rattle.ktm_mapped.specs.Laws.{MappedLaw}
 use Rattle.ktm_mapped.specs.Mapped.{IsBlank, mapped_durable}
 use Rattle.ktm_core.specs.Memory.{IsRoomy, MemoryState, held, present_of}
 use Rattle.ktm_core.specs.Stored.{AreFilesHeld}
-use Rattle.ktm_page.specs.Row.{page_of}
 use Rattle.ktm_records.specs.Spelling.{AreRecordedTexts, SpellingLaw}
 use Rattle.ktm_core.specs.Loads.{IsBadImage, IsJournalOf, IsLoaded}
 use Rattle.ktm_core.specs.Loaded.{Loaded}
@@ -33,22 +32,22 @@ use Rattle.ktm_core.specs.Logs.{IsSafeFor, JournalFor, PagedFor, StandsFor, byte
 use Rattle.ktm_slots.specs.Owed.{owed_slots}
 use Rattle.ktm_standing.specs.Laws.{FreshLaw, KeptLaw, StandingLaw}
 use Rattle.ktm_standing.specs.Standing.{IsStandingNow, fresh}
-use Rattle.ktm_store.specs.Store.{IsStoredAt, StoreState, page_at}
-use Rattle.ktm_store.proofs.offered.Holding.{byte-same}
+use Rattle.ktm_store.specs.Store.{IsHeldAt, IsStoredAt, PoolState, page_at}
+use Rattle.ktm_store.specs.Pool.{Shows}
+use Rattle.ktm_store.proofs.offered.Holding.{held-page}
 use Rattle.ktm_world.specs.Sizes.{area_len}
-use Rattle.ktm_units.specs.Units.{Agree, SeenLaw}
 use Rattle.ktm_world.specs.Durable.{Durable, is_worn, stand}
 use Rattle.ktm_world.specs.Logs.{Group}
 use Rattle.ktm_world.specs.Present.{Present}
-use Rattle.ktm_world.specs.World.{in_doubt, opened, own_group, present}
+use Rattle.ktm_world.specs.World.{in_doubt, opened, own_group}
 use Rattle.ktm_world.proofs.offered.Durables.{after_events-units}
 use Rattle.txf_volume.specs.Held.{files_of}
-use Rattle.ktm_kernel.specs.Begun.{IsBegun, IsNotBegun}
+use Rattle.ktm_kernel.specs.Begun.{IsBegun}
 use Rattle.ktm_kernel.specs.Buffers.{BuffersState, KeepBuffers}
 use Rattle.ktm_kernel.specs.Restarts.{FoundBad, FoundWorn, IsFreshlyCounted, IsStarted, IsUnpowered, IsUnwritten, IsWorn, LeavesOwnOrNot, MayOpen, NoStartLeaves, Started}
 use Rattle.ktm_kernel.specs.declared.restart.Restarted.{Restarted}
 use Rattle.ktm_kernel.specs.declared.restart.RestartFault.{RestartFault}
-use Rattle.ktm_kernel.specs.Stands.{HoldsRecorded, IsCoreReady, KernelState, machine_of}
+use Rattle.ktm_kernel.specs.Stands.{IsCoreReady, KernelAt, KernelState, core_on, kernel_of}
 use Rattle.ktm_kernel.proofs.Sizes.{more_calls}
 use Rattle.ktm_kernel.proofs.InBytes.{doubts-mapped, fresh-mapped, started-mapped, texts-mapped}
 
@@ -93,10 +92,16 @@ read_by : (places state : Durable) (told : Option DiskState) → IsSomeAnd told 
 read_by places state None read = absurd read
 read_by places state (Some s) read = (byte_at (row_of places.units s.seen), refl, read.is)
 
--- both facts of what is told
-both-told : {S : Type 0} (told : Option S) (P Q R : S → Type 0) → IsSomeAnd told P → IfSome told Q → ((s : S) → P s → Q s → R s) → IsSomeAnd told R
-both-told None P Q R first second f = absurd first
-both-told (Some s) P Q R first second f = f s first second
+-- the pages of an image, one behind another, are as long as they are many
+row-long : (units : ℕ) (bytes : List ℕ) → image_len units ≤ length bytes → length (row_of units bytes) ≡ page_count units * UNIT_BYTES
+row-long units bytes long = omega (arith, long, length-take (UNIT_BYTES * page_count units) (drop (pages_at units) bytes), length-drop (pages_at units) bytes)
+
+-- a row that the pages show has the bytes of the state, and the disk has all that was recorded
+record HasRow (m : MemoryState) (pool : PoolState) (state : Durable) (now : Option DiskState) : Type 0 where
+  row : List ℕ
+  shows : Shows pool row
+  bytes : mapped_present (byte_at row) (present_of m) ≡ fresh state
+  disk : IsSomeAnd now (HoldsPlaces (core_on (kernel_of m pool) row))
 
 -- what a disk may leave whose pages stay is what the places are in bytes
 leaves-bytes : MappedLaw → (units : ℕ) (places state : Durable) → units ≡ places.units → (told now : Option DiskState) → IsSomeAnd told (IsRead places state) → IsSomeAnd now (LeavesPlaces places) → Goes (LeavesPages units) told now
@@ -180,30 +185,13 @@ module _ {Z : Type 0} (most : ℕ) (old mid : OnDisk (Vec ℕ Z)) (loaded : Load
         subst (λ (j : JournalState). IsSomeAnd mid.told (JournalFor j loaded.state)) (sym begun.journal)
         (is.knows loaded.state (IsSomeAnd-map old.told (IsRead loaded.state state) (λ s. IsSafe s × PagedFor loaded.state s.seen) (read_is law loaded.state state old.told is.stands safe) (λ s read. (read.safe, read.paged))))
 
-    -- the disk has no more units than are read
-    few-begun : (told : Option DiskState) (units image selector : ℕ) → IsSomeAnd told (λ s. IsHeaded units image selector s.seen) → IfSome told (λ s. IsHeaded m.journal.units m.journal.image m.journal.selector s.seen)
-        → (m.journal.units ≡ units) × (LEAST_UNITS ≤ units)
-    few-begun None units image selector headed there = absurd headed
-    few-begun (Some s) units image selector headed there = (sym there.units_are ∙ headed.units_are, headed.least)
-
-    -- it takes as many device calls as the units of its image ask for
-    pub few_calls : (a b c units image selector : ℕ) → IsSomeAnd old.told (λ s. IsHeaded units image selector s.seen) → b ≤ a + (log_reads units + 5) → c ≤ b + (page_count m.journal.units + 6) → c ≤ a + (4 * units + 91)
-    few_calls a b c units image selector headed first second =
-        let (same, least) = few-begun old.told units image selector headed (subst (λ (t : Option DiskState). IfSome t (λ s. IsHeaded m.journal.units m.journal.image m.journal.selector s.seen)) is.read.reads.reads.same (headed_begun loaded events m mid.told begun is.headed)) in
-        omega (arith, same, least, first, second)
-
-    -- and no more than those of any image ask for
-    pub all_calls : (t : DiskStatus) (refused : Bool) → most ≤ log_reads MOST_UNITS + 5 → DeviceCalls (page_count m.journal.units + 6) mid.status t refused → DeviceCalls (4 * MOST_UNITS + 91) old.status t refused
+    -- it takes no more device calls than those of any image ask for
+    pub all_calls : (t : DiskStatus) (refused : Bool) → most ≤ log_reads MOST_UNITS + 5 → DeviceCalls 6 mid.status t refused → DeviceCalls (2 * MOST_UNITS + 27) old.status t refused
     all_calls t refused few calls =
-        more_calls (most + (page_count m.journal.units + 6)) (4 * MOST_UNITS + 91) old.status t refused (omega (arith, few, units_of_state, is.state.most))
-        (calls_law old.status mid.status t most (page_count m.journal.units + 6) refused is.read.reads.reads.calls calls)
+        more_calls (most + 6) (2 * MOST_UNITS + 27) old.status t refused (omega (arith, few)) (calls_law old.status mid.status t most 6 refused is.read.reads.reads.calls calls)
 
     -- the start was recorded
-    module _ (new : OnDisk BuffersState) (n : MemoryState) (store : StoreState) (b : IsBegun events (on m mid.told mid.status) (on n new.told new.status) store) where
-      -- the byte at each place
-      abbrev f : ℕ → ℕ
-      f = byte_at store.seen
-
+    module _ (new : OnDisk BuffersState) (n : MemoryState) (pool : PoolState) (b : IsBegun events (on m mid.told mid.status) (on n new.told new.status) pool) where
       -- over the places
       places_now : present_of n ≡ fresh loaded.state
       places_now = b.leaves.now loaded.state on_start
@@ -211,88 +199,71 @@ module _ {Z : Type 0} (most : ℕ) (old mid : OnDisk (Vec ℕ Z)) (loaded : Load
       same_files : files_of n.files ≡ files_of m.files
       same_files = ap (λ (k : MemoryState). files_of k.files) b.leaves.journal
 
-      stored_files : EachOfFiles (λ file index place. IsStoredAt store.stored place) (files_of n.files)
-      stored_files = subst (EachOfFiles (λ file index place. IsStoredAt store.stored place)) (sym same_files) b.pages.stored
+      held_then : AreFilesHeld pool (files_of n.files)
+      held_then = subst (AreFilesHeld pool) (sym same_files) b.held
 
-      stored_recorded : ArePlacesStored store.stored (present_of n).recorded
-      stored_recorded = recorded-each (λ file index place. IsStoredAt store.stored place) (held n) stored_files
+      count_then : length pool.marks.held ≡ page_count n.journal.units
+      count_then = b.count ∙ ap page_count (sym b.leaves.units)
 
-      -- the bytes in memory are those on the disk
-      same-bytes : SeenLaw → (s : DiskState) → PagesAgree m.journal.units store s → mapped_present f (present_of n) ≡ mapped_present (byte_at (row_of m.journal.units s.seen)) (present_of n)
-      same-bytes law s agree =
-          let g : ℕ → ℕ = byte_at (row_of m.journal.units s.seen) in
-          let same : (place : ℕ) → IsStoredAt store.stored place → f place ≡ g place = λ place stored. byte-same store.seen (row_of m.journal.units s.seen) place (λ some. sym (agree (page_at place) (stored some))) in
-          law f g (present_of n)
-          (files-weaker (λ file index place. IsStoredAt store.stored place) (Agree f g) (λ file index place. same place) (files_of n.files) stored_files)
-          (durable-weaker (λ file index place. IsStoredAt store.stored place) (Agree f g) (λ file index place. same place) (present_of n).recorded stored_recorded)
+      -- pages that are held are stored, as all are
+      stored_recorded : ArePlacesStored pool.stored (present_of n).recorded
+      stored_recorded =
+          recorded-each (λ file index place. IsStoredAt pool.stored place) (held n)
+          (files-weaker (λ file index place. IsHeldAt pool.marks place) (λ file index place. IsStoredAt pool.stored place)
+          (λ file index place held some. b.stored (page_at place) (held-page pool.marks.held (page_at place) (held some))) (files_of n.files) held_then)
 
-      -- what is so is what is so once a machine started from the state of bytes
-      bytes_now : SeenLaw → AlikeLaw → FreshLaw → (state : Durable) (told : Option DiskState) → IsSomeAnd told (IsRead loaded.state state) → IfSome told (PagesAgree m.journal.units store)
-          → mapped_present f (present_of n) ≡ fresh state
-      bytes_now seen alike begins state None read agree = absurd read
-      bytes_now seen alike begins state (Some s) read agree =
-          let g : ℕ → ℕ = byte_at (row_of loaded.state.units s.seen) in
-          same-bytes seen s agree
-          ∙ ap (λ u. mapped_present (byte_at (row_of u s.seen)) (present_of n)) units_of_state
-          ∙ ap (mapped_present g) places_now
-          ∙ sym (fresh-mapped g refl alike begins loaded.state)
-          ∙ ap fresh (sym read.is)
-
-      -- the disk has the journal, and the pages
-      pages_then : IfSome new.told (PagesAgree n.journal.units store)
-      pages_then =
-          subst (λ u. IfSome new.told (PagesAgree u store)) (sym b.leaves.units)
-          (IfSome-step mid.told new.told (PagesAgree m.journal.units store) (PagesAgree m.journal.units store) b.pages.agree b.leaves.pages
-          (λ s t agree keeps page stored. ap (λ (l : List ℕ). page_of l page) keeps ∙ agree page stored))
-
-      holds_then : PlacesLaw → (state : Durable) → IsSomeAnd old.told (IsSafeFor state) → IsSomeAnd new.told (HoldsPlaces (core_of n store))
-      holds_then law state safe =
-          both-told new.told (JournalFor n.journal (what_starts loaded.state)) (PagesAgree n.journal.units store) (HoldsPlaces (core_of n store)) (b.leaves.disk loaded.state on_start (knows law state safe)) pages_then
-          (λ s journal agree. record { journal = subst (λ (x : Present). JournalFor n.journal x.recorded s) (sym places_now) journal; pages = agree; stored = stored_recorded })
+      -- the row of a disk that tells has all that the machine recorded, and the bytes of the state
+      row_then : FreshLaw → AlikeLaw → (state : Durable) (told now : Option DiskState) → IsSomeAnd told (IsRead loaded.state state) → Goes (KeepsPages m.journal.units) told now
+          → IfSome now (λ s. IsHeaded n.journal.units n.journal.image n.journal.selector s.seen) → IsSomeAnd now (JournalFor n.journal (what_starts loaded.state)) → HasRow n pool state now
+      row_then begins alike state None now read keeps headed journal = absurd read
+      row_then begins alike state (Some s) None read keeps headed journal = absurd keeps
+      row_then begins alike state (Some s) (Some t) read keeps headed journal =
+          let row : List ℕ = row_of n.journal.units t.seen in
+          let same : row ≡ row_of loaded.state.units s.seen = ap (λ u. row_of u t.seen) b.leaves.units ∙ keeps ∙ ap (λ u. row_of u s.seen) units_of_state in
+          record {
+            row = row;
+            shows = b.shows row (row-long n.journal.units t.seen headed.long ∙ ap (λ pages. pages * UNIT_BYTES) (sym count_then));
+            bytes = ap (λ (l : List ℕ). mapped_present (byte_at l) (present_of n)) same
+                ∙ ap (mapped_present (byte_at (row_of loaded.state.units s.seen))) places_now
+                ∙ sym (fresh-mapped (byte_at (row_of loaded.state.units s.seen)) refl alike begins loaded.state)
+                ∙ ap fresh (sym read.is);
+            disk = record { journal = subst (λ (x : Present). JournalFor n.journal x.recorded t) (sym places_now) journal; pages = λ page stored. refl; stored = stored_recorded };
+          }
 
       -- what the machine holds
-      standing_places : FreshLaw → IsStandingNow (present_of n)
-      standing_places begins = subst IsStandingNow (sym places_now) (begins.stands loaded.state is.state.good is.state.texts is.state.most unworn)
+      standing_then : FreshLaw → IsStandingNow (present_of n)
+      standing_then begins = subst IsStandingNow (sym places_now) (begins.stands loaded.state is.state.good is.state.texts is.state.most unworn)
 
-      slots_here : owed_slots (present_of n) ≤ n.tm.slots
-      slots_here =
+      slots_then : owed_slots (present_of n) ≤ n.tm.slots
+      slots_then =
           subst (λ (x : Present). owed_slots x ≤ n.tm.slots) (sym places_now)
           (subst (λ slots. owed_slots (fresh loaded.state) ≤ slots) (sym (ap (λ (k : MemoryState). k.tm.slots) b.leaves.journal)) begun.slots)
 
       -- its log has room for what transactions may still record
       room_left : FreshLaw → KeptLaw → DebtsLaw → debts (present_of n) + 1 ≤ log_left n.journal
-      room_left begins keeps owes = omega (arith, owes.most (present_of n) (keeps (present_of n) (standing_places begins)), b.leaves.left)
+      room_left begins keeps owes = omega (arith, owes.most (present_of n) (keeps (present_of n) (standing_then begins)), b.leaves.left)
 
       sound_then : AreSoundFiles (page_count n.journal.units) (files_of n.files)
       sound_then =
           subst (λ u. AreSoundFiles (page_count u) (files_of n.files)) (sym b.leaves.units)
           (subst (AreSoundFiles (page_count m.journal.units)) (sym same_files) sound_begun)
 
-      core_ready : FreshLaw → KeptLaw → DebtsLaw → IsCoreReady (machine_of (core_of n store)) new.told new.status
+      core_ready : FreshLaw → KeptLaw → DebtsLaw → IsCoreReady (kernel_of n pool) new.told new.status
       core_ready begins keeps owes = record {
-        is = refl;
-        ready = record {
-          powered = record { power = λ up. b.leaves.synced.up; settled = λ up. b.leaves.synced.pending; image = λ up. b.leaves.headed; wanted = λ up. b.pages.wanted };
-          standing = standing_places begins;
-          slots = slots_here;
+        ready = λ row. record {
+          powered = record { power = λ up. b.leaves.synced.up; settled = λ up. b.leaves.synced.pending; image = λ up. b.leaves.headed; wanted = λ up. b.wanted };
+          standing = standing_then begins;
+          slots = slots_then;
           room = room_left begins keeps owes;
         };
-        count = b.count ∙ ap page_count (sym b.leaves.units);
+        count = count_then;
         sound = sound_then;
-        held = subst (AreFilesHeld store) (sym same_files) b.pages.held;
+        held = held_then;
       }
 
-      -- what is so over the bytes
-      now_is : AlikeLaw → FreshLaw → mapped_present f (present_of n) ≡ fresh (mapped_durable f loaded.state)
-      now_is alike begins = ap (mapped_present f) places_now ∙ sym (fresh-mapped f refl alike begins loaded.state)
-
-      standing : MappedLaw → AlikeLaw → FreshLaw → IsStandingNow (mapped_present f (present_of n))
-      standing mapped alike begins =
-          subst IsStandingNow (sym (now_is alike begins)) (begins.stands (mapped_durable f loaded.state) ((mapped f refl).2.good loaded.state is.state.good) (texts-mapped f loaded.state is.state.texts) is.state.most unworn)
-
-      module _ (r : Restarted) (kernel : r.kernel ≡ machine_of (core_of n store)) (states : PlacesLaw) (seen : SeenLaw) (mapped : MappedLaw) (alike : AlikeLaw) (begins : FreshLaw) (keeps : KeptLaw) (owes : DebtsLaw) where
+      module _ (r : Restarted) (kernel : r.kernel ≡ kernel_of n pool) (states : PlacesLaw) (mapped : MappedLaw) (alike : AlikeLaw) (begins : FreshLaw) (keeps : KeptLaw) (owes : DebtsLaw) where
         -- the machine is this one
-        by_machine : (P : KernelState → Type 0) → P (machine_of (core_of n store)) → P r.kernel
+        by_machine : (P : KernelState → Type 0) → P (kernel_of n pool) → P r.kernel
         by_machine P there = subst P (sym kernel) there
 
         starts : StandingLaw → r.events ≡ loaded.state.events → r.in_doubt ≡ length (in_doubt loaded.state) → (base : Durable) (log : List Group) → MayOpen base log → IsSomeAnd old.told (IsSafeFor (stand base log))
@@ -301,14 +272,19 @@ module _ {Z : Type 0} (most : ℕ) (old mid : OnDisk (Vec ℕ Z)) (loaded : Load
             let read = read_state states (stand base log) safe in
             let (g, blank, same) = read_by loaded.state (stand base log) mid.told read in
             let fine : is_worn (stand base log) ≡ false = ap is_worn same ∙ unworn in
+            let has = row_then begins alike (stand base log) mid.told new.told read b.leaves.pages b.leaves.headed (b.leaves.disk loaded.state on_start (knows states (stand base log) safe)) in
             record {
               unworn = fine;
-              stands = record {
-                is = by_machine (λ k. k ≡ machine_of k.core) refl;
-                now = by_machine (λ k. k.now ≡ present (opened base log)) (bytes_now seen alike begins (stand base log) mid.told read b.pages.agree ∙ sym (begins.opens base log));
-                standing = law.restarts base log may.good may.small may.applies (subst AreRecordedTexts (sym same) (texts-mapped g loaded.state is.state.texts)) fine;
-                disk = by_machine (λ k. IsSomeAnd new.told (HoldsRecorded k)) (holds_then states (stand base log) safe);
-              };
+              stands = by_machine (λ k. KernelAt k new.told (opened base log)) (
+                has.row,
+                has.shows,
+                record {
+                  is = refl;
+                  now = has.bytes ∙ sym (begins.opens base log);
+                  standing = law.restarts base log may.good may.small may.applies (subst AreRecordedTexts (sym same) (texts-mapped g loaded.state is.state.texts)) fine;
+                  disk = has.disk;
+                },
+              );
               events_are = count ∙ ap (λ (d : Durable). d.events) (sym same);
               in_doubt_are = doubts ∙ sym (doubts-mapped g loaded.state) ∙ ap (λ (d : Durable). length (in_doubt d)) (sym same);
             }
@@ -322,8 +298,7 @@ module _ {Z : Type 0} (most : ℕ) (old mid : OnDisk (Vec ℕ Z)) (loaded : Load
               settled = λ up. b.leaves.synced.pending;
               image = λ up. by_machine (λ k. IfSome new.told (λ s. IsHeaded k.journal.units k.journal.image k.journal.selector s.seen)) b.leaves.headed;
             };
-            standing = λ up. by_machine (λ k. IsStandingNow k.now) (standing mapped alike begins);
-            slots = λ up. by_machine (λ k. owed_slots k.now ≤ k.slots) slots_here;
+            slots = λ up. by_machine (λ k. owed_slots k.now ≤ k.slots) slots_then;
             core = λ up. by_machine (λ k. IsCoreReady k new.told new.status) (core_ready begins keeps owes);
           };
           up = by_machine (λ k. k.now.machine.is_up ≡ true) (ap (λ (x : Present). x.machine.is_up) places_now);
@@ -332,15 +307,11 @@ module _ {Z : Type 0} (most : ℕ) (old mid : OnDisk (Vec ℕ Z)) (loaded : Load
         }
 
     -- it was not
-    pub not_restarted : PlacesLaw → MappedLaw → (a : BuffersState) (new : OnDisk BuffersState) (n : MemoryState) → IsNotBegun events (on m mid.told mid.status) (on n new.told new.status) → KeepBuffers a new.it
+    pub not_restarted : PlacesLaw → MappedLaw → (a : BuffersState) (new : OnDisk BuffersState) (n : MemoryState) → IsNotRecorded events (on m mid.told mid.status) (on n new.told new.status) → KeepBuffers a new.it
         → IsUnpowered (on a old.told old.status) new
-    not_restarted states law a new n (inl unread) kept = record {
-      leaves = λ state safe. subst (λ (t : Option DiskState). IsSomeAnd t (LeavesOwnOrNot state)) (sym (unread.same ∙ is.read.reads.reads.same)) (unwritten_leaves state old.told safe);
-      kept = kept;
-    }
-    not_restarted states law a new n (inr unrecorded) kept = record {
+    not_restarted states law a new n unrecorded kept = record {
       leaves = λ state safe.
-          let left = unrecorded.leaves.disk loaded.state on_start (knows states state safe) in
+          let left = unrecorded.disk loaded.state on_start (knows states state safe) in
           leaves-bytes law m.journal.units loaded.state state units_of_state mid.told new.told (read_state states state safe) left.0 left.1;
       kept = kept;
     }

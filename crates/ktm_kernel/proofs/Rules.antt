@@ -6,7 +6,7 @@ use Rattle.ktm_each.specs.Each.{EachOfFiles}
 use Rattle.ktm_core.specs.Rules.{Follows}
 use Rattle.ktm_core.specs.Stored.{AreFilesHeld}
 use Rattle.ktm_store.specs.Marks.{MarksState}
-use Rattle.ktm_store.specs.Store.{IsHeldAt, StoreState}
+use Rattle.ktm_store.specs.Store.{IsHeldAt, StoreOf}
 use Rattle.ktm_world.specs.Files.{FilesNow}
 use Rattle.ktm_kernel.specs.Staging.{is_held_at}
 
@@ -22,8 +22,8 @@ rule-held marks file index place follows some = elim (cases_Bool (place == 0)) [
   | inr other ↦ (rw other at follows)
 ]
 
-pub files-rule : (store : StoreState) (files : FilesNow) → AreFilesHeld store files → EachOfFiles (Follows (is_held_at store.marks)) files
+pub files-rule : {B : Type 0} (store : StoreOf B) (files : FilesNow) → AreFilesHeld store files → EachOfFiles (Follows (is_held_at store.marks)) files
 files-rule store files held = files-weaker (λ file index place. IsHeldAt store.marks place) (Follows (is_held_at store.marks)) (held-rule store.marks) files held
 
-pub rule-files : (store : StoreState) (files : FilesNow) → EachOfFiles (Follows (is_held_at store.marks)) files → AreFilesHeld store files
+pub rule-files : {B : Type 0} (store : StoreOf B) (files : FilesNow) → EachOfFiles (Follows (is_held_at store.marks)) files → AreFilesHeld store files
 rule-files store files follows = files-weaker (Follows (is_held_at store.marks)) (λ file index place. IsHeldAt store.marks place) (rule-held store.marks) files follows

@@ -1,15 +1,17 @@
 -- What is recorded of bytes takes as many device calls as what is recorded of their places.
-use Rattle.std.proofs.Common.{◌≡◌, ℕ, ◌+◌, ◌*◌, ◌/◌, ◌≤◌, nat_lt, Bool, true, false, List, [], ◌∷◌, map, refl, sym, ◌∙◌, ap, arith, inl, inr}
-use Rattle.std.specs.Prelude.{sum_by}
-use Rattle.std.proofs.Math.Nat.{min-le_right}
+use Rattle.std.proofs.Common.{◌≡◌, ℕ, ◌+◌, ◌*◌, ◌/◌, ◌≤◌, ◌||◌, nat_lt, Bool, true, false, List, [], ◌∷◌, length, map, refl, sym, ◌∙◌, ap, subst, arith, inl, inr}
+use Rattle.std.specs.Prelude.{min, sum_by, if◌then◌else◌}
+use Rattle.std.proofs.Math.Nat.{le-min, min-le_left, min-le_right}
 use Rattle.std.proofs.lemmas.Bool.{cases_Bool}
 use Rattle.std.proofs.lemmas.List.{length-map}
 use Rattle.std.proofs.lemmas.List.Sums.{sum_by-cons}
 use Rattle.ktm_base.specs.Disk.{DeviceCalls, DiskStatus}
 use Rattle.ktm_core.specs.Core.{log_left}
 use Rattle.ktm_core.specs.Debts.{most_debts}
-use Rattle.ktm_core.specs.Done.{lacks_room, most_calls as most_core_calls}
-use Rattle.ktm_journal.specs.Image.{JournalState}
+use Rattle.ktm_core.specs.Done.{lacks_room, most_calls as most_core_calls, page_calls, waiting_calls}
+use Rattle.ktm_alike.proofs.offered.Files.{bytes_of-mapped}
+use Rattle.ktm_alike.specs.Alike.{mapped_present}
+use Rattle.ktm_journal.specs.Image.{JournalState, page_count}
 use Rattle.ktm_mapped.specs.Mapped.{mapped_change, mapped_contents, mapped_event, mapped_group, mapped_part}
 use Rattle.ktm_core.specs.Stored.{units_of_change, units_put}
 use Rattle.txf_laws.specs.Grammatical.{changes_of_event}
@@ -24,15 +26,25 @@ use Rattle.ktm_world.specs.declared.event.Event.TheVariants.{Boot, MadeRm, Plain
 use Rattle.ktm_world.specs.declared.event.Part.{Part}
 use Rattle.ktm_world.specs.declared.event.Part.TheVariants.{Enlistment, Changes, Settings}
 use Rattle.ktm_units.specs.Units.{AreEventsSame}
-use Rattle.ktm_paged.specs.Meaning.{size_before}
+use Rattle.ktm_paged.specs.Meaning.{first_unit, size_before, units_from}
+use Rattle.ktm_world.specs.Changes.{node_of}
+use Rattle.ktm_world.specs.Tree.{bytes_of}
 use Rattle.ktm_world.specs.Durable.{changes_in}
 use Rattle.ktm_world.specs.Present.{Present}
 use Rattle.ktm_kernel.specs.Done.{is_write, most_calls, units_touched, units_written}
-use Rattle.ktm_kernel.specs.Stands.{KernelState}
 
 -- more calls are allowed
 pub more_calls : (few most : ℕ) (old new : DiskStatus) (refused : Bool) → few ≤ most → DeviceCalls few old new refused → DeviceCalls most old new refused
 more_calls few most old new refused more calls = record { later = calls.later; counted = calls.counted; few = omega (arith, more, calls.few); cause = calls.cause; down = calls.down; plan = calls.plan; places = calls.places }
+
+-- more units take no fewer calls
+pages-more : (a b most : ℕ) → a ≤ b → page_calls (min a most) ≤ page_calls (min b most)
+pages-more a b most more =
+    let least = min-le_left a most in
+    let last = min-le_right a most in
+    let less : min a most ≤ b = omega (arith, least, more) in
+    let both = le-min less last in
+    omega (arith, both)
 
 -- a sum of what stays in each thing
 sum-mapped : {X : Type 0} (size : X → ℕ) (g : X → X) → ((x : X) → size (g x) ≡ size x) → (xs : List X) → sum_by size (map g xs) ≡ sum_by size xs
@@ -132,22 +144,82 @@ module _ (f : ℕ → ℕ) where
   lacks-same journal (e ∷ es) = ap (λ n. nat_lt (log_left journal) (n + most_debts journal.units + 1)) (frame-same (e ∷ es))
 
   -- what is recorded of the bytes takes no more
-  most-enough : (completing : Bool) (k : KernelState) (events asked : Group) → AreEventsSame f events asked → units_put events ≤ units_written k.now asked → most_core_calls completing k.journal events ≤ most_calls completing k asked
-  most-enough true k events asked same few = omega (arith, few)
-  most-enough false k events asked same few = elim (cases_Bool (is_write asked)) [
-    | inl write ↦ rw write (elim (cases_Bool (lacks_room k.journal events)) [
-      | inl full ↦ rw full (omega (arith, few))
-      | inr room ↦ rw room (omega (arith, few))
-    ])
-    | inr other ↦ rw other (elim same [
-      | inl is ↦ rw (ap (lacks_room k.journal) is ∙ lacks-same k.journal events) (elim (cases_Bool (lacks_room k.journal events)) [
-        | inl full ↦ rw full (omega (arith, few))
-        | inr room ↦ rw room (omega (arith, few))
-      ])
-      | inr writes ↦ (let e : true ≡ false = sym writes.second ∙ sym (ap is_write writes.asked_are) ∙ other in absurd (cc))
-    ])
-  ]
+  most-enough : (completing writing more : Bool) (writes : writing ≡ true → more ≡ true) (x : Present) (journal : JournalState) (events asked : Group) → AreEventsSame f events asked → units_put events ≤ units_written x asked
+      → most_core_calls completing writing journal events ≤ most_calls completing more x journal asked
+  most-enough completing writing more writes x journal events asked same few =
+      let pages = pages-more (units_put events) (units_written x asked) (page_count journal.units) few in
+      let logs = log-more completing journal events asked same in
+      let waits = waiting-more writing more writes journal.units events asked same in
+      omega (arith, pages, logs, waits)
+    where
+      log-more : (completing : Bool) (journal : JournalState) (events asked : Group) → AreEventsSame f events asked
+          → (if completing then 4 else if lacks_room journal events then 10 else 4) ≤ (if completing then 4 else if is_write asked || lacks_room journal asked then 10 else 4)
+      log-more true journal events asked same = omega arith
+      log-more false journal events asked same = elim (cases_Bool (is_write asked)) [
+        | inl write ↦ rw write (most-of (lacks_room journal events))
+        | inr other ↦ rw other (elim same [
+          | inl is ↦ rw (ap (lacks_room journal) is ∙ lacks-same journal events) (omega arith)
+          | inr writes ↦ (let e : true ≡ false = sym writes.second ∙ sym (ap is_write writes.asked_are) ∙ other in absurd (cc))
+        ])
+      ]
+        where
+          most-of : (b : Bool) → (if b then 10 else 4) ≤ 10
+          most-of true = omega arith
+          most-of false = omega arith
 
-  pub calls-same : (completing : Bool) (k : KernelState) (events asked : Group) (s t : DiskStatus) (refused : Bool) → AreEventsSame f events asked → units_put events ≤ units_written k.now asked
-      → DeviceCalls (most_core_calls completing k.journal events) s t refused → DeviceCalls (most_calls completing k asked) s t refused
-  calls-same completing k events asked s t refused same few calls = more_calls (most_core_calls completing k.journal events) (most_calls completing k asked) s t refused (most-enough completing k events asked same few) calls
+      waiting-more : (writing more : Bool) → (writing ≡ true → more ≡ true) → (units : ℕ) (events asked : Group) → AreEventsSame f events asked → waiting_calls writing units events ≤ waiting_calls more units asked
+      waiting-more writing more writes units (e ∷ es) asked same = omega arith
+      waiting-more writing more writes units [] asked (inr are) = (let e = are.events_are in absurd (cc))
+      waiting-more writing more writes units [] asked (inl is) = rw is (go writing more writes)
+        where
+          go : (writing more : Bool) → (writing ≡ true → more ≡ true) → (if writing then page_calls (page_count units) else 0) ≤ (if more then page_calls (page_count units) else 0)
+          go false more writes = omega arith
+          go true true writes = omega arith
+          go true false writes = (let e : false ≡ true = writes refl in absurd (cc))
+
+  -- with the bytes replaced it takes as many
+  written-same : (x : Present) (events : Group) → units_written (mapped_present f x) (mapped_group f events) ≡ units_written x events
+  written-same x [] = refl
+  written-same x (Plain c ∷ []) = ap (λ n. units_touched n (mapped_change f c)) (size-same c) ∙ touched-same (size_before x.files.tree c) c
+    where
+      size-same : (c : Change) → size_before (mapped_present f x).files.tree (mapped_change f c) ≡ size_before x.files.tree c
+      size-same c = ap (λ n. length (bytes_of (mapped_present f x).files.tree n)) (node-same c) ∙ ap length (bytes_of-mapped f x.files.tree (node_of c)) ∙ length-map (bytes_of x.files.tree (node_of c)) f
+        where
+          node-same : (c : Change) → node_of (mapped_change f c) ≡ node_of c
+          node-same (Make node parent kind name) = refl
+          node-same (Put node offset contents) = refl
+          node-same (Cut node size pages) = refl
+          node-same (Move node parent name) = refl
+          node-same (Drop node) = refl
+
+      touched-same : (n : ℕ) (c : Change) → units_touched n (mapped_change f c) ≡ units_touched n c
+      touched-same n (Put node offset (Whole bytes)) = ap (λ m. units_from (first_unit n offset) (offset + m)) (length-map bytes f)
+      touched-same n (Put node offset (Paged len pages)) = refl
+      touched-same n (Make node parent kind name) = refl
+      touched-same n (Cut node size pages) = refl
+      touched-same n (Move node parent name) = refl
+      touched-same n (Drop node) = refl
+  written-same x (e ∷ es) = group-units (e ∷ es)
+
+  write-same : (events : Group) → is_write (mapped_group f events) ≡ is_write events
+  write-same [] = refl
+  write-same (Plain (Put node offset contents) ∷ []) = refl
+  write-same (Plain (Make node parent kind name) ∷ []) = refl
+  write-same (Plain (Cut node size pages) ∷ []) = refl
+  write-same (Plain (Move node parent name) ∷ []) = refl
+  write-same (Plain (Drop node) ∷ []) = refl
+  write-same (e ∷ es) = refl
+
+  waiting-same : (writing : Bool) (units : ℕ) (events : Group) → waiting_calls writing units (mapped_group f events) ≡ waiting_calls writing units events
+  waiting-same writing units [] = refl
+  waiting-same writing units (e ∷ es) = refl
+
+  most-same : (completing writing : Bool) (x : Present) (journal : JournalState) (events : Group) → most_calls completing writing (mapped_present f x) journal (mapped_group f events) ≡ most_calls completing writing x journal events
+  most-same completing writing x journal events = λ i.
+      page_calls (min (written-same x events i) (page_count journal.units)) + (if completing then 4 else if write-same events i || lacks-same journal events i then 10 else 4) + waiting-same writing journal.units events i
+
+  -- so what is recorded of places takes no more than what is recorded of others in their place
+  pub calls-over : (completing writing more : Bool) (writes : writing ≡ true → more ≡ true) (x : Present) (journal : JournalState) (events asked : Group) → AreEventsSame f events (mapped_group f asked)
+      → units_put events ≤ units_written (mapped_present f x) (mapped_group f asked) → most_core_calls completing writing journal events ≤ most_calls completing more x journal asked
+  calls-over completing writing more writes x journal events asked same few =
+      subst (λ n. most_core_calls completing writing journal events ≤ n) (most-same completing more x journal asked) (most-enough completing writing more writes (mapped_present f x) journal events (mapped_group f asked) same few)

@@ -1,26 +1,29 @@
 -- Pages that are filled before what is written is asked.
-use Rattle.std.proofs.Common.{◌≡◌, ◌≢◌, ℕ, suc, ◌+◌, ◌*◌, ◌<◌, ◌≤◌, ◌==◌, Bool, true, false, List, [], ◌∷◌, length, get_or, All, refl, sym, ◌∙◌, ap, subst, arith, inl, inr}
-use Rattle.std.specs.Prelude.{slice_index}
+use Rattle.std.proofs.Common.{◌≡◌, ◌≢◌, ℕ, suc, ◌+◌, ◌*◌, ◌<◌, ◌≤◌, ◌==◌, Bool, true, false, List, [], ◌∷◌, length, get_or, All, Option, refl, sym, ◌∙◌, ap, subst, arith, inl, inr}
+use Rattle.std.specs.Prelude.{slice_index, IsSomeAnd}
 use Rattle.std.proofs.lemmas.Bool.{and_from, both_ways, cases_Bool, eq-eqb, le-leb}
 use Rattle.std.proofs.lemmas.List.{get_or_default, length-replicate}
 use Rattle.std.proofs.lemmas.List.Elements.{All-cons, All-head, All-nil, All-tail}
 use Rattle.ktm_base.specs.declared.limits.TheConstants.{UNIT_BYTES}
 use Rattle.ktm_content.specs.Places.{LieOn, byte_at}
 use Rattle.ktm_content.proofs.offered.Bytes.{place-lie}
-use Rattle.ktm_core.specs.Core.{is_sound}
+use Rattle.ktm_base.specs.Disk.{DiskState}
+use Rattle.ktm_base.proofs.offered.ToldSteps.{IsSomeAnd-map}
+use Rattle.ktm_core.specs.Core.{PagesAgree, is_sound}
+use Rattle.ktm_core.specs.Reading.{Agrees}
 use Rattle.ktm_core.proofs.offered.Places.{files-both, files-weaker}
 use Rattle.ktm_each.specs.Each.{EachFrom, EachOfFiles}
 use Rattle.ktm_core.specs.Rules.{Follows}
-use Rattle.ktm_core.specs.Stored.{AreFilesHeld, HoldsFiles}
-use Rattle.ktm_page.specs.Row.{page_of}
+use Rattle.ktm_core.specs.Stored.{AreFilesHeld}
 use Rattle.ktm_paged.specs.Paged.{Differ, IsOwned, owners_with, page_at as page_of_place}
 use Rattle.ktm_paged.specs.Laws.{StatesApart}
 use Rattle.ktm_store.specs.Marks.{IsClear, MarksState, is_held}
-use Rattle.ktm_store.specs.Store.{AreDistinct, AreFree, AreHeld, IsHeldAt, IsStoredAt, KeepsHeld, StoreState, page_at}
+use Rattle.ktm_store.specs.Pool.{FilledPages, Shows, TookPages, on_row}
+use Rattle.ktm_store.specs.Store.{AreDistinct, AreFree, AreHeld, IsHeldAt, IsStoredAt, KeepsHeld, PoolState, StoreState, page_at}
 use Rattle.ktm_store.specs.Stored.{is_stored}
 use Rattle.ktm_store.proofs.offered.Holding.{byte-kept, held-below}
 use Rattle.ktm_world.specs.Files.{FilesNow}
-use Rattle.ktm_kernel.specs.Staging.{KeepsContents}
+use Rattle.ktm_kernel.specs.Staging.{KeepsContents, KeepsMarks, KeepsPlaces, KeepsRows}
 
 -- ---- pages that are held
 
@@ -29,24 +32,25 @@ pub clear-count : (count : ℕ) (marks : MarksState) → IsClear count marks →
 clear-count count marks is = ap length is.held ∙ length-replicate count false
 
 -- the places of files are on the pages that there are
-pub files-below : (files : FilesNow) (store : StoreState) → AreFilesHeld store files → EachOfFiles (λ file index place. place ≤ length store.marks.held * UNIT_BYTES) files
+pub files-below : (files : FilesNow) (store : PoolState) → AreFilesHeld store files → EachOfFiles (λ file index place. place ≤ length store.marks.held * UNIT_BYTES) files
 files-below files store held = files-weaker (λ file index place. IsHeldAt store.marks place) (λ file index place. place ≤ length store.marks.held * UNIT_BYTES)
     (λ file index place is. All-head (λ p. p ≤ length store.marks.held * UNIT_BYTES) place [] (held-below store.marks.held (place ∷ []) (All-cons (IsHeldAt store.marks) place [] is (All-nil (IsHeldAt store.marks))))) files held
 
 -- ---- what stays
 
-module _ (files : FilesNow) where
-  -- where nothing is done
-  pub keeps-all : (store : StoreState) → AreFilesHeld store files → KeepsContents files store store
-  keeps-all store held = record {
-    count = refl;
-    seen = files-weaker (λ file index place. IsHeldAt store.marks place) (λ file index place. byte_at store.seen place ≡ byte_at store.seen place) (λ file index place is. refl) files held;
-    held = held;
-    stored = files-weaker (λ file index place. IsHeldAt store.marks place) (λ file index place. IsStoredAt store.stored place → IsStoredAt store.stored place) (λ file index place is stored. stored) files held;
-    as_were = λ page is. (is, refl);
-    wanted = refl;
-  }
+-- what was filled keeps what is held
+pub fills-held : (after : List ℕ → List ℕ) (many : ℕ) (places : List ℕ) (old new : PoolState) (start : ℕ) (part row later : List ℕ) → TookPages many places old new start part → FilledPages after places old new start part row later
+    → KeepsHeld (on_row old row) (on_row new later)
+fills-held after many places old new start part row later took fills = record {
+  count = took.count;
+  held = took.kept;
+  bytes = fills.held;
+  stored = took.stored;
+  as_were = λ page is. (took.were_stored page is, fills.stored page is);
+  wanted = took.wanted;
+}
 
+module _ (files : FilesNow) where
   -- one after another
   pub keeps-then : (a b c : StoreState) → KeepsContents files a b → KeepsContents files b c → KeepsContents files a c
   keeps-then a b c first then = record {
@@ -60,21 +64,20 @@ module _ (files : FilesNow) where
     wanted = then.wanted ∙ first.wanted;
   }
 
-  -- all pages are free but those that files name
-  pub keeps-cleared : (old clear new : StoreState) → AreFilesHeld old files → clear.seen ≡ old.seen → clear.stored ≡ old.stored → clear.wanted ≡ old.wanted → IsClear (length old.marks.held) clear.marks → length clear.marks.held ≡ length old.marks.held
-      → HoldsFiles files clear new → KeepsContents files old new
-  keeps-cleared old clear new held seen stored wanted is count holds = record {
-    count = holds.count ∙ count;
-    seen = files-weaker (λ file index place. IsHeldAt old.marks place) (λ file index place. byte_at new.seen place ≡ byte_at old.seen place) (λ file index place is. ap (λ (row : List ℕ). byte_at row place) (holds.seen ∙ seen)) files held;
-    held = holds.places;
+  -- where the bytes are the same, on pages that are held still and stored as they were
+  pub keeps-marked : (old new : PoolState) → AreFilesHeld old files → new.stored ≡ old.stored → KeepsPlaces files old new → (row : List ℕ) → KeepsContents files (on_row old row) (on_row new row)
+  keeps-marked old new held stored keeps row = record {
+    count = keeps.count;
+    seen = files-weaker (λ file index place. IsHeldAt old.marks place) (λ file index place. byte_at row place ≡ byte_at row place) (λ file index place is. refl) files held;
+    held = keeps.held;
     stored = files-weaker (λ file index place. IsHeldAt old.marks place) (λ file index place. IsStoredAt old.stored place → IsStoredAt new.stored place)
-        (λ file index place is was. subst (λ (s : List Bool). IsStoredAt s place) (sym (holds.stored ∙ stored)) was) files held;
-    as_were = λ page is. (ap (λ (s : List Bool). is_stored s page) (sym (holds.stored ∙ stored)) ∙ is, ap (λ (row : List ℕ). page_of row page) (holds.seen ∙ seen));
-    wanted = holds.wanted ∙ wanted;
+        (λ file index place is was. subst (λ (s : List Bool). IsStoredAt s place) (sym stored) was) files held;
+    as_were = λ page is. (ap (λ (s : List Bool). is_stored s page) (sym stored) ∙ is, refl);
+    wanted = keeps.wanted;
   }
 
   -- pages that were free were filled
-  pub keeps-made : (old new : StoreState) → AreFilesHeld old files → KeepsHeld old new → KeepsContents files old new
+  keeps-made : (old new : StoreState) → AreFilesHeld old files → KeepsHeld old new → KeepsContents files old new
   keeps-made old new held keeps = record {
     count = keeps.count;
     seen = files-weaker (λ file index place. IsHeldAt old.marks place) (λ file index place. byte_at new.seen place ≡ byte_at old.seen place) (λ file index place is. byte-kept old new place keeps is) files held;
@@ -84,6 +87,52 @@ module _ (files : FilesNow) where
     as_were = keeps.as_were;
     wanted = keeps.wanted;
   }
+
+  -- ---- where pages are read and written
+
+  -- the places are as they were
+  pub places-read : (old new : PoolState) → AreFilesHeld old files → KeepsMarks old new → KeepsPlaces files old new
+  places-read old new held keeps = record {
+    count = ap (λ (m : MarksState). length m.held) keeps.marks;
+    held = subst (λ (m : MarksState). EachOfFiles (λ file index place. IsHeldAt m place) files) (sym keeps.marks) held;
+    wanted = keeps.wanted;
+  }
+
+  pub places-took : (many : ℕ) (places : List ℕ) (old new : PoolState) (start : ℕ) (part : List ℕ) → AreFilesHeld old files → TookPages many places old new start part → KeepsPlaces files old new
+  places-took many places old new start part held took = record {
+    count = took.count;
+    held = files-weaker (λ file index place. IsHeldAt old.marks place) (λ file index place. IsHeldAt new.marks place) (λ file index place is some. took.kept (page_at place) (is some)) files held;
+    wanted = took.wanted;
+  }
+
+  pub places-then : (a b c : PoolState) → KeepsPlaces files a b → KeepsPlaces files b c → KeepsPlaces files a c
+  places-then a b c first then = record { count = then.count ∙ first.count; held = then.held; wanted = then.wanted ∙ first.wanted }
+
+  -- the disk agrees still
+  pub agrees-kept : (units : ℕ) (told : Option DiskState) (old new : StoreState) → KeepsContents files old new → IsSomeAnd told (PagesAgree units old) → IsSomeAnd told (PagesAgree units new)
+  agrees-kept units told old new keeps agrees = IsSomeAnd-map told (PagesAgree units old) (PagesAgree units new) agrees (λ s pages page is. let (was, same) = keeps.as_were page is in pages page was ∙ sym same)
+
+  module _ (units : ℕ) (told : Option DiskState) where
+    -- a row that is shown before and then
+    pub rows-marked : (old new : PoolState) → AreFilesHeld old files → new.stored ≡ old.stored → KeepsPlaces files old new → ((row : List ℕ) → Shows old row → Agrees units old row told → Shows new row) → (then : List ℕ → Type 0)
+        → ((row : List ℕ) → Shows new row → Agrees units old row told → then row) → KeepsRows files units told old new then
+    rows-marked old new held stored keeps shows then is row shown agrees = (row, shows row shown agrees, keeps-marked old new held stored keeps row, is row (shows row shown agrees) agrees)
+
+    -- pages that were filled
+    pub rows-filled : (after : List ℕ → List ℕ) (many : ℕ) (places : List ℕ) (old new : PoolState) (start : ℕ) (part : List ℕ) → AreFilesHeld old files → TookPages many places old new start part
+        → ((row : List ℕ) → Shows old row → Agrees units old row told → (later : List ℕ) × FilledPages after places old new start part row later) → (then : List ℕ → Type 0)
+        → ((row later : List ℕ) → FilledPages after places old new start part row later → then later) → KeepsRows files units told old new then
+    rows-filled after many places old new start part held took filled then is row shown agrees =
+        let (later, fills) = filled row shown agrees in
+        (later, fills.shows, keeps-made (on_row old row) (on_row new later) held (fills-held after many places old new start part row later took fills), is row later fills)
+
+    -- one after another
+    pub rows-then : (a b c : PoolState) (then : List ℕ → Type 0) → ((row : List ℕ) → Shows a row → Agrees units a row told → (later : List ℕ) × Shows b later × KeepsContents files (on_row a row) (on_row b later))
+        → KeepsRows files units told b c then → KeepsRows files units told a c then
+    rows-then a b c then first more row shown agrees =
+        let (mid, shows, keeps) = first row shown agrees in
+        let (later, last, kept, is) = more mid shows (agrees-kept units told (on_row a row) (on_row b mid) keeps agrees) in
+        (later, last, keeps-then (on_row a row) (on_row b mid) (on_row c later) keeps kept, is)
 
 -- ---- the owners of pages that were free
 
@@ -126,7 +175,7 @@ sound-same owner other count file index place same is = elim (cases_Bool (place 
   | inr some ↦ (let e = same (λ zero. both_ways (place == 0) some (eq-eqb place 0 zero)) in rw some (rw e (rw some at is)))
 ]
 
-module _ (apart : StatesApart) (old new : StoreState) (start : ℕ) (part : List ℕ) (pages : List ℕ) (lie : LieOn pages part) (once : AreDistinct pages) (free : AreFree old.marks.held part) (held : AreHeld new.marks.held part)
+module _ (apart : StatesApart) (old new : PoolState) (start : ℕ) (part : List ℕ) (pages : List ℕ) (lie : LieOn pages part) (once : AreDistinct pages) (free : AreFree old.marks.held part) (held : AreHeld new.marks.held part)
     (count : length new.marks.held ≡ length old.marks.held) (unit : ℕ) (begins : unit * UNIT_BYTES ≡ start) where
   -- a page that was held is none of these
   elsewhere : (place : ℕ) → is_held old.marks.held (page_at place) ≡ true → All (λ page. page_of_place place ≢ page) pages

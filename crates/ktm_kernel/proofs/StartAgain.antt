@@ -19,6 +19,7 @@ use Rattle.ktm_world.specs.World.{World, own_group, opened, possible_logs, inter
 use Rattle.ktm_laws.specs.Running.{is_good_log}
 use Rattle.ktm_laws.proofs.offered.PossibleLogs.{contains-passes}
 use Rattle.ktm_standing.specs.Laws.{StandingLaw}
+use Rattle.ktm_store.specs.Pool.{Shows}
 use Rattle.ktm_world.specs.Logs.{Group, is_up}
 use Rattle.ktm_world.specs.Transcript.{Step, interrupted, found, worn, RestartDoes, StartDoes}
 use Rattle.ktm_world.proofs.offered.Durables.{stand-append, stand-units}
@@ -29,35 +30,43 @@ use Rattle.ktm_kernel.specs.Restarts.{IsStarted, IsUnwritten, IsWorn, LeavesOwnO
 use Rattle.ktm_kernel.specs.declared.restart.Restarted.{Restarted as RestartedMachine}
 use Rattle.ktm_kernel.specs.declared.restart.RestartFault.{RestartFault}
 use Rattle.ktm_kernel.specs.declared.restart.RestartFault.TheVariants.{Down, Bad, Worn}
-use Rattle.ktm_kernel.specs.Stands.{KernelState, HasFallen, StandsBy, LeavesStates, DoesLine, FoundAt, PowerLaw, FoundLaw}
+use Rattle.ktm_kernel.specs.Stands.{KernelState, HasFallen, MachineFoundAt, StandsBy, LeavesStates, DoesLine, FoundAt, PowerLaw, FoundLaw, machine_on}
 use Rattle.ktm_kernel.proofs.Possible.{first_is, Contains-filter, Contains-map, in_first, in_second}
 use Rattle.ktm_kernel.proofs.Ready.{off_ready}
 
 pub power_law : StandingLaw → PowerLaw
-power_law law k old new w off at = (
-  λ restored. record {
-    off = off;
-    down = fallen.off;
-    recorded = fallen.recorded;
-    standing = fallen.standing;
-    disk = IsSomeAnd-step old new (LeavesStates w) _ fallen.disk restored (λ a b leaves back. (back.safe, leaves b.seen back.left));
-  },
-  λ failed. record {
-    off = fallen.off;
-    recorded = fallen.recorded;
-    standing = law.interrupted_restarts w fallen.standing;
-    disk = IsSomeAnd-step old new (LeavesStates w) (LeavesStates (interrupted_restart w)) fallen.disk failed (λ a b leaves again image may.
-        let (log, possible, stands) = leaves image ((images_power_law a b image may).1 again) in
-        (log, in_first (possible_logs w) _ log possible, stands));
-  },
+power_law law k old new w off (row, shows, at) = (
+  λ restored. (
+    row,
+    shows,
+    record {
+      off = off;
+      down = fallen.off;
+      recorded = fallen.recorded;
+      standing = fallen.standing;
+      disk = IsSomeAnd-step old new (LeavesStates w) _ fallen.disk restored (λ a b leaves back. (back.safe, leaves b.seen back.left));
+    },
+  ),
+  λ failed. (
+    row,
+    shows,
+    record {
+      off = fallen.off;
+      recorded = fallen.recorded;
+      standing = law.interrupted_restarts w fallen.standing;
+      disk = IsSomeAnd-step old new (LeavesStates w) (LeavesStates (interrupted_restart w)) fallen.disk failed (λ a b leaves again image may.
+          let (log, possible, stands) = leaves image ((images_power_law a b image may).1 again) in
+          (log, in_first (possible_logs w) _ log possible, stands));
+    },
+  ),
 )
   where
-    fallen : HasFallen k old w
-    fallen = subst (λ b. StandsBy b k old w) off at
+    fallen : HasFallen (machine_on k row) old w
+    fallen = subst (λ b. StandsBy b (machine_on k row) old w) off at
 
 -- ---- one of the possible logs was found
 
-module _ (law : StandingLaw) (k : KernelState) (told now : Option DiskState) (w : World) (pick : ℕ) (at : FoundAt k told w) (log : List Group) (possible : Contains (possible_logs w) log) where
+module _ (law : StandingLaw) (k : KernelState) (told now : Option DiskState) (w : World) (pick : ℕ) (row : List ℕ) (shows : Shows k.pool row) (at : MachineFoundAt (machine_on k row) told w) (log : List Group) (possible : Contains (possible_logs w) log) where
   -- the machine is down, so a restart starts it
   off_does : (step : Step) (reply : Reply) (new : World) → StartDoes w step reply new → RestartDoes (is_up w.power) w step reply new
   off_does step reply new does = subst (λ b. RestartDoes b w step reply new) (sym at.off) does
@@ -83,19 +92,23 @@ module _ (law : StandingLaw) (k : KernelState) (told now : Option DiskState) (w 
     interrupted,
     interrupted_restart w,
     off_does interrupted (Refused MachineDown) (interrupted_restart w) (refl, refl),
-    record {
-      off = at.down;
-      recorded = at.recorded;
-      standing = law.interrupted_restarts w at.standing;
-      disk = IsSomeAnd-map now (LeavesOwnOrNot (stand w.base log)) (LeavesStates (interrupted_restart w)) leaves (λ s either image may. elim (either image may) [
-        | inl without ↦ (log, in_first (possible_logs w) _ log possible, without)
-        | inr with_it ↦ (
-          with_own w log,
-          in_second (possible_logs w) _ _ (Contains-map (with_own w) _ log (Contains-filter (λ l. not (is_worn_log w l)) (possible_logs w) log possible (ap not with_it.0))),
-          subst (λ (d : Durable). StandsFor d image) own_then with_it.1,
-        )
-      ]);
-    },
+    (
+      row,
+      shows,
+      record {
+        off = at.down;
+        recorded = at.recorded;
+        standing = law.interrupted_restarts w at.standing;
+        disk = IsSomeAnd-map now (LeavesOwnOrNot (stand w.base log)) (LeavesStates (interrupted_restart w)) leaves (λ s either image may. elim (either image may) [
+          | inl without ↦ (log, in_first (possible_logs w) _ log possible, without)
+          | inr with_it ↦ (
+            with_own w log,
+            in_second (possible_logs w) _ _ (Contains-map (with_own w) _ log (Contains-filter (λ l. not (is_worn_log w l)) (possible_logs w) log possible (ap not with_it.0))),
+            subst (λ (d : Durable). StandsFor d image) own_then with_it.1,
+          )
+        ]);
+      },
+    ),
   )
 
   pub stays : is_worn_log w log ≡ true → IsSomeAnd now (IsSafeFor (stand w.base log)) → DoesLine w (Some (Restart pick)) (Refused ImageWorn) k now
@@ -103,13 +116,17 @@ module _ (law : StandingLaw) (k : KernelState) (told now : Option DiskState) (w 
     worn log,
     found_worn w log,
     off_does (worn log) (Refused ImageWorn) (found_worn w log) (record { possible = possible; worn = is }, refl, refl),
-    record {
-      off = at.down;
-      recorded = at.recorded;
-      standing = law.worn_restarts w log (record { possible = possible; worn = is }) at.standing;
-      disk = IsSomeAnd-map now (IsSafeFor (stand w.base log)) (LeavesStates (found_worn w log)) holds
-          (λ s held image may. (log, first_is log [], subst (λ (l : List ℕ). StandsFor (stand w.base log) l) (sym ((safe_law s image held.0).0 may)) held.1));
-    },
+    (
+      row,
+      shows,
+      record {
+        off = at.down;
+        recorded = at.recorded;
+        standing = law.worn_restarts w log (record { possible = possible; worn = is }) at.standing;
+        disk = IsSomeAnd-map now (IsSafeFor (stand w.base log)) (LeavesStates (found_worn w log)) holds
+            (λ s held image may. (log, first_is log [], subst (λ (l : List ℕ). StandsFor (stand w.base log) l) (sym ((safe_law s image held.0).0 may)) held.1));
+      },
+    ),
   )
 
 -- ---- the answers of a restart, for the state that the disk stands for
@@ -125,43 +142,43 @@ BadImagesLaw = (state : Durable) (bytes : List ℕ) (offset : ℕ) → StandsFor
 pub started_line : StandingLaw → (k new : KernelState) (events in_doubt : ℕ) (told now : Option DiskState)
     → ((base : Durable) (log : List Group) → MayOpen base log → IsSomeAnd told (IsSafeFor (stand base log)) → Started base log new events in_doubt now)
     → (pick : ℕ) (w : World) → FoundAt k told w → DoesLine w (Some (Restart pick)) (Restarted events in_doubt) new now
-started_line law k new events in_doubt None now starts pick w at = absurd at.disk
-started_line law k new events in_doubt (Some s) now starts pick w at =
+started_line law k new events in_doubt None now starts pick w (row, shows, at) = absurd at.disk
+started_line law k new events in_doubt (Some s) now starts pick w (row, shows, at) =
     let (safe, held) = at.disk in
     let (log, possible, stands) = held in
-    started law k (Some s) now w pick at log possible new events in_doubt (starts w.base log (may_open law k (Some s) now w pick at log possible) (safe, stands))
+    started law k (Some s) now w pick row shows at log possible new events in_doubt (starts w.base log (may_open law k (Some s) now w pick row shows at log possible) (safe, stands))
 
 pub interrupted_line : StandingLaw → (k : KernelState) (told now : Option DiskState) → ((state : Durable) → IsSomeAnd told (IsSafeFor state) → IsSomeAnd now (LeavesOwnOrNot state))
     → (pick : ℕ) (w : World) → FoundAt k told w → DoesLine w (Some (Restart pick)) (Refused MachineDown) k now
-interrupted_line law k None now leaves pick w at = absurd at.disk
-interrupted_line law k (Some s) now leaves pick w at =
+interrupted_line law k None now leaves pick w (row, shows, at) = absurd at.disk
+interrupted_line law k (Some s) now leaves pick w (row, shows, at) =
     let (safe, held) = at.disk in
     let (log, possible, stands) = held in
-    cut law k (Some s) now w pick at log possible (leaves (stand w.base log) (safe, stands))
+    cut law k (Some s) now w pick row shows at log possible (leaves (stand w.base log) (safe, stands))
 
 pub worn_line : StandingLaw → StatesLaw → (k : KernelState) (told now : Option DiskState) → now ≡ told → IfSome told (IsWorn true)
     → (pick : ℕ) (w : World) → FoundAt k told w → DoesLine w (Some (Restart pick)) (Refused ImageWorn) k now
-worn_line law states k None now same is pick w at = absurd at.disk
-worn_line law states k (Some s) now same is pick w at =
+worn_line law states k None now same is pick w (row, shows, at) = absurd at.disk
+worn_line law states k (Some s) now same is pick w (row, shows, at) =
     let (safe, held) = at.disk in
     let (log, possible, stands) = held in
     let (state, read, may, is_so) = is in
-    stays law k (Some s) now w pick at log possible (ap is_worn (states (stand w.base log) state s.seen stands read) ∙ is_so)
+    stays law k (Some s) now w pick row shows at log possible (ap is_worn (states (stand w.base log) state s.seen stands read) ∙ is_so)
     (subst (λ d. IsSomeAnd d (IsSafeFor (stand w.base log))) (sym same) (safe, stands))
 
 -- what stands for the state of one of the logs is not bad
 pub found_is_good : BadImagesLaw → (k : KernelState) (told : Option DiskState) (offset : ℕ) → IfSome told (λ s. IsBadAt s.seen offset) → (w : World) → FoundAt k told w → ⊥
-found_is_good law k None offset bad w at = absurd at.disk
-found_is_good law k (Some s) offset bad w at =
+found_is_good law k None offset bad w (row, shows, at) = absurd at.disk
+found_is_good law k (Some s) offset bad w (row, shows, at) =
     let (safe, held) = at.disk in
     let (log, possible, stands) = held in
     law (stand w.base log) s.seen offset stands bad
 
 -- it takes as many device calls as the units of the run's image ask for
-pub found_few : (k : KernelState) (told : Option DiskState) (a b : ℕ) → ((units image selector : ℕ) → IsSomeAnd told (λ s. IsHeaded units image selector s.seen) → b ≤ a + (4 * units + 91))
-    → (w : World) → FoundAt k told w → b ≤ a + (4 * w.base.units + 91)
-found_few k None a b few w at = absurd at.disk
-found_few k (Some s) a b few w at =
+pub found_few : (k : KernelState) (told : Option DiskState) (a b : ℕ) → ((units image selector : ℕ) → IsSomeAnd told (λ s. IsHeaded units image selector s.seen) → b ≤ a + (2 * units + 27))
+    → (w : World) → FoundAt k told w → b ≤ a + (2 * w.base.units + 27)
+found_few k None a b few w (row, shows, at) = absurd at.disk
+found_few k (Some s) a b few w (row, shows, at) =
     let (safe, held) = at.disk in
     let (log, possible, stands) = held in
     let most = few stands.places.units stands.places.image stands.paged.is.selector stands.paged.is.formatted.headed in
@@ -170,8 +187,8 @@ found_few k (Some s) a b few w at =
 
 -- what is safe is what a loss of power leaves
 pub found_law : FoundLaw
-found_law k None w at = absurd at.disk
-found_law k (Some s) w at = λ image may.
+found_law k None w (row, shows, at) = absurd at.disk
+found_law k (Some s) w (row, shows, at) = λ image may.
     let (safe, held) = at.disk in
     let (log, possible, stands) = held in
     (log, possible, subst (λ (l : List ℕ). StandsFor (stand w.base log) l) (sym ((safe_law s image safe).0 may)) stands)

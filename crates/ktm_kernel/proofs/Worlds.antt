@@ -25,10 +25,10 @@ use Rattle.ktm_world.proofs.offered.Worlds.{step_law, refusal_law}
 use Rattle.ktm_standing.specs.Laws.{StandingLaw}
 use Rattle.ktm_standing.specs.Standing.{IsStanding}
 use Rattle.ktm_standing.proofs.offered.Decided.{decided_law, done_tick}
-use Rattle.ktm_kernel.specs.Stands.{KernelState, Stands, StandsBy, KernelAt, LeavesStates, DoesLine}
+use Rattle.ktm_store.specs.Pool.{Shows}
+use Rattle.ktm_kernel.specs.Stands.{KernelState, MachineAt, MachineState, Stands, StandsBy, KernelAt, LeavesStates, DoesLine, machine_on}
 use Rattle.ktm_core.specs.Done.{fallen}
 use Rattle.ktm_kernel.specs.Done.{IsDone, IsCutOff, Ends, LeavesEither}
-use Rattle.ktm_kernel.proofs.Fallen.{left-off, left-recorded}
 use Rattle.ktm_kernel.proofs.Left.{left_up}
 use Rattle.ktm_kernel.proofs.offered.Standing.{stands_up, up_is}
 use Rattle.ktm_kernel.proofs.Possible.{log_possible, groups_possible}
@@ -61,10 +61,17 @@ tick_goes_on law ms w counts standing = record {
 -- ---- a machine that was up
 
 -- the outcome comes by a step to a world for which the machine then stands
+abbrev DoesMachine : World → Outcome → Reply → MachineState → Option DiskState → Type 0
+DoesMachine w o reply k told = (step : Step) × (new : World) × CallDoes w o step reply new × MachineAt k told new
+
 abbrev pub DoesCall : World → Outcome → Reply → KernelState → Option DiskState → Type 0
 DoesCall w o reply k told = (step : Step) × (new : World) × CallDoes w o step reply new × KernelAt k told new
 
-module _ (old new : KernelState) (o : Outcome) (reply : Reply) (before now : Option DiskState) (w : World) (on : w.power ≡ up) (stands : Stands old before w) (keeps : GoesOn w o) where
+-- with the bytes of a row that its pages show
+pub on_shown : (w : World) (o : Outcome) (reply : Reply) (k : KernelState) (told : Option DiskState) (row : List ℕ) → Shows k.pool row → DoesMachine w o reply (machine_on k row) told → DoesCall w o reply k told
+on_shown w o reply k told row shows (step, new, does, at) = (step, new, does, (row, shows, at))
+
+module _ (old new : MachineState) (o : Outcome) (reply : Reply) (before now : Option DiskState) (w : World) (on : w.power ≡ up) (stands : Stands old before w) (keeps : GoesOn w o) where
   -- what was recorded is what the log comes to
   recorded_is : old.now.recorded ≡ stand w.base w.log
   recorded_is = ap (λ (x : Present). x.recorded) stands.now ∙ sym stands.standing.running.comes_to
@@ -81,7 +88,7 @@ module _ (old new : KernelState) (o : Outcome) (reply : Reply) (before now : Opt
     disk = done.disk stands.disk;
   }
 
-  pub done_line : IsDone old o reply new before now → DoesCall w o reply new now
+  pub done_line : IsDone old o reply new before now → DoesMachine w o reply new now
   done_line done = (answered, extend w o, (done.says, refl), subst (λ power. StandsBy (is_up power) new now (extend w o)) (sym on) (done_up done))
 
   left : IsCutOff old o reply new before now → IsSomeAnd now (LeavesStates (interrupted_by w o))
@@ -94,28 +101,25 @@ module _ (old new : KernelState) (o : Outcome) (reply : Reply) (before now : Opt
       kept : (log : List Group) → Contains (prefixes_from (length w.log) (w.log ++ as_groups o.events)) log → Contains (prefixes_from w.kept (w.log ++ as_groups o.events)) log
       kept log there = subst (λ n. Contains (prefixes_from n (w.log ++ as_groups o.events)) log) (sym stands.standing.running.kept) there
 
-  pub cut_line : IsCutOff old o reply new before now → DoesCall w o reply new now
+  pub cut_line : IsCutOff old o reply new before now → DoesMachine w o reply new now
   cut_line cut = (
     interrupted,
     interrupted_by w o,
     (ap is_up on, cut.says, refl),
     record {
-      off = ap (λ (x : Present). x.machine.is_up) cut.state ∙ left-off old.now o;
-      recorded = ap (λ (x : Present). x.recorded) cut.state ∙ left-recorded old.now o ∙ ap (λ (x : Present). x.recorded) stands.now;
+      off = cut.off;
+      recorded = cut.recorded ∙ ap (λ (x : Present). x.recorded) stands.now;
       standing = keeps.falls;
       disk = left cut;
     },
   )
 
 -- by whether the disk is down then, for what is decided on what is so now
-pub ended_line : (f : Present → Outcome) (is_down : Bool) (old new : KernelState) (reply : Reply) (before now : Option DiskState) → old.now.machine.is_up ≡ true → HasEventsLeft old.now
-    → ((w : World) → HasEventsLeft (present w) → IsStanding w → GoesOn w (f (present w)))
-    → Ends is_down old (f old.now) reply new before now → (w : World) → KernelAt old before w → DoesCall w (f (present w)) reply new now
-ended_line f false old new reply before now on counts keeps done w at =
-    let (power, stands) = stands_up old before w at on in
+pub ended_line : (f : Present → Outcome) (is_down : Bool) (old new : MachineState) (reply : Reply) (before now : Option DiskState) → HasEventsLeft old.now → ((w : World) → HasEventsLeft (present w) → IsStanding w → GoesOn w (f (present w)))
+    → Ends is_down old (f old.now) reply new before now → (w : World) → w.power ≡ up → Stands old before w → DoesMachine w (f (present w)) reply new now
+ended_line f false old new reply before now counts keeps done w power stands =
     done_line old new (f (present w)) reply before now w power stands (keeps w (subst (λ (x : Present). HasEventsLeft x) stands.now counts) stands.standing) (subst (λ x. IsDone old (f x) reply new before now) stands.now done)
-ended_line f true old new reply before now on counts keeps cut w at =
-    let (power, stands) = stands_up old before w at on in
+ended_line f true old new reply before now counts keeps cut w power stands =
     cut_line old new (f (present w)) reply before now w power stands (keeps w (subst (λ (x : Present). HasEventsLeft x) stands.now counts) stands.standing) (subst (λ x. IsCutOff old (f x) reply new before now) stands.now cut)
 
 -- ---- a machine that was down
@@ -141,11 +145,11 @@ down_tick k told ms off w at =
 
 -- a machine whose power goes while nothing is recorded
 pub crash_line : StandingLaw → RowsSeen → PagesLaw → (k : KernelState) → k.now.machine.is_up ≡ true → (told : Option DiskState) (w : World) → KernelAt k told w
-    → DoesLine w (Some Crash) Done (record k { now = fallen k.now; core = record k.core { now = fallen k.core.now } }) told
+    → DoesLine w (Some Crash) Done (record k { now = fallen k.now }) told
 crash_line law seen pages k on told w at =
-    let (power, stands) = stands_up k told w at on in (
+    let (power, (row, shows, stands)) = stands_up k told w at on in (
       answered,
       crashed w,
       subst (λ p. CrashDoes (is_up p) w answered Done (crashed w)) (sym power) (refl, refl),
-      record { off = refl; recorded = ap (λ (x : Present). x.recorded) stands.now; standing = law.crashes w stands.standing; disk = left_up seen pages k told w power stands },
+      (row, shows, record { off = refl; recorded = ap (λ (x : Present). x.recorded) stands.now; standing = law.crashes w stands.standing; disk = left_up seen pages (machine_on k row) told w power stands }),
     )

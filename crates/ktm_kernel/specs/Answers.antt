@@ -1,17 +1,19 @@
 -- What an answer of the machine leaves.
-use Rattle.std.specs.Prelude.{◌≡◌, ◌⊎◌, ℕ, ◌+◌, ◌≤◌, Bool, true, false, Option, Some, Result, Ok, Err}
+use Rattle.std.specs.Prelude.{◌≡◌, ◌⊎◌, ℕ, ◌+◌, ◌/◌, ◌≤◌, Bool, true, false, min, Some, Result, Ok, Err}
 use Rattle.ktm_base.specs.Count.{Rose}
 use Rattle.ktm_base.specs.declared.fault.NoMemory.{NoMemory}
 use Rattle.ktm_base.specs.declared.id.Pid.{Pid}
+use Rattle.ktm_base.specs.declared.limits.TheConstants.{MOST_AT_ONCE, UNIT_BYTES}
 use Rattle.ktm_base.specs.declared.refusal.Refusal.TheVariants.{ImageWorn, MachineDown}
-use Rattle.ktm_base.specs.Disk.{DeviceCalls, DiskState, DiskStatus}
+use Rattle.ktm_base.specs.Disk.{DeviceCalls, OnlyReads}
 use Rattle.ktm_log.specs.OnDisk.{OnDisk}
-use Rattle.ktm_slots.specs.Owed.{owed_slots}
 use Rattle.ktm_world.specs.declared.command.Command.{Command}
 use Rattle.ktm_world.specs.declared.command.Line.{Line}
 use Rattle.ktm_world.specs.declared.command.Line.TheVariants.{Process, Restart, Tick}
 use Rattle.ktm_world.specs.declared.reply.Reply.{Reply}
 use Rattle.ktm_world.specs.declared.reply.Reply.TheVariants.{BadImage, Refused, Restarted}
+use Rattle.ktm_alike.specs.Alike.{mapped_present, mapped_reply}
+use Rattle.ktm_world.specs.declared.command.Command.TheVariants.{ReadFile, SetEndOfFile, WriteFile}
 use Rattle.ktm_world.specs.Decide.{decide}
 use Rattle.ktm_world.specs.Outcome.{Outcome, apply}
 use Rattle.ktm_world.specs.Present.{Present}
@@ -20,37 +22,10 @@ use Rattle.ktm_records.specs.Spelling.{most_at_once}
 use Rattle.ktm_core.specs.Recorded.{IsUntouched}
 use Rattle.ktm_kernel.specs.Restarts.{IsFreshlyCounted}
 use Rattle.ktm_core.specs.Debts.{completes, may_owe_more}
-use Rattle.ktm_core.specs.Done.{TouchesNothing, left_behind}
-use Rattle.ktm_kernel.specs.Done.{Ends, most_calls}
+use Rattle.ktm_core.specs.Done.{TouchesNothing}
+use Rattle.ktm_kernel.specs.Done.{most_calls}
 use Rattle.ktm_kernel.specs.Reserved.{KeepsReserved}
-use Rattle.ktm_kernel.specs.Stands.{DoesLine, FoundAt, HoldsRecorded, IsCoreReady, IsPowered, IsReady, KernelAt, KernelState, machine_of}
-
--- ---- while the machine is up
-
--- an outcome was answered, whatever world it is for: of a command that completes a transaction or not, and that may owe more or not
-pub record IsAnswered (completing owing : Bool) (o : Outcome) (old new : OnDisk KernelState) (reply : Reply) : Type 0 where
-  pub ends : Ends new.status.is_down old.it o reply new.it old.told new.told
-  pub powered : IsPowered new.it new.told new.status
-  -- there is room for all notifications that may come to be sent without a call that makes room
-  pub slots : new.it.now.machine.is_up ≡ true → owed_slots new.it.now ≤ new.it.slots
-  pub calls : DeviceCalls (most_calls completing old.it o.events) old.status new.status new.status.is_down
-  pub untouched : TouchesNothing owing old.it.journal o reply → IsUntouched old new
-  pub core : new.it.now.machine.is_up ≡ true → IsCoreReady new.it new.told new.status
-
--- out of memory: nothing has changed but pages that were free, and there is room for no fewer notifications
-pub record IsAsItWas (old new : KernelState) : Type 0 where
-  pub is : new ≡ machine_of new.core
-  pub now : new.now ≡ old.now
-  pub journal : new.journal ≡ old.journal
-  pub slots : old.slots ≤ new.slots
-  -- it stays ready, and its disk has all that it recorded
-  pub ready : (told : Option DiskState) (status : DiskStatus) → IsReady old told status → IsReady new told status
-  pub disk : (s : DiskState) → HoldsRecorded old s → HoldsRecorded new s
-
--- what that leaves; out of memory the disk is as it was
-abbrev pub AnswerLeaves : Bool → Bool → Outcome → OnDisk KernelState → OnDisk KernelState → Result Reply NoMemory → Type 0
-AnswerLeaves completing owing o old new (Ok reply) = IsAnswered completing owing o old new reply
-AnswerLeaves completing owing o old new (Err fault) = IsUntouched old new
+use Rattle.ktm_kernel.specs.Stands.{DoesLine, FoundAt, IsReady, KernelAt, KernelState}
 
 -- ---- a line that is decided: a call of a process, or the passing of time
 
@@ -65,25 +40,75 @@ abbrev pub line_owes_more : Line → Bool
 line_owes_more (Process process command) = may_owe_more command
 line_owes_more line = false
 
--- it was answered by this outcome, for each world that the machine stands for; one that is refused, but for MACHINE_DOWN, and one that records
--- nothing and makes no room left the disk as it was
+-- does the line write bytes of a file, or make it longer or shorter
+abbrev pub line_writes : Line → Bool
+line_writes (Process process (WriteFile file offset bytes)) = true
+line_writes (Process process (SetEndOfFile file size)) = true
+line_writes line = false
+
+-- how many pages the line reads from the disk at most: those of the bytes that it asks for, or those at both ends of what it writes
+abbrev pub most_reads : Line → ℕ
+most_reads (Process process (ReadFile file offset many)) = min many MOST_AT_ONCE / UNIT_BYTES + 2
+most_reads (Process process (WriteFile file offset bytes)) = 2
+most_reads (Process process (SetEndOfFile file size)) = 1
+most_reads line = 0
+
+-- does the line ask for bytes of a file, or write them
+abbrev pub line_has_bytes : Line → Bool
+line_has_bytes (Process process (ReadFile file offset many)) = true
+line_has_bytes line = line_writes line
+
+-- zeros in the place of bytes
+abbrev pub no_byte : ℕ → ℕ
+no_byte byte = 0
+
+-- what is so now, but for the bytes of files
+abbrev pub but_bytes : Present → Present
+but_bytes x = mapped_present no_byte x
+
+-- the reply to a line, but for the bytes of a file that it tells
+abbrev pub reply_but_bytes : Line → Reply → Reply
+reply_but_bytes (Process process command) reply = mapped_reply no_byte command reply
+reply_but_bytes line reply = reply
+
+-- the outcome came, but for the bytes of files; or the machine is down, and has recorded nothing more
+abbrev pub CameOrFell : Line → Outcome → Present → Present → Reply → Type 0
+CameOrFell line o old new reply = ((reply_but_bytes line reply ≡ reply_but_bytes line o.reply) × (but_bytes new ≡ but_bytes (apply old o)))
+    ⊎ ((reply ≡ Refused MachineDown) × (new.machine.is_up ≡ false) × (new.recorded ≡ old.recorded))
+
+-- it was answered by this outcome, for each world that the machine stands for; one that is refused, but for MACHINE_DOWN, and one that records nothing, makes no room, and has to do with
+-- no bytes of files left the disk as it was
 pub record IsLineAnswered (line : Line) (o : Outcome) (old new : OnDisk KernelState) (reply : Reply) : Type 0 where
   pub does : (w : World) → KernelAt old.it old.told w → DoesLine w (Some line) reply new.it new.told
-  -- on whatever disk: the outcome came, or the machine is down and is otherwise as it was, or as a command left it that records nothing
-  pub says : ((reply ≡ o.reply) × (new.it.now ≡ apply old.it.now o)) ⊎ ((reply ≡ Refused MachineDown) × (new.it.now ≡ left_behind old.it.now o))
+  -- on whatever disk, also on one that does not tell the bytes that a read gives
+  pub says : CameOrFell line o old.it.now new.it.now reply
   pub cause : reply ≡ Refused MachineDown → (old.it.now.machine.is_up ≡ false) ⊎ Rose old.status.downs new.status.downs
   pub ready : IsReady new.it new.told new.status
-  pub calls : DeviceCalls (most_calls (completes_line line) old.it o.events) old.status new.status new.status.is_down
-  pub untouched : TouchesNothing (line_owes_more line) old.it.journal o reply → IsUntouched old new
+  pub calls : DeviceCalls (most_calls (completes_line line) (line_writes line) old.it.now old.it.journal o.events + most_reads line) old.status new.status new.status.is_down
+  pub untouched : TouchesNothing (line_owes_more line) (line_has_bytes line) old.it.journal o reply → IsUntouched old new
+  -- while the machine is down the disk is left as it was
+  pub down : old.it.now.machine.is_up ≡ false → IsUntouched old new
   -- few events more were recorded
   pub counts : new.it.now.recorded.events ≤ old.it.now.recorded.events + most_at_once
   -- while the machine is up, what undecided transactions did to the files stays reserved for them
   pub reserved : old.it.now.machine.is_up ≡ true → KeepsReserved line old.it.now new.it.now
 
--- what a call leaves; out of memory the disk is as it was
+-- out of memory: nothing was written, two pages were read at most, and the machine is as it was, but for what of its pages is in memory
+pub record IsUnanswered (old new : OnDisk KernelState) : Type 0 where
+  pub reads : OnlyReads 2 old.told new.told old.status new.status false
+  pub at : (w : World) → KernelAt old.it old.told w → KernelAt new.it new.told w
+  pub ready : IsReady old.it old.told old.status → IsReady new.it new.told new.status
+
+-- out of memory nothing is so that was not, and there is room for no fewer notifications
+pub record IsAsItWas (old new : KernelState) : Type 0 where
+  pub now : new.now ≡ old.now
+  pub journal : new.journal ≡ old.journal
+  pub slots : old.slots ≤ new.slots
+
+-- what a call leaves
 abbrev pub CallLeaves : Pid → Command → OnDisk KernelState → OnDisk KernelState → Result Reply NoMemory → Type 0
 CallLeaves process command old new (Ok reply) = IsLineAnswered (Process process command) (decide old.it.now process command) old new reply
-CallLeaves process command old new (Err fault) = IsUntouched old new
+CallLeaves process command old new (Err fault) = IsUnanswered old new
 
 -- ---- the restart of a machine that is down
 

@@ -3,10 +3,10 @@ use Rattle.std.specs.Prelude.{◌≡◌, ◌⊎◌, ℕ, ◌+◌, ◌/◌, ◌||
 use Rattle.ktm_base.specs.declared.limits.TheConstants.{UNIT_BYTES}
 use Rattle.ktm_base.specs.declared.refusal.Refusal.TheVariants.{MachineDown}
 use Rattle.ktm_base.specs.Disk.{DiskState, MayLeave}
-use Rattle.ktm_core.specs.Done.{lacks_room, left_behind, page_calls}
+use Rattle.ktm_core.specs.Done.{lacks_room, page_calls, waiting_calls}
 use Rattle.ktm_core.specs.Logs.{StandsFor}
 use Rattle.ktm_core.specs.Stored.{units_put}
-use Rattle.ktm_journal.specs.Image.{page_count}
+use Rattle.ktm_journal.specs.Image.{JournalState, page_count}
 use Rattle.ktm_paged.specs.Meaning.{first_unit, size_before, units_from}
 use Rattle.ktm_world.specs.declared.change.Change.{Change}
 use Rattle.ktm_world.specs.declared.change.Change.TheVariants.{Cut, Put}
@@ -18,14 +18,14 @@ use Rattle.ktm_world.specs.Changes.{bytes_in, changes_bytes}
 use Rattle.ktm_world.specs.Durable.{Durable}
 use Rattle.ktm_world.specs.Outcome.{Outcome, apply}
 use Rattle.ktm_world.specs.Present.{Present}
-use Rattle.ktm_kernel.specs.Stands.{HoldsRecorded, KernelState, machine_of}
+use Rattle.ktm_kernel.specs.Stands.{HoldsRecorded, MachineState, machine_of}
 
 -- each image that a loss of power may leave stands for one of two states
 abbrev pub LeavesEither : Durable → Durable → DiskState → Type 0
 LeavesEither a b s = (image : List ℕ) → MayLeave s image → StandsFor a image ⊎ StandsFor b image
 
 -- it was answered, and its group was recorded, where it has one
-pub record IsDone (old : KernelState) (o : Outcome) (reply : Reply) (new : KernelState) (before now : Option DiskState) : Type 0 where
+pub record IsDone (old : MachineState) (o : Outcome) (reply : Reply) (new : MachineState) (before now : Option DiskState) : Type 0 where
   pub is : new ≡ machine_of new.core
   pub says : reply ≡ o.reply
   pub state : new.now ≡ apply old.now o
@@ -34,15 +34,16 @@ pub record IsDone (old : KernelState) (o : Outcome) (reply : Reply) (new : Kerne
   pub disk : IsSomeAnd before (HoldsRecorded old) → IsSomeAnd now (HoldsRecorded new)
 
 -- the power went: its group may be there or not
-pub record IsCutOff (old : KernelState) (o : Outcome) (reply : Reply) (new : KernelState) (before now : Option DiskState) : Type 0 where
+pub record IsCutOff (old : MachineState) (o : Outcome) (reply : Reply) (new : MachineState) (before now : Option DiskState) : Type 0 where
   pub says : reply ≡ Refused MachineDown
-  pub state : new.now ≡ left_behind old.now o
+  pub off : new.now.machine.is_up ≡ false
+  pub recorded : new.now.recorded ≡ old.now.recorded
   pub units : new.journal.units ≡ old.journal.units
   pub image : new.journal.image ≡ old.journal.image
   pub disk : IsSomeAnd before (HoldsRecorded old) → IsSomeAnd now (LeavesEither old.now.recorded (apply old.now o).recorded)
 
 -- by whether the disk is down then
-abbrev pub Ends : Bool → KernelState → Outcome → Reply → KernelState → Option DiskState → Option DiskState → Type 0
+abbrev pub Ends : Bool → MachineState → Outcome → Reply → MachineState → Option DiskState → Option DiskState → Type 0
 Ends false old o reply new before now = IsDone old o reply new before now
 Ends true old o reply new before now = IsCutOff old o reply new before now
 
@@ -64,6 +65,7 @@ units_written x (Plain change ∷ []) = units_touched (size_before x.files.tree 
 units_written x events = units_put events
 
 -- how many device calls a command makes at most: those for the pages of the units that its events write, of which there are no more than the disk has, and four; and six more for a snapshot of all
--- that was recorded before, where the log has no room beside the greatest debts, or may have none, as for the pages of a plain write; but none where it completes a transaction, for which room was kept
-abbrev pub most_calls : Bool → KernelState → List Event → ℕ
-most_calls completing k events = page_calls (min (units_written k.now events) (page_count k.journal.units)) + (if completing then 4 else if is_write events || lacks_room k.journal events then 10 else 4)
+-- that was recorded before, where the log has no room beside the greatest debts, or may have none, as for the pages of a plain write, but none where it completes a transaction, for which room was
+-- kept; and where it writes to a file and records nothing, those for the pages that wait in memory
+abbrev pub most_calls : Bool → Bool → Present → JournalState → List Event → ℕ
+most_calls completing writing x journal events = page_calls (min (units_written x events) (page_count journal.units)) + (if completing then 4 else if is_write events || lacks_room journal events then 10 else 4) + waiting_calls writing journal.units events

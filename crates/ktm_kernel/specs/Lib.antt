@@ -2,8 +2,8 @@ pub mod Stands
 pub mod Buffers
 pub mod Restarts
 pub mod Done
-pub mod Staging
 pub mod Begun
+pub mod Staging
 pub mod Reserved
 pub mod Answers
 pub mod Begins

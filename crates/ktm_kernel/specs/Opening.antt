@@ -27,7 +27,7 @@ WentDown before now = IsTrue before.is_down ⊎ Rose before.downs now.downs
 
 -- the most device calls of the opening of an image of so many units, which may make it
 abbrev pub opening_calls : ℕ → ℕ
-opening_calls units = 4 * units + 100
+opening_calls units = 2 * units + 36
 
 -- the disk's counts over an opening
 pub record OpeningCounts (units : ℕ) (old new : DiskStatus) : Type 0 where

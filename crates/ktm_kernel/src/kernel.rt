@@ -1,21 +1,15 @@
 // The machine over its disk: the one way through.
-ghost use Rattle.std.specs.Prelude.{◌≡◌, ◌≤◌, true, false, [], Option, IfOk, IsOk, OnErr, length};
-ghost use Rattle.ktm_alike.specs.Alike.{mapped_present};
+ghost use Rattle.std.specs.Prelude.{◌≡◌, ◌≤◌, true, false, Option, Ok, IfOk, IsOk, OnErr};
 ghost use Rattle.ktm_base.specs.Disk.{DiskState};
-ghost use Rattle.ktm_content.specs.Places.{byte_at};
-ghost use Rattle.ktm_core.specs.Answers.{asked_completes, asked_owes_more};
-ghost use Rattle.ktm_core.specs.Core.{IsSoundFor};
-ghost use Rattle.ktm_core.specs.Debts.{completes, may_owe_more};
+ghost use Rattle.ktm_core.specs.Completions.{command_of};
 ghost use Rattle.ktm_core.specs.Done.{fallen};
-ghost use Rattle.ktm_journal.specs.Image.{page_count};
-ghost use Rattle.ktm_kernel.specs.Answers.{AnswerLeaves, CallLeaves, IsAsItWas, IsLineAnswered};
-ghost use Rattle.ktm_kernel.specs.Staging.{AreHeldFor, IsOverPlaces, IsStaged, asks};
+ghost use Rattle.ktm_core.specs.Takes.{asked_takes_memory, takes_memory};
+ghost use Rattle.ktm_kernel.specs.Answers.{CallLeaves, IsAsItWas, IsLineAnswered};
+ghost use Rattle.ktm_kernel.specs.Staging.{AskLeaves, IfAsks, IsAskable, WasAsked};
+ghost use Rattle.ktm_kernel.specs.declared.staging.Staged.TheVariants.{Ask};
 ghost use Rattle.ktm_kernel.specs.Stands.{DoesLine, IsReady, KernelAt};
 ghost use Rattle.ktm_laws.specs.Running.{HasEventsLeft};
 ghost use Rattle.ktm_log.specs.OnDisk.{on};
-ghost use Rattle.ktm_core.specs.Completions.{command_of};
-ghost use Rattle.ktm_core.specs.Route.{CanBeAsked, decided};
-ghost use Rattle.ktm_core.specs.Takes.{asked_takes_memory, takes_memory};
 ghost use Rattle.ktm_world.specs.declared.command.Command.TheVariants.{ReadFile, SetEndOfFile, WriteFile};
 ghost use Rattle.ktm_world.specs.declared.command.Line.TheVariants.{Crash, Process, Tick};
 ghost use Rattle.ktm_world.specs.declared.reply.Reply.TheVariants.{Done};
@@ -23,19 +17,18 @@ ghost use Rattle.ktm_world.specs.Values.{IsCommand};
 ghost use Rattle.ktm_world.specs.Decide.{decide as model_decide};
 ghost use Rattle.ktm_world.specs.Durable.{stand};
 ghost use Rattle.ktm_world.specs.Labels.{is_bound};
-ghost use Rattle.ktm_world.specs.Outcome.{Outcome, only_reply};
-ghost use Rattle.ktm_world.specs.Present.{Present};
 ghost use Rattle.ktm_world.specs.World.{World, decide_tick};
 
-use crate::staging::{Staged, stage_end, stage_write};
+use crate::staging::{Staged, read_part, stage_end, stage_write};
 use ktm_alike::law_of_alike_presents;
 use ktm_base::{Bytes, Disk, Label, NoMemory, Pid, Refusal};
-use ktm_core::{Asked, Core, command_of, law_of_completions, read_target};
+use ktm_core::{Asked, Core, ReadFault, command_of, law_of_completions, read_target};
 use ktm_journal::law_of_pages;
-use ktm_laws::{law_of_lawful_worlds, law_of_reserved_files};
+use ktm_laws::law_of_reserved_files;
 use ktm_paged::law_of_paged_records;
 use ktm_records::law_of_spelling;
 use ktm_standing::{law_of_kept, law_of_standing};
+use ktm_store::law_of_rows;
 use ktm_units::law_of_units;
 use ktm_world::{Command, Completion, Reply};
 use std::alloc::Global;
@@ -50,14 +43,13 @@ pub struct Kernel {
 
 impl Model for Kernel {
     ghost use Rattle.std.specs.Prelude.{◌≤◌, vec_capacity};
-    ghost use Rattle.ktm_core.specs.Core.{core_of};
     ghost use Rattle.ktm_world.specs.Sizes.{area_len};
     ghost use Rattle.ktm_core.specs.Memory.{IsRoomy};
-    ghost use Rattle.ktm_kernel.specs.Stands.{KernelState, machine_of};
+    ghost use Rattle.ktm_kernel.specs.Stands.{KernelState, kernel_of};
 
     ghost Value = { KernelState };
 
-    ghost view = { λ k. machine_of (core_of k.core.memory k.core.store) };
+    ghost view = { λ k. kernel_of k.core.memory k.core.store };
 
     ghost invariant = { λ k. IsRoomy k.core.memory.journal k.core.events × (area_len k.core.memory.journal.units ≤ vec_capacity k.core.snapshot) };
 }
@@ -88,7 +80,7 @@ impl Kernel {
     /// The power is gone: the machine is down until it is started again from its disk.
     pub fn crash(&mut self)
         requires { self.old.now.machine.is_up ≡ true }
-        ensures fallen { self.new ≡ record self.old { now = fallen self.old.now; core = record self.old.core { now = fallen self.old.core.now } } }
+        ensures fallen { self.new ≡ record self.old { now = fallen self.old.now } }
         ensures does { (told : Option DiskState) (w : World) → KernelAt self.old told w → DoesLine w (Some Crash) Done self.new told }
     {
         law_of_standing();
@@ -103,8 +95,10 @@ impl Kernel {
     /// touch, and those of the gap in front of them. The log keeps room for all that transactions under way may still record: so
     /// a call that completes a transaction, as `complete` answers it, makes no more. Any other call that records something makes
     /// six more, for a snapshot, where the log has no room for it beside the greatest debts. One that records nothing makes none,
-    /// but where it may owe more and the log has no room for the greatest debts it makes these six.
-    /// Out of memory the machine and its disk are as they were, but for the bytes of pages that were free.
+    /// but where it may owe more and the log has no room for the greatest debts it makes these six. ReadFile reads each page that is
+    /// not in memory by one, and WriteFile and SetEndOfFile the pages at both ends of what they change, where they keep something of them.
+    /// Where these two record nothing, they write all pages that wait in memory, once there are many.
+    /// Out of memory the machine and what its disk holds are as they were, but for the bytes of pages that were free.
     pub fn call<D: Disk>(
         &mut self,
         disk: &mut D,
@@ -118,10 +112,6 @@ impl Kernel {
         ensures no_memory { OnErr result (IsAsItWas self.old self.new) }
         ensures enough { takes_memory self.old.now process command ≡ false → IsOk result }
     {
-        law_of_standing();
-        law_of_kept();
-        law_of_reserved_files();
-        law_of_spelling();
         if !self.is_up() {
             return Ok(Reply::Refused(Refusal::MachineDown));
         }
@@ -159,6 +149,8 @@ impl Kernel {
         law_of_spelling();
         law_of_alike_presents();
         law_of_units();
+        law_of_paged_records();
+        law_of_pages();
         if !self.is_up() {
             return Reply::Refused(Refusal::MachineDown);
         }
@@ -168,58 +160,83 @@ impl Kernel {
         }
     }
 
-    // Answers what is asked of the places while the machine is up: for each outcome of the bytes that comes to the same, and writes no
-    // fewer units.
+    // Answers what is asked of the places while the machine is up.
     fn answer<D: Disk>(&mut self, disk: &mut D, asked: Asked) -> Result<Reply, NoMemory>
         requires up { self.old.now.machine.is_up ≡ true }
         requires ready { IsReady self.old (D.told disk.old) (D.status disk.old) }
         requires counts { HasEventsLeft self.old.now }
-        requires asked { CanBeAsked self.old.core.now asked }
-        requires sound { IsSoundFor (page_count self.old.core.journal.units) self.old.core.now asked }
-        requires held { AreHeldFor self.old.core asked }
-        ensures leaves { (o : Outcome) → IsOverPlaces (byte_at self.old.core.store.seen) self.old.core.now (decided self.old.core.now asked) o
-            → AnswerLeaves (asked_completes asked) (asked_owes_more asked) o (on self.old (D.told disk.old) (D.status disk.old)) (on self.new (D.told disk.new) (D.status disk.new)) result }
-        ensures no_memory { OnErr result (IsAsItWas self.old self.new) }
-        ensures enough { asked_takes_memory self.old.core.now asked ≡ false → IsOk result }
+        requires askable { IsAskable self.old (Ok (Ask asked)) }
+        ensures asked { WasAsked asked (on self.old (D.told disk.old) (D.status disk.old)) (on self.new (D.told disk.new) (D.status disk.new)) result }
+        ensures enough { asked_takes_memory self.old.now asked ≡ false → IsOk result }
     {
         law_of_standing();
-        law_of_paged_records();
+        law_of_rows(&self.core.store);
         self.core.answer(self.alloc, disk, asked)
     }
 
-    // Reads bytes of an open file, from the pages in memory.
-    fn read(&self, process: Pid, file: Label, offset: u64, length: u64) -> Result<Reply, NoMemory>
-        requires up { self.now.now.machine.is_up ≡ true }
-        requires ready { (told : _) × (status : _) × IsReady self.now told status }
-        ensures reply { IfOk result (λ reply. model_decide self.now.now process (ReadFile file offset length) ≡ only_reply self.now.now reply) }
-        ensures enough { OnErr result (takes_memory self.now.now process (ReadFile file offset length) ≡ true) }
+    // Asks what was staged, or answers why there is nothing to ask.
+    fn ask<D: Disk>(
+        &mut self,
+        disk: &mut D,
+        staged: Result<Staged, ReadFault>,
+    ) -> Result<Reply, NoMemory>
+        requires up { self.old.now.machine.is_up ≡ true }
+        requires ready { IfAsks staged (IsReady self.old (D.told disk.old) (D.status disk.old)) }
+        requires counts { HasEventsLeft self.old.now }
+        requires askable { IsAskable self.old staged }
+        ensures { AskLeaves staged (on self.old (D.told disk.old) (D.status disk.old)) (on self.new (D.told disk.new) (D.status disk.new)) result }
     {
-        law_of_units();
-        match read_target(&self.core.memory, process, file, length) {
-            Ok(places) => {
-                let mut bytes = Vec::new(self.alloc);
-                self.core.store.read(places, offset, length, &mut bytes)?;
-                Ok(Reply::Contents(Bytes::new(bytes)))
+        match staged {
+            Ok(Staged::Ask(asked)) => self.answer(disk, asked),
+            Ok(Staged::Refuse(refusal)) => Ok(Reply::Refused(refusal)),
+            Err(ReadFault::Down) => {
+                self.core.memory.fall();
+                Ok(Reply::Refused(Refusal::MachineDown))
             }
-            Err(refusal) => Ok(Reply::Refused(refusal)),
+            Err(ReadFault::NoMemory) => Err(NoMemory),
         }
     }
 
-    // Asks what was staged, which comes to this over the bytes, or answers that it is refused.
-    fn ask<D: Disk>(&mut self, disk: &mut D, staged: Staged) -> Result<Reply, NoMemory>
+    // Reads bytes of an open file.
+    fn read<D: Disk>(
+        &mut self,
+        disk: &mut D,
+        process: Pid,
+        file: Label,
+        offset: u64,
+        length: u64,
+    ) -> Result<Reply, NoMemory>
         requires up { self.old.now.machine.is_up ≡ true }
         requires ready { IsReady self.old (D.told disk.old) (D.status disk.old) }
         requires counts { HasEventsLeft self.old.now }
-        requires staged { (outcome : Present → Outcome) × IsStaged self.old.core.now self.old.core.store staged outcome }
-        ensures leaves { (outcome : Present → Outcome) → IsStaged self.old.core.now self.old.core.store staged outcome
-            → AnswerLeaves false true (outcome self.old.now) (on self.old (D.told disk.old) (D.status disk.old)) (on self.new (D.told disk.new) (D.status disk.new)) result }
+        requires command { IsCommand (ReadFile file offset length) }
+        ensures leaves { CallLeaves process (ReadFile file offset length) (on self.old (D.told disk.old) (D.status disk.old)) (on self.new (D.told disk.new) (D.status disk.new)) result }
         ensures no_memory { OnErr result (IsAsItWas self.old self.new) }
-        ensures enough { asks staged ≡ false → IsOk result }
+        ensures enough { takes_memory self.old.now process (ReadFile file offset length) ≡ false → IsOk result }
     {
-        match staged {
-            Staged::Ask(asked) => self.answer(disk, asked),
-            Staged::Refuse(refusal) => Ok(Reply::Refused(refusal)),
-        }
+        law_of_standing();
+        law_of_kept();
+        law_of_reserved_files();
+        law_of_spelling();
+        law_of_alike_presents();
+        law_of_units();
+        law_of_paged_records();
+        law_of_pages();
+        let Core { memory, store, .. } = &mut self.core;
+        let places = match read_target(memory, process, file, length) {
+            Ok(places) => places,
+            Err(refusal) => return Ok(Reply::Refused(refusal)),
+        };
+        let journal = memory.journal();
+        let bytes = match read_part(self.alloc, disk, journal, store, places, offset, length) {
+            Ok(bytes) => bytes,
+            Err(ReadFault::Down) => {
+                memory.fall();
+                return Ok(Reply::Refused(Refusal::MachineDown));
+            }
+            Err(ReadFault::NoMemory) => return Err(NoMemory),
+        };
+        Ok(Reply::Contents(Bytes::new(bytes)))
     }
 
     // Writes bytes into an open file; none are as any call.
@@ -235,12 +252,18 @@ impl Kernel {
         requires ready { IsReady self.old (D.told disk.old) (D.status disk.old) }
         requires counts { HasEventsLeft self.old.now }
         requires command { IsCommand (WriteFile file offset bytes) }
-        ensures leaves { AnswerLeaves false true (model_decide self.old.now process (WriteFile file offset bytes)) (on self.old (D.told disk.old) (D.status disk.old)) (on self.new (D.told disk.new) (D.status disk.new)) result }
+        ensures leaves { CallLeaves process (WriteFile file offset bytes) (on self.old (D.told disk.old) (D.status disk.old)) (on self.new (D.told disk.new) (D.status disk.new)) result }
         ensures no_memory { OnErr result (IsAsItWas self.old self.new) }
         ensures enough { takes_memory self.old.now process (WriteFile file offset bytes) ≡ false → IsOk result }
     {
+        law_of_standing();
+        law_of_kept();
+        law_of_reserved_files();
+        law_of_spelling();
         law_of_alike_presents();
         law_of_units();
+        law_of_paged_records();
+        law_of_pages();
         if bytes.is_empty() {
             let command = Command::WriteFile {
                 file,
@@ -250,7 +273,9 @@ impl Kernel {
             return self.answer(disk, Asked::Call(process, command));
         }
         let Core { memory, store, .. } = &mut self.core;
-        let staged = stage_write(self.alloc, memory, store, process, file, offset, &bytes)?;
+        let staged = stage_write(
+            self.alloc, disk, memory, store, process, file, offset, &bytes,
+        );
         self.ask(disk, staged)
     }
 
@@ -266,14 +291,20 @@ impl Kernel {
         requires ready { IsReady self.old (D.told disk.old) (D.status disk.old) }
         requires counts { HasEventsLeft self.old.now }
         requires command { IsCommand (SetEndOfFile file size) }
-        ensures leaves { AnswerLeaves false true (model_decide self.old.now process (SetEndOfFile file size)) (on self.old (D.told disk.old) (D.status disk.old)) (on self.new (D.told disk.new) (D.status disk.new)) result }
+        ensures leaves { CallLeaves process (SetEndOfFile file size) (on self.old (D.told disk.old) (D.status disk.old)) (on self.new (D.told disk.new) (D.status disk.new)) result }
         ensures no_memory { OnErr result (IsAsItWas self.old self.new) }
         ensures enough { takes_memory self.old.now process (SetEndOfFile file size) ≡ false → IsOk result }
     {
-        law_of_units();
+        law_of_standing();
+        law_of_kept();
+        law_of_reserved_files();
+        law_of_spelling();
         law_of_alike_presents();
+        law_of_units();
+        law_of_paged_records();
+        law_of_pages();
         let Core { memory, store, .. } = &mut self.core;
-        let staged = stage_end(self.alloc, memory, store, process, file, size)?;
+        let staged = stage_end(self.alloc, disk, memory, store, process, file, size);
         self.ask(disk, staged)
     }
 
@@ -288,18 +319,24 @@ impl Kernel {
         requires ready { IsReady self.old (D.told disk.old) (D.status disk.old) }
         requires counts { HasEventsLeft self.old.now }
         requires command { IsCommand command }
-        ensures leaves { AnswerLeaves (completes command) (may_owe_more command) (model_decide self.old.now process command) (on self.old (D.told disk.old) (D.status disk.old)) (on self.new (D.told disk.new) (D.status disk.new)) result }
+        ensures leaves { CallLeaves process command (on self.old (D.told disk.old) (D.status disk.old)) (on self.new (D.told disk.new) (D.status disk.new)) result }
         ensures no_memory { OnErr result (IsAsItWas self.old self.new) }
         ensures enough { takes_memory self.old.now process command ≡ false → IsOk result }
     {
+        law_of_standing();
+        law_of_kept();
+        law_of_reserved_files();
+        law_of_spelling();
         law_of_alike_presents();
         law_of_units();
+        law_of_paged_records();
+        law_of_pages();
         match command {
             Command::ReadFile {
                 file,
                 offset,
                 length,
-            } => self.read(process, file, offset, length),
+            } => self.read(disk, process, file, offset, length),
             Command::WriteFile {
                 file,
                 offset,

@@ -1,14 +1,14 @@
 // Starting the machine from its disk.
-ghost use Rattle.std.specs.Prelude.{◌≡◌, ◌+◌, ◌*◌, ◌≤◌, ℕ, IfOk, OnErr, Some, None, false, length, vec_capacity, IfSome, IsSomeAnd};
+ghost use Rattle.std.specs.Prelude.{◌≡◌, ◌+◌, ◌*◌, ◌≤◌, ℕ, IfOk, OnErr, Some, None, false, vec_capacity, IfSome, IsSomeAnd};
 ghost use Rattle.ktm_base.specs.declared.limits.TheConstants.{MOST_UNITS};
 ghost use Rattle.ktm_base.specs.Disk.{DeviceCalls};
-ghost use Rattle.ktm_core.specs.Core.{AreSoundFiles, core_of};
+ghost use Rattle.ktm_core.specs.Core.{AreSoundFiles};
 ghost use Rattle.ktm_core.specs.Starting.{IsStarting};
 ghost use Rattle.ktm_journal.specs.Image.{IsHeaded, page_count};
 ghost use Rattle.ktm_kernel.specs.Answers.{StartAgainLeaves};
-ghost use Rattle.ktm_kernel.specs.Begun.{BeginLeaves, IsMachineOf, IsNoMachine};
+ghost use Rattle.ktm_kernel.specs.Begun.{AreOnDiskAlone, BeginLeaves, IsMachineOf, IsNoMachine};
 ghost use Rattle.ktm_kernel.specs.Restarts.{RestartLeaves, answer_of, restart_went_down};
-ghost use Rattle.ktm_kernel.specs.Stands.{FoundAt, machine_of};
+ghost use Rattle.ktm_kernel.specs.Stands.{FoundAt, kernel_of};
 ghost use Rattle.ktm_log.specs.OnDisk.{on};
 ghost use Rattle.ktm_core.specs.Memory.{IsRoomy};
 ghost use Rattle.ktm_world.specs.Sizes.{area_len};
@@ -21,7 +21,7 @@ use ktm_alike::law_of_alike_presents;
 use ktm_base::{Disk, Down, NoMemory, Refusal};
 use ktm_core::{
     Core, Memory, Starting, events_in, in_doubt, is_worn, law_of_bad_images, law_of_debts,
-    law_of_states, load, load_pages, prepare, record_start,
+    law_of_states, load, prepare, record_start,
 };
 use ktm_event::Events;
 use ktm_journal::LoadFault;
@@ -29,7 +29,6 @@ use ktm_mapped::law_of_mapped_states;
 use ktm_records::law_of_spelling;
 use ktm_standing::{law_of_fresh, law_of_kept, law_of_standing};
 use ktm_store::Store;
-use ktm_units::law_of_units;
 use ktm_world::Reply;
 use std::alloc::Global;
 use std::mem::replace;
@@ -82,7 +81,7 @@ fn answer_of(fault: RestartFault) -> Result<Reply, NoMemory>
 fn machine(alloc: Global, memory: Memory, store: Store, events: Events, snapshot: Vec<u8>) -> Kernel
     requires roomy { IsRoomy memory.journal events }
     requires room { area_len memory.journal.units ≤ vec_capacity snapshot }
-    ensures { result ≡ machine_of (core_of memory store) }
+    ensures { result ≡ kernel_of memory store }
 {
     Kernel {
         alloc,
@@ -95,7 +94,7 @@ fn machine(alloc: Global, memory: Memory, store: Store, events: Events, snapshot
     }
 }
 
-// Reads the pages of what is to start, and records that it starts.
+// Holds the pages of what is to start, and records that it starts.
 fn start<D: Disk>(
     disk: &mut D,
     memory: &mut Memory,
@@ -108,14 +107,12 @@ fn start<D: Disk>(
     requires headed { IfSome (D.told disk.old) (λ s. IsHeaded memory.old.journal.units memory.old.journal.image memory.old.journal.selector s.seen) }
     requires starts { IsStarting memory.old events.now }
     requires sound { AreSoundFiles (page_count memory.old.journal.units) (files_of memory.old.files) }
-    requires count { length store.old.marks.held ≡ page_count memory.old.journal.units }
+    requires alone { AreOnDiskAlone (page_count memory.old.journal.units) store.old }
     requires room { area_len memory.old.journal.units ≤ vec_capacity snapshot.old }
     ensures leaves { BeginLeaves events.now (on memory.old (D.told disk.old) (D.status disk.old)) (on memory.new (D.told disk.new) (D.status disk.new)) store.new result }
     ensures kept { vec_capacity snapshot.old ≤ vec_capacity snapshot.new }
 {
-    if let Err(Down) = load_pages(disk, memory, store) {
-        return Err(Down);
-    }
+    memory.hold_pages(store);
     record_start(disk, memory, events, snapshot)
 }
 
@@ -134,7 +131,7 @@ fn begin<D: Disk>(
     requires roomy { IsRoomy starting.memory.journal starting.events }
     requires starts { IsStarting starting.memory starting.events }
     requires sound { AreSoundFiles (page_count starting.memory.journal.units) (files_of starting.memory.files) }
-    requires count { length store.marks.held ≡ page_count starting.memory.journal.units }
+    requires alone { AreOnDiskAlone (page_count starting.memory.journal.units) store }
     requires room { area_len starting.memory.journal.units ≤ buffers.old.snapshot }
     ensures ok { IfOk result (IsMachineOf starting.events (on starting.memory (D.told disk.old) (D.status disk.old)) (D.told disk.new) (D.status disk.new)) }
     ensures err { OnErr result (IsNoMachine starting.events (on starting.memory (D.told disk.old) (D.status disk.old)) (D.told disk.new) (D.status disk.new)) }
@@ -172,8 +169,8 @@ impl Kernel {
     ) -> Result<Restarted, RestartFault>
         requires pending { (D.status disk.old).pending ≡ 0 }
         ensures leaves { RestartLeaves (on buffers.old (D.told disk.old) (D.status disk.old)) (on buffers.new (D.told disk.new) (D.status disk.new)) result }
-        ensures calls { DeviceCalls (4 * MOST_UNITS + 91) (D.status disk.old) (D.status disk.new) (restart_went_down result) }
-        ensures few { (units image selector : ℕ) → IsSomeAnd (D.told disk.old) (λ s. IsHeaded units image selector s.seen) → (D.status disk.new).calls ≤ (D.status disk.old).calls + (4 * units + 91) }
+        ensures calls { DeviceCalls (2 * MOST_UNITS + 27) (D.status disk.old) (D.status disk.new) (restart_went_down result) }
+        ensures few { (units image selector : ℕ) → IsSomeAnd (D.told disk.old) (λ s. IsHeaded units image selector s.seen) → (D.status disk.new).calls ≤ (D.status disk.old).calls + (2 * units + 27) }
     {
         law_of_fresh();
         law_of_kept();
@@ -183,7 +180,6 @@ impl Kernel {
         law_of_spelling();
         law_of_mapped_states();
         law_of_alike_presents();
-        law_of_units();
         let loaded = match load(alloc, disk, &mut buffers.log) {
             Ok(loaded) => loaded,
             Err(LoadFault::Down) => return Err(RestartFault::Down),
@@ -236,8 +232,8 @@ impl Kernel {
         requires power { (D.status disk.old).is_down ≡ false }
         requires pending { (D.status disk.old).pending ≡ 0 }
         ensures leaves { StartAgainLeaves (on self.old (D.told disk.old) (D.status disk.old)) (on self.new (D.told disk.new) (D.status disk.new)) result }
-        ensures calls { DeviceCalls (4 * MOST_UNITS + 91) (D.status disk.old) (D.status disk.new) (D.status disk.new).is_down }
-        ensures few { (w : World) → FoundAt self.old (D.told disk.old) w → (D.status disk.new).calls ≤ (D.status disk.old).calls + (4 * w.base.units + 91) }
+        ensures calls { DeviceCalls (2 * MOST_UNITS + 27) (D.status disk.old) (D.status disk.new) (D.status disk.new).is_down }
+        ensures few { (w : World) → FoundAt self.old (D.told disk.old) w → (D.status disk.new).calls ≤ (D.status disk.old).calls + (2 * w.base.units + 27) }
     {
         law_of_standing();
         law_of_states();

@@ -1,13 +1,14 @@
 -- Lemmas on a search over blocks, and then within one.
 use Rattle.std.proofs.Common.{◌≡◌, ℕ, zero, suc, ◌+◌, ◌-◌, ◌<◌, ◌≤◌, List, [], ◌∷◌, length, get_or, take, refl, sym, ap, ◌∙◌, inl, inr, arith, length-append}
-use Rattle.std.specs.Prelude.{Result, Ok, Err}
+use Rattle.std.specs.Prelude.{Result, Ok, Err, Some}
 use Rattle.std.specs.Ordering.{ordering_index}
 use Rattle.std.specs.declared.cmp.Ordering.{Ordering}
 use Rattle.std.specs.declared.cmp.Ordering.TheVariants.{Less, Equal, Greater}
+use Rattle.std.specs.List.{slice_get}
 use Rattle.std.specs.List.Sorted.{IsBinarySearchResult, IsNonDecreasingBy, IsPartitionPoint, IsSearchInRange}
 use Rattle.std.proofs.lemmas.Bool.{cases_lt}
 use Rattle.std.proofs.lemmas.List.{get_or-take, get_or_default, length-take, take_all}
-use Rattle.std.proofs.lemmas.Option.{slice_get-get_or}
+use Rattle.std.proofs.lemmas.Option.{get_or_from_slice_get, slice_get-get_or, slice_get_within}
 use Rattle.ktm_links.specs.declared.list.Key.{Key}
 use Rattle.ktm_links.specs.declared.block.Spot.{Spot}
 use Rattle.ktm_links.specs.Items.{Item}
@@ -164,6 +165,21 @@ module _ {T : Type 0} where
       ap (λ p. order_at items name (get_or (flat bs) (index_of bs (record { block = b; place = p })) d)) last
       ∙ sym (last_is items name bs b d used inside)
       ∙ result []
+
+  -- a name that goes between two keys of a block stands before the second of them
+  pub behind : (items : List (Item (NameAndValue T))) (name : List ℕ) (bs : List (List Key)) (b place : ℕ) (key next : Key) → IsInOrder items (flat bs)
+      → b < length bs → slice_get (block_at bs b) place ≡ Some key → slice_get (block_at bs b) (place + 1) ≡ Some next
+      → order_at items name key ≡ Less → order_at items name next ≡ Greater
+      → IsPartitionPoint (λ k. order_at items name k ≡ Less) (λ k. order_at items name k ≡ Greater) (flat bs) (index_of bs (record { block = b; place = place + 1 }))
+  behind items name bs b place key next ordered inside here there less more =
+      let low : IsSpot bs (record { block = b; place = place }) = record { block = inside; place = slice_get_within (block_at bs b) place key here } in
+      let high : IsSpot bs (record { block = b; place = place + 1 }) = record { block = inside; place = slice_get_within (block_at bs b) (place + 1) next there } in
+      point_between (λ k. order_at items name k) (flat bs) (index_of bs (record { block = b; place = place + 1 })) (searchable items name (flat bs) ordered.present ordered.rising)
+      (omega (arith, within bs (record { block = b; place = place + 1 }) high))
+      (λ d some.
+      let at : index_of bs (record { block = b; place = place + 1 }) - 1 ≡ index_of bs (record { block = b; place = place }) = omega arith in
+      rw at (ap (λ k. order_at items name k) (stands bs (record { block = b; place = place }) d low ∙ get_or_from_slice_get (block_at bs b) place key d here) ∙ less))
+      (λ d some. ap (λ k. order_at items name k) (stands bs (record { block = b; place = place + 1 }) d high ∙ get_or_from_slice_get (block_at bs b) (place + 1) next d there) ∙ more)
 
   -- the key in a block that has the name is what a search finds
   pub found_here : (items : List (Item (NameAndValue T))) (name : List ℕ) (bs : List (List Key)) (b place : ℕ) (keys : List Key)

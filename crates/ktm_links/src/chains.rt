@@ -11,7 +11,7 @@ use crate::list::{Key, List};
 use crate::name::Name;
 use crate::named::Named;
 use crate::order::Order;
-use crate::search::{not_below, search};
+use crate::search::{not_below, search, search_from};
 use crate::walk::Walk;
 use ktm_base::NoMemory;
 use std::alloc::Global;
@@ -190,6 +190,7 @@ impl<K: Name, T> Chains<K, T> {
     }
 
     /// Puts a value under the name, or hands it back where one stands there, and takes no memory.
+    #[inline(always)]
     pub fn insert_new(&mut self, name: K, value: T) -> Result<Key, T>
         requires { 0 < self.old.spare }
 
@@ -209,7 +210,12 @@ impl<K: Name, T> Chains<K, T> {
         ensures other_keys { IfOk result (λ key. (k : Key) → k ≢ key → value_of self.new.entries k ≡ value_of self.old.entries k) }
         ensures spent { KeepsSpent self.old self.new }
     {
-        match search(&self.values, self.order.as_blocks(), name.as_slice()) {
+        match search_from(
+            &self.values,
+            self.order.as_blocks(),
+            self.order.last(),
+            name.as_slice(),
+        ) {
             Ok(_) => Err(value),
             Err(spot) => {
                 let key = self.values.push_spare(Named::new(name, value));

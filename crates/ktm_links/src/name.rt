@@ -1,5 +1,5 @@
 // Names, each with its room.
-ghost use Rattle.std.specs.Prelude.{◌≡◌, ◌≤◌, List, ℕ, [], length};
+ghost use Rattle.std.specs.Prelude.{◌≡◌, ◌≤◌, List, ℕ, [], length, take};
 ghost use Rattle.ktm_links.specs.Numbers.{long_bytes, number_bytes};
 
 use std::marker::Model;
@@ -32,6 +32,14 @@ impl<const N: usize> Model for InlineName<N> {
 }
 
 impl<const N: usize> InlineName<N> {
+    /// The first so many bytes of the room, which is moved and not copied.
+    pub fn of(room: [u8; N], len: usize) -> Self
+        requires { len ≤ N }
+        ensures { result ≡ take len room.entry }
+    {
+        InlineName { room, len }
+    }
+
     /// A copy of these bytes.
     pub fn new(bytes: &[u8]) -> Self
         requires { length bytes.now ≤ N }

@@ -25,6 +25,8 @@ pub(crate) struct Order {
     // two neighbours are more than half a block together, so that a block more is wanted only for eight keys more.
     len: usize,
     capacity: usize,
+    // Where the last key came. Others may have come and gone since.
+    last: Spot,
     alloc: Global,
 }
 
@@ -141,6 +143,7 @@ impl Order {
             stock: Vec::new(alloc),
             len: 0,
             capacity: 0,
+            last: Spot { block: 0, place: 0 },
             alloc,
         }
     }
@@ -152,6 +155,11 @@ impl Order {
         self.blocks.as_slice()
     }
 
+    /// Where the last key came. Another may stand there by now, or none.
+    pub(crate) fn last(&self) -> Spot {
+        self.last
+    }
+
     /// How many keys can come without memory.
     pub(crate) fn spare(&self) -> usize
         ensures { result ≡ self.now.capacity - length (flat self.now.blocks) }
@@ -160,6 +168,7 @@ impl Order {
     }
 
     // One more block, with which eight more keys can come.
+    #[inline(never)]
     fn grow(&mut self) -> Result<(), NoMemory>
         ensures blocks { self.new.blocks ≡ self.old.blocks }
         ensures ok { OnOk result (self.new.capacity ≡ self.old.capacity + 8) }
@@ -244,6 +253,7 @@ impl Order {
     }
 
     // Splits a full block in two.
+    #[inline(never)]
     fn split(&mut self, at: usize)
         requires within { at < length self.old.blocks }
         requires full { 32 ≤ length (block_at self.old.blocks at) }
@@ -301,9 +311,11 @@ impl Order {
     {
         if spot.block == self.blocks.len() {
             self.push_block(key);
+            self.last = spot;
         } else {
             let spot = self.room_at(spot);
             self.put(spot, key);
+            self.last = spot;
         }
     }
 

@@ -1,5 +1,6 @@
 // Where a name stands among keys in order.
-ghost use Rattle.std.specs.Prelude.{◌≡◌, ◌≤◌, ◌+◌, Err, IfOk, IfErr, length, drop, min};
+ghost use Rattle.std.specs.Prelude.{◌≡◌, ◌≤◌, ◌+◌, Err, IfOk, IfErr, IfSome, length, drop, min, true};
+ghost use Rattle.std.specs.declared.cmp.Ordering.TheVariants.{Less, Greater};
 ghost use Rattle.std.specs.List.Sorted.{IsBinarySearchResult, IsSearchInRange};
 ghost use Rattle.ktm_links.specs.Blocks.{flat, index_in, index_of, AreUsed, IsGap, IsSpot};
 ghost use Rattle.ktm_links.specs.Mapped.{name_cmp};
@@ -131,6 +132,72 @@ pub(crate) fn search<K: Name, T>(
             place: blocks[block].len() - 1,
         }),
         Err(block) => search_in(values, blocks, block, name),
+    }
+}
+
+// Does the name go between those of two keys.
+fn goes_between<K: Name, T>(
+    values: &List<Named<K, T>>,
+    before: Key,
+    after: Key,
+    name: &[u8],
+) -> bool
+    ensures before { result ≡ true → order_at values.now.items name.now before ≡ Less }
+    ensures after { result ≡ true → order_at values.now.items name.now after ≡ Greater }
+{
+    order_of(values, before, name) == Ordering::Less
+        && order_of(values, after, name) == Ordering::Greater
+}
+
+// The place behind this one, if the name goes there, between two keys of one block.
+fn place_behind<K: Name, T>(
+    values: &List<Named<K, T>>,
+    blocks: &[Block],
+    spot: Spot,
+    name: &[u8],
+) -> Option<Spot>
+    requires { IsInOrder values.now.items (flat blocks.now) }
+    ensures gap { IfSome result (IsGap blocks.now) }
+    ensures position { IfSome result (λ next. IsBinarySearchResult (order_at values.now.items name.now) (flat blocks.now) (Err (index_of blocks.now next))) }
+{
+    let Some(block) = blocks.get(spot.block) else {
+        return None;
+    };
+    let keys = block.as_slice();
+    let Some(before) = keys.get(spot.place) else {
+        return None;
+    };
+    let next = Spot {
+        block: spot.block,
+        place: spot.place + 1,
+    };
+    let Some(after) = keys.get(next.place) else {
+        return None;
+    };
+    if goes_between(values, *before, *after, name) {
+        Some(next)
+    } else {
+        None
+    }
+}
+
+/// Where the name stands, or would stand. The place behind this one is looked at first, since names that come one after another mostly
+/// stand beside each other.
+pub(crate) fn search_from<K: Name, T>(
+    values: &List<Named<K, T>>,
+    blocks: &[Block],
+    spot: Spot,
+    name: &[u8],
+) -> Result<Spot, Spot>
+    requires used { AreUsed blocks.now }
+    requires ordered { IsInOrder values.now.items (flat blocks.now) }
+    ensures spot { IfOk result (IsSpot blocks.now) }
+    ensures gap { IfErr result (IsGap blocks.now) }
+    ensures position { IsBinarySearchResult (order_at values.now.items name.now) (flat blocks.now) (index_in blocks.now result) }
+{
+    match place_behind(values, blocks, spot, name) {
+        Some(next) => Err(next),
+        None => search(values, blocks, name),
     }
 }
 

@@ -31,7 +31,8 @@ fn load_piece<D: Disk>(disk: &mut D, area: Area, read: &mut Vec<u8>) -> Result<(
 }
 
 // Reads on until so many bytes of the area are there, and no piece more.
-fn load<D: Disk>(disk: &mut D, area: Area, read: &mut Vec<u8>, upto: u64) -> Result<(), Down>
+#[inline(never)]
+fn load_pieces<D: Disk>(disk: &mut D, area: Area, read: &mut Vec<u8>, upto: u64) -> Result<(), Down>
     requires small { area.at + area.len < 2 ^ 63 }
     requires room { area.len ≤ vec_capacity read.old }
     requires upto { upto ≤ area.len }
@@ -46,6 +47,22 @@ fn load<D: Disk>(disk: &mut D, area: Area, read: &mut Vec<u8>, upto: u64) -> Res
         }
     }
     Ok(())
+}
+
+// Reads on where so many bytes of the area are not there yet, and no piece more. Mostly they are.
+fn load<D: Disk>(disk: &mut D, area: Area, read: &mut Vec<u8>, upto: u64) -> Result<(), Down>
+    requires small { area.at + area.len < 2 ^ 63 }
+    requires room { area.len ≤ vec_capacity read.old }
+    requires upto { upto ≤ area.len }
+    requires holds { Holds area (D.told disk.old) (D.status disk.old).is_down read.old.items }
+    ensures leaves { ReadLeaves area (on read.old (D.told disk.old) (D.status disk.old)) (on read.new (D.told disk.new) (D.status disk.new)) result }
+    ensures upto { OnOk result (upto ≤ length read.new.items) }
+    ensures few { pieces (length read.new.items) ≤ max (pieces (length read.old.items)) (pieces upto) }
+{
+    if upto <= read.len() as u64 {
+        return Ok(());
+    }
+    load_pieces(disk, area, read, upto)
 }
 
 // The length of the payload of the frame at this offset of the area, if the gate there is open.

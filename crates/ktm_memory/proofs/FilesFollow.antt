@@ -1,6 +1,6 @@
 -- What is so of the change that a call on files makes: it can be made and recorded, and follows the rules that what is put follows.
-use Rattle.std.proofs.Common.{◌≡◌, ◌≢◌, ℕ, ◌≤◌, Bool, true, false, List, [], ◌∷◌, length, Option, Some, None, All, refl, sym, ap, subst, ◌∙◌, arith, inl, inr}
-use Rattle.std.specs.Prelude.{IfSome, option_to_list, if◌then◌else◌}
+use Rattle.std.proofs.Common.{◌≡◌, ◌≢◌, ℕ, Bool, List, [], ◌∷◌, Option, Some, None, refl, arith, inl, inr}
+use Rattle.std.specs.Prelude.{IfSome, option_to_list}
 use Rattle.std.proofs.lemmas.Bool.{cases_Bool}
 use Rattle.std.proofs.lemmas.List.Elements.{All-cons, All-head, All-nil}
 use Rattle.ktm_base.specs.declared.id.Id.{Id}
@@ -17,19 +17,16 @@ use Rattle.ktm_world.specs.declared.event.Event.TheVariants.{Plain}
 use Rattle.ktm_world.specs.declared.options.Access.{Access}
 use Rattle.ktm_world.specs.declared.options.Disposition.{Disposition}
 use Rattle.ktm_world.specs.declared.options.ShareMode.{ShareMode}
-use Rattle.ktm_world.specs.declared.reply.Reply.TheVariants.{Refused}
 use Rattle.ktm_world.specs.Decide.{events_of}
 use Rattle.ktm_world.specs.FileCalls.{Whereabouts, no_path, no_way, free, at_root, at_node, create_at, create_directory, create_file, delete_file, drop_at, empties, find_files, find_path, get_size, make_at, move_at, move_file, remove_directory, set_end, write_file}
-use Rattle.ktm_world.specs.FileOutcome.{FileOutcome, FileRoom, answering}
+use Rattle.ktm_world.specs.FileOutcome.{FileRoom}
 use Rattle.ktm_world.specs.Files.{FilesNow, bytes_seen, tree_seen}
 use Rattle.ktm_world.specs.Outcome.{first_refusal}
 use Rattle.ktm_world.specs.Present.{Present}
-use Rattle.ktm_world.specs.Tree.{bytes_of}
 use Rattle.ktm_world.specs.Uses.{file_room}
 use Rattle.txf_calls.specs.Calls.{file_effect, file_outcome, file_tests, unless_refused}
 use Rattle.txf_calls.specs.declared.call.FileCall.{FileCall}
 use Rattle.txf_calls.specs.declared.call.FileCall.TheVariants.{Create, Write, WriteUnits, SetEnd, Size, Flush, Delete, MakeDirectory, RemoveDirectory, Move, Find}
-use Rattle.txf_opens.specs.Acts.{open_of}
 use Rattle.txf_tree.specs.UnitChanges.{CanBeMadeOver}
 use Rattle.ktm_memory.specs.declared.extent.Extent.{Extent}
 use Rattle.ktm_memory.specs.Routed.{IsReadyCall}

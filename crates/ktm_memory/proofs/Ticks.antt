@@ -277,6 +277,13 @@ held_rolled m n t x now settles =
     subst (λ (all : Transactions). HasRolled all t n.tm.now) (sym now.transactions)
     (subst (λ (then' : Transactions). HasRolled x.transactions t then') (sym (settles.shows x now tt).transactions) (has_rolled x t))
 
+-- those before a place are passed over where none of them is due
+pub from-later : (m : MemoryState) (i : ℕ) → due_from m.tm.now i ≡ due_from m.tm.now 0 → (x : Present) → Shows m x → from_here 0 x ≡ from_here i x
+from-later m i same x now =
+    ap (λ (all : Transactions). aborted_in_turn x (due_from all 0)) (sym now.transactions)
+    ∙ ap (λ (ts : List Transaction). aborted_in_turn x ts) (sym same)
+    ∙ ap (λ (all : Transactions). aborted_in_turn x (due_from all i)) now.transactions
+
 -- ---- how many are left
 
 -- the live ones from this place on, and those of them that are due

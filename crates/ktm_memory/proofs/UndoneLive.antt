@@ -1,5 +1,5 @@
 -- What the passing of time records, over the live transactions alone.
-use Rattle.std.proofs.Common.{◌≡◌, ℕ, ◌+◌, ◌≤◌, ◌++◌, ◌&&◌, ◌||◌, zero, suc, true, false, List, [], ◌∷◌, All, count_by, drop, filter, nat_le, nat_lt, Some, None, refl, sym, ◌∙◌, ap, subst, inl, inr, arith}
+use Rattle.std.proofs.Common.{◌≡◌, ℕ, ◌+◌, ◌≤◌, ◌++◌, ◌&&◌, ◌||◌, zero, suc, true, false, List, [], ◌∷◌, All, cond, count_by, drop, filter, nat_le, nat_lt, Some, None, refl, sym, ◌∙◌, ap, subst, inl, inr, arith}
 use Rattle.std.proofs.lemmas.List.{drop_all}
 use Rattle.std.proofs.lemmas.List.Sums.{length-filter}
 use Rattle.std.specs.List.{AllByRecursion, flat_map, list_all, slice_get}
@@ -14,6 +14,7 @@ use Rattle.ktm_world.specs.declared.object.Phase.{Phase}
 use Rattle.ktm_world.specs.declared.object.Phase.TheVariants.{Ended}
 use Rattle.ktm_world.specs.declared.object.Transaction.{Transaction}
 use Rattle.ktm_world.specs.Transactions.{is_live}
+use Rattle.ktm_world.specs.Phases.{event_if}
 use Rattle.ktm_world.specs.Present.{Present}
 use Rattle.ktm_world.specs.TransactionCalls.{is_due, later, may_roll_back, tick}
 use Rattle.ktm_courses.specs.SoundCourse.{IsSoundCourse, is_counted}
@@ -73,6 +74,20 @@ undone_over clock ts i at =
 -- behind them all
 pub undone_all : (clock : ℕ) (ts : List Transaction) (i : ℕ) → count_by is_live ts ≤ i → flat_map (undo_of clock) (drop i (filter is_live ts)) ≡ []
 undone_all clock ts i behind = ap (flat_map (undo_of clock)) (drop_all i (filter is_live ts) (omega (arith, length-filter is_live ts, behind)))
+
+-- nothing is recorded of those that are not due
+undone_due : (clock : ℕ) (ts : List Transaction) → flat_map (undo_of clock) (filter (is_due clock) ts) ≡ flat_map (undo_of clock) ts
+undone_due clock [] = refl
+undone_due clock (t ∷ ts) = elim (cases_Bool (is_due clock t)) [
+  | inl due ↦ ap (λ b. flat_map (undo_of clock) (cond b (t ∷ filter (is_due clock) ts) (filter (is_due clock) ts))) due ∙ ap (λ es. undo_of clock t ++ es) (undone_due clock ts)
+  | inr early ↦
+      ap (λ b. flat_map (undo_of clock) (cond b (t ∷ filter (is_due clock) ts) (filter (is_due clock) ts))) early ∙ undone_due clock ts
+      ∙ sym (ap (λ b. event_if (b && t.is_recorded) (Undo t.id) ++ flat_map (undo_of clock) ts) early)
+]
+
+-- as much is recorded where the same are due
+pub undone_same : (clock : ℕ) (ts us : List Transaction) → filter (is_due clock) ts ≡ filter (is_due clock) us → flat_map (undo_of clock) ts ≡ flat_map (undo_of clock) us
+undone_same clock ts us same = sym (undone_due clock ts) ∙ ap (flat_map (undo_of clock)) same ∙ undone_due clock us
 
 -- it is what the passing of time records
 pub tick_undoes : (x : Present) (ms : ℕ) → IsSoundCourse x → flat_map (undo_of (later x.transactions.clock ms)) (filter is_live x.transactions.items) ≡ (tick x ms).events

@@ -1,18 +1,15 @@
 -- The pages of what is recorded are wanted.
-use Rattle.std.proofs.Common.{◌≡◌, ◌≢◌, ℕ, zero, suc, ◌+◌, ◌-◌, ◌*◌, ◌/◌, ◌<◌, ◌≤◌, ◌==◌, ◌||◌, not, Bool, true, false, List, [], ◌∷◌, ◌++◌, filter, length, get_or, All, Option, Some, None, refl, sym, ◌∙◌, ap, subst, arith, inl, inr}
-use Rattle.std.specs.List.{flat_map}
-use Rattle.std.specs.Prelude.{option_to_list}
+use Rattle.std.proofs.Common.{◌≡◌, ◌≢◌, ℕ, zero, suc, ◌*◌, ◌<◌, ◌≤◌, ◌==◌, ◌||◌, Bool, true, List, [], ◌∷◌, ◌++◌, filter, get_or, All, Option, Some, None, refl, sym, ◌∙◌, ap, subst, arith, inl, inr}
 use Rattle.std.proofs.lemmas.Bool.{cases_Bool, eqb-true, or_left, or_right}
-use Rattle.std.proofs.lemmas.List.Elements.{All-append, All-cons, All-from_get_or, All-get_or, All-head, All-nil, All-tail, All-weaker}
+use Rattle.std.proofs.lemmas.List.Elements.{All-cons, All-from_get_or, All-get_or, All-head, All-nil, All-tail, All-weaker}
 use Rattle.ktm_base.specs.declared.id.Id.{Id}
 use Rattle.ktm_base.specs.declared.id.Label.{Label}
 use Rattle.ktm_base.specs.declared.id.Pid.{Pid}
 use Rattle.arrayvec.specs.ArrayVec.{ArrayVec}
 use Rattle.ktm_content.specs.Places.{LieOn}
-use Rattle.ktm_course.specs.Moved.{records_files}
 use Rattle.ktm_event.specs.OnPages.{AreEach, IsRecordedChange}
-use Rattle.ktm_each.specs.Each.{EachFrom, EachOfChange, EachOfChanges, EachOfEvent, EachOfFiles, EachOfGroup}
-use Rattle.ktm_event.specs.Work.{FinalFile, changes_of as recorded_changes, changes_of_file, pages_changes}
+use Rattle.ktm_each.specs.Each.{EachFrom, EachOfChange, EachOfChanges, EachOfEvent, EachOfGroup}
+use Rattle.ktm_event.specs.Work.{pages_changes}
 use Rattle.ktm_paged.specs.Meaning.{pages_in}
 use Rattle.ktm_paged.specs.Paged.{page_at}
 use Rattle.ktm_paged.proofs.offered.OnPages.{pages-each, places-each}

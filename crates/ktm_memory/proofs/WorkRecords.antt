@@ -1,17 +1,16 @@
 -- The changes of a transaction, as they are recorded with the pages of the files that it wrote.
-use Rattle.std.proofs.Common.{◌≡◌, ◌≢◌, ℕ, zero, suc, ◌+◌, ◌<◌, ◌≤◌, not, Bool, true, false, List, [], ◌∷◌, ◌++◌, filter, length, map, All, refl, sym, ◌∙◌, ap, ap₂, subst, arith, inl, inr}
+use Rattle.std.proofs.Common.{◌≡◌, ℕ, zero, suc, ◌<◌, ◌≤◌, not, true, List, [], ◌∷◌, filter, length, map, All, refl, sym, ◌∙◌, ap, ap₂, subst, arith, inl, inr}
 use Rattle.std.specs.List.{flat_map, list_all}
 use Rattle.std.specs.Prelude.{◌^◌}
 use Rattle.std.proofs.lemmas.Bool.{and_from, cases_Bool, ne_eqb}
 use Rattle.std.proofs.lemmas.List.Elements.{All-append, All-cons, All-head, All-nil, All-tail}
-use Rattle.ktm_event.specs.OnPages.{AreEach, AreRecordedContents, IsRecordedChange}
+use Rattle.ktm_event.specs.OnPages.{AreEach, IsRecordedChange}
 use Rattle.ktm_event.specs.Spelling.{IsRecordableChange, IsSpellableChange}
 use Rattle.ktm_event.specs.Work.{FinalFile, changes_of as recorded_changes, changes_of_file, pages_changes}
 use Rattle.ktm_paged.specs.Meaning.{has_work_pages, meant}
 use Rattle.ktm_paged.proofs.offered.Meanings.{put-meant}
 use Rattle.ktm_world.specs.declared.change.Change.{Change}
 use Rattle.ktm_world.specs.declared.change.Change.TheVariants.{Make, Put, Cut, Move, Drop}
-use Rattle.ktm_world.specs.declared.change.Contents.{Contents}
 use Rattle.ktm_world.specs.declared.change.Contents.TheVariants.{Whole, Paged}
 use Rattle.txf_laws.specs.Contents.{puts_some}
 use Rattle.txf_overlay.specs.OverlayState.{is_of_names}

@@ -1,5 +1,5 @@
 -- Rules that the places of contents follow, which memory keeps.
-use Rattle.std.specs.Prelude.{◌≡◌, ℕ, Bool, true, Option}
+use Rattle.std.specs.Prelude.{◌≡◌, ℕ, Bool, true}
 use Rattle.ktm_each.specs.Each.{EachFrom, EachOfChanges, EachOfFiles, EachOfGroup}
 use Rattle.ktm_world.specs.Files.{FilesNow}
 use Rattle.ktm_world.specs.Logs.{Group}

@@ -9,7 +9,7 @@ use Rattle.ktm_world.specs.Changes.{bytes_in}
 use Rattle.ktm_each.specs.Each.{EachOfFiles, EachOfGroup}
 use Rattle.ktm_store.specs.Marks.{free_ahead, is_held}
 use Rattle.ktm_paged.specs.Meaning.{pages_in}
-use Rattle.ktm_store.specs.Store.{IsHeldAt, IsStoredAt, StoreState}
+use Rattle.ktm_store.specs.Store.{IsHeldAt, IsStoredAt, StoreOf}
 use Rattle.ktm_store.specs.Stored.{is_stored}
 use Rattle.ktm_world.specs.FileUses.{units_used}
 use Rattle.ktm_world.specs.Files.{FilesNow}
@@ -24,7 +24,7 @@ abbrev pub EventsLieBelow : ℕ → Group → Type 0
 EventsLieBelow count events = EachOfGroup (λ file index place. place ≤ count * UNIT_BYTES) events
 
 -- the pages of all places of the files are held
-abbrev pub AreFilesHeld : StoreState → FilesNow → Type 0
+abbrev pub AreFilesHeld : {B : Type 0} → StoreOf B → FilesNow → Type 0
 AreFilesHeld store files = EachOfFiles (λ file index place. IsHeldAt store.marks place) files
 
 -- the pages that a change names, as it is recorded, are among the first so many
@@ -44,7 +44,7 @@ abbrev pub AreEventsStored : List Bool → Group → Type 0
 AreEventsStored stored events = EachOfGroup (λ file index place. IsStoredAt stored place) events
 
 -- the pages of all places of the files are held and those that were held, and nothing else has changed; as many are free but for the units in use
-pub record HoldsFiles (files : FilesNow) (old new : StoreState) : Type 0 where
+pub record HoldsFiles (files : FilesNow) {B : Type 0} (old new : StoreOf B) : Type 0 where
   pub seen : new.seen ≡ old.seen
   pub stored : new.stored ≡ old.stored
   pub wanted : new.wanted ≡ old.wanted

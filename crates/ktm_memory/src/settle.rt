@@ -122,8 +122,8 @@ impl Memory {
         ensures rules { KeepRules (files_of self.old.files) (files_of self.new.files) }
     {
         law_of_kept();
+        let mut place = self.tm.due_from(ms as u64);
         self.tm.advance(ms as u64);
-        let mut place = 0;
         while let Some(t) = self.tm.live_at(place) {
             if self.tm.is_due(&t) {
                 self.roll_back(t);

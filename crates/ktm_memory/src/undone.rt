@@ -53,7 +53,7 @@ pub(crate) fn record_undone(tm: &Tm, ms: u32, events: &mut Events)
     ensures holds { Holds events.new (flat_map (undo_of (later tm.now.now.clock ms)) (filter is_live tm.now.now.items)) }
     ensures room { events.new.room ≡ events.old.room }
 {
-    for place in 0..tm.live_count() {
+    for place in tm.due_from(ms as u64)..tm.live_count() {
         if let Some(t) = tm.live_at(place) {
             record_one(tm, ms, &t, events);
         }

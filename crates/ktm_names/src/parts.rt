@@ -11,7 +11,10 @@ use std::alloc::{AllocError, Global};
 fn is_name_byte(byte: u8) -> bool
     ensures { result ≡ is_name_byte byte }
 {
-    (0x20..=0x7E).contains(&byte) && !b"\\/:*?\"<>|".contains(&byte)
+    match byte {
+        b'0'..=b'9' | b'A'..=b'Z' | b'a'..=b'z' => true,
+        _ => (0x20..=0x7E).contains(&byte) && !b"\\/:*?\"<>|".contains(&byte),
+    }
 }
 
 fn is_pattern_byte(byte: u8) -> bool

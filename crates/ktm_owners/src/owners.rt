@@ -145,6 +145,7 @@ impl Owners {
     }
 
     /// Names the pages of what a change puts.
+    #[inline(always)]
     pub fn name_change(&mut self, change: &Change) -> Result<(), NoMemory>
         ensures owners { self.new.owners ≡ self.old.owners }
         ensures named { OnOk result ((names : List Name) × AreNamedBy change.now names × (self.new.named ≡ self.old.named ++ names)) }

@@ -55,6 +55,7 @@ fn cut_meant(size: u64, node: u64, end: u64, pages: PageList) -> Option<Change>
 /// What a change means that is recorded with pages, of a file of so many bytes. Where bytes are put, or the file becomes longer, the
 /// places on the pages are put, from the begin of the first unit that is touched. No page number is copied. There is none exactly
 /// where contents are not on pages, there is not one page for each unit that is touched, or the bytes end behind every size.
+#[inline(always)]
 pub fn meant(size: u64, change: Change) -> Option<Change>
     ensures { result ≡ meant_if_paged size change }
 {

@@ -5,3 +5,4 @@ mod Made
 mod InPlace
 mod Alone
 pub mod offered
+mod Within

@@ -269,10 +269,24 @@ impl Replayed {
         }
     }
 
+    // Is what is committed within the limits, and are there no more resource managers than there may be.
+    fn is_committed_within(&self) -> bool
+        ensures { result ≡ (nat_le (sum_by (λ node. units_of (bytes_or_none node.content)) self.now.state.tree) self.now.state.units && nat_lt (length self.now.state.tree) self.now.state.units && nat_le (length self.now.state.keys) self.now.state.units && nat_le (length self.now.state.managers) MOST_LIVE) }
+    {
+        let most = u64::from(self.units);
+        self.files.units() <= most
+            && (self.files.nodes() as u64) < most
+            && self.keys.len() as u64 <= most
+            && self.managers.len() <= MOST_LIVE
+    }
+
     // Is the state within the limits. It goes through nothing that waits, and through nothing that is committed.
     fn is_within(&self) -> bool
         ensures { result ≡ is_within_limits self.now.state }
     {
+        if self.has_no_transactions() {
+            return self.is_committed_within();
+        }
         let Some(room) = without(limits(self.units), self.committed()) else {
             return false;
         };

@@ -55,6 +55,7 @@ fn give(replayed: &Replayed, owners: &mut Owners, name: Named) -> bool
 }
 
 // Gives all pages that are named, one after another.
+#[inline(always)]
 fn give_named(replayed: &Replayed, owners: &mut Owners) -> bool
     requires { AreThere (length owners.old.owners) owners.old.named }
     ensures { LeavesGiven (all_given replayed.now.state owners.old.owners owners.old.named) owners.new.owners result }

@@ -1,10 +1,8 @@
 -- What the answers to lines come to, of the machine and of the counts.
-use Rattle.std.specs.List.{flat_map}
-use Rattle.std.specs.Prelude.{◌&&◌, ◌||◌, IsSomeAnd, min}
-use Rattle.std.proofs.Common.{◌≡◌, ◌⊎◌, inl, inr, ℕ, ◌+◌, ◌*◌, ◌≤◌, not, Bool, true, false, cond, List, [], ◌∷◌, ◌++◌, Option, Some, None, Result, Ok, Err, IfOk, OnErr, refl, sym, ◌∙◌, ap, subst, arith}
+use Rattle.std.specs.Prelude.{IsSomeAnd}
+use Rattle.std.proofs.Common.{◌≡◌, ◌⊎◌, inl, inr, ℕ, ◌+◌, ◌*◌, ◌≤◌, Bool, true, false, List, [], ◌∷◌, ◌++◌, Option, Some, Result, Ok, Err, IfOk, OnErr, refl, sym, ◌∙◌, ap, subst, arith}
 use Rattle.std.proofs.lemmas.List.{append-nil}
 use Rattle.ktm_base.specs.declared.limits.TheConstants.{MOST_UNITS}
-use Rattle.ktm_base.specs.declared.id.Id.{Id}
 use Rattle.ktm_base.specs.declared.id.Pid.{Pid}
 use Rattle.ktm_base.specs.declared.fault.NoMemory.{NoMemory}
 use Rattle.ktm_base.specs.declared.power.PowerCall.{PowerCall}
@@ -14,43 +12,49 @@ use Rattle.ktm_base.specs.Count.{Rose}
 use Rattle.ktm_base.specs.Disk.{DiskState, DiskStatus, DeviceCalls}
 use Rattle.ktm_base.specs.Power.{after_off, planned, Restored, NotRestored}
 use Rattle.ktm_base.specs.Told.{Goes}
-use Rattle.ktm_kernel.proofs.offered.Standing.{stands_up, up_is}
-use Rattle.ktm_kernel.specs.CoreDone.{lacks_room, page_calls}
-use Rattle.ktm_journal.specs.Image.{page_count}
-use Rattle.ktm_kernel.specs.Done.{is_write, most_calls, units_written}
-use Rattle.ktm_kernel.specs.Stands.{KernelState, Stands, KernelAt, FoundAt, FoundLaw, DoesLine, LeavesStates, LeftLaw, PowerLaw}
-use Rattle.ktm_kernel.specs.Stored.{units_put}
-use Rattle.ktm_courses.specs.SoundCourse.{IsSoundCourse}
-use Rattle.ktm_standing.specs.Effects.{undo_of}
-use Rattle.ktm_standing.proofs.offered.Undone.{tick_records}
+use Rattle.ktm_kernel.proofs.offered.Standing.{up_is}
+use Rattle.ktm_kernel.specs.Answers.{IsUnanswered}
+use Rattle.ktm_kernel.specs.Stands.{KernelState, KernelAt, FoundAt, FoundLaw, DoesLine, IsReady, LeavesStates, LeftLaw, PowerLaw}
 use Rattle.ktm_run.proofs.Counting.{RoseBy-none}
 use Rattle.ktm_run.specs.Plan.{calls_of, plan_of, falls_of, RoseBy}
 use Rattle.ktm_log.specs.OnDisk.{OnDisk, on}
 use Rattle.ktm_run.specs.Progress.{Counts, Answers, Unanswered}
 use Rattle.ktm_run.specs.Script.{Means}
-use Rattle.ktm_world.specs.declared.change.Change.TheVariants.{Cut, Put}
 use Rattle.ktm_world.specs.declared.command.Command.{Command}
 use Rattle.ktm_world.specs.declared.command.Line.{Line}
 use Rattle.ktm_world.specs.declared.command.Line.TheVariants.{Crash, Restart, Process, Tick}
-use Rattle.ktm_world.specs.declared.event.Event.{Event}
-use Rattle.ktm_world.specs.declared.event.Event.TheVariants.{Plain, Undo}
-use Rattle.ktm_world.specs.declared.object.Transaction.{Transaction}
 use Rattle.ktm_world.specs.declared.reply.Reply.{Reply}
 use Rattle.ktm_world.specs.declared.reply.Reply.TheVariants.{Refused, Done}
-use Rattle.ktm_world.specs.Present.{Present}
 use Rattle.ktm_world.specs.Transcript.{Step, answered, interrupted, found, worn, CallDoes, CrashDoes, StartDoes, RestartDoes, Does}
-use Rattle.ktm_world.specs.Decide.{command_effect, command_tests, decide}
-use Rattle.ktm_world.specs.Durable.{Durable}
-use Rattle.ktm_world.specs.Outcome.{Outcome, first_refusal, refuse_or}
+use Rattle.ktm_world.specs.Decide.{decide}
+use Rattle.ktm_world.specs.Outcome.{Outcome}
 use Rattle.ktm_world.specs.World.{World, decide_tick, present, interrupted_restart}
-use Rattle.ktm_world.specs.TransactionCalls.{is_due, later, tick}
-use Rattle.ktm_world.specs.Phases.{event_if}
-use Rattle.ktm_world.proofs.offered.Durables.{stand-units}
+use Rattle.ktm_world.specs.TransactionCalls.{later}
 use Rattle.ktm_world.specs.Logs.{is_up}
 
 -- the world of a machine that is down is down
 pub off_of : (k : KernelState) (told : Option DiskState) (w : World) → k.now.machine.is_up ≡ false → KernelAt k told w → is_up w.power ≡ false
 off_of k told w off at = sym (up_is k told w at) ∙ off
+
+-- a machine is ready too on a disk that tells the same, and is up and synced as before
+pub ready_on : (k : KernelState) (before now : Option DiskState) (a b : DiskStatus) → now ≡ before → b.is_down ≡ a.is_down → b.pending ≡ a.pending → IsReady k before a → IsReady k now b
+ready_on k before now a b same down pending ready = subst (λ (told : Option DiskState). IsReady k told b) (sym same) (record {
+  powered = record { power = λ on. down ∙ ready.powered.power on; settled = λ on. pending ∙ ready.powered.settled on; image = ready.powered.image };
+  slots = ready.slots;
+  core = λ on.
+      let core = ready.core on in record {
+        ready = λ row.
+            let of = core.ready row in record {
+              powered = record { power = λ up. down ∙ of.powered.power up; settled = λ up. pending ∙ of.powered.settled up; image = of.powered.image; wanted = of.powered.wanted };
+              standing = of.standing;
+              slots = of.slots;
+              room = of.room;
+            };
+        count = core.count;
+        sound = core.sound;
+        held = core.held;
+      };
+})
 
 -- ---- the counts of one line
 
@@ -83,7 +87,7 @@ pub is_tick : (ms : ℕ) (reply : Reply) → IsDecided (Some (Tick ms)) (λ w. d
 is_tick ms reply = record { does = λ w new step does. does; plan = refl; stays = refl; falls = refl }
 
 module _ (line : Option Line) (o : World → Outcome) (reply : Reply) (is : IsDecided line o reply) (k n : KernelState) (before now : Option DiskState) (a b : DiskStatus)
-    (cause : reply ≡ Refused MachineDown → (k.now.machine.is_up ≡ false) ⊎ Rose a.downs b.downs) (most : ℕ) (within : (w : World) → KernelAt k before w → most ≤ calls_of w.base.units line) (calls : DeviceCalls most a b b.is_down) where
+    (cause : reply ≡ Refused MachineDown → (k.now.machine.is_up ≡ false) ⊎ Rose a.downs b.downs) (most : ℕ) (calls : DeviceCalls most a b b.is_down) (few : (w : World) → KernelAt k before w → b.calls ≤ a.calls + calls_of w.base.units line) where
   -- the power went in it only where the count of downs rose
   decided_rose : (w new : World) (step : Step) → KernelAt k before w → CallDoes w (o w) step reply new → RoseBy (falls_of line step reply) a.downs b.downs
   decided_rose w new answered at does = subst (λ fell. RoseBy fell a.downs b.downs) (sym is.stays) (RoseBy-none a.downs b.downs calls.later)
@@ -104,91 +108,18 @@ module _ (line : Option Line) (o : World → Outcome) (reply : Reply) (is : IsDe
         counts = counted k n before now a b (calls_of w.base.units line) (plan_of line reply) (falls_of line step reply)
             (decided_rose w new step at (is.does w new step done))
             (calls.plan ∙ sym (append-nil a.plan) ∙ ap (λ (p : List PowerCall). a.plan ++ p) (sym is.plan))
-            (let most_here = within w at in omega (arith, most_here, calls.few));
+            (few w at);
       }
 
--- what is decided while the machine is down records nothing
-pub quiet_call : (x : Present) (process : Pid) (command : Command) → x.machine.is_up ≡ false → (decide x process command).events ≡ []
-quiet_call x process command off =
-    subst (λ b. (refuse_or x (first_refusal ((not b, MachineDown) ∷ command_tests x process command)) (command_effect x process command)).events ≡ []) (sym off) refl
+-- ---- a call that finds no memory
 
--- events put no bytes
-abbrev PutNone : List Event → Type 0
-PutNone events = (units_put events ≡ 0) × (is_write events ≡ false)
-
-no_write : (id : Id) (events : List Event) → is_write (Undo id ∷ events) ≡ false
-no_write id [] = refl
-no_write id (event ∷ events) = refl
-
-undo_puts_none : (clock : ℕ) (ts : List Transaction) → PutNone (flat_map (undo_of clock) ts)
-undo_puts_none clock [] = (refl, refl)
-undo_puts_none clock (t ∷ ts) = go (is_due clock t && t.is_recorded) (undo_puts_none clock ts)
-  where
-    go : (b : Bool) → PutNone (flat_map (undo_of clock) ts) → PutNone (event_if b (Undo t.id) ++ flat_map (undo_of clock) ts)
-    go true rest = (omega (arith, rest.0), no_write t.id (flat_map (undo_of clock) ts))
-    go false rest = rest
-
--- the passing of time puts none
-tick_puts_none : (x : Present) (ms : ℕ) → (x.machine.is_up ≡ true → IsSoundCourse x) → PutNone (decide_tick x ms).events
-tick_puts_none x ms course = go x.machine.is_up refl
-  where
-    go : (b : Bool) → x.machine.is_up ≡ b → PutNone (refuse_or x (first_refusal ((not b, MachineDown) ∷ [])) (tick x ms)).events
-    go true on = subst PutNone (sym (tick_records x ms (course on))) (undo_puts_none (later x.transactions.clock ms) x.transactions.items)
-    go false off = (refl, refl)
-
--- a machine that is up has the units of its world
-units_of : (k : KernelState) (told : Option DiskState) (w : World) → Stands k told w → k.journal.units ≡ w.base.units
-units_of k None w stands = absurd stands.disk
-units_of k (Some s) w stands =
-    ap (λ (l : KernelState). l.journal.units) stands.is ∙ sym stands.disk.journal.units ∙ ap (λ (l : KernelState). l.now.recorded.units) (sym stands.is)
-    ∙ ap (λ (x : Present). x.recorded.units) stands.now ∙ ap (λ (d : Durable). d.units) (sym stands.standing.running.comes_to) ∙ stand-units w.base w.log
-
--- an outcome is recorded with few device calls
-few_of_units : (completing : Bool) (k : KernelState) (events : List Event) → most_calls completing k events ≤ 3 * k.journal.units + cond completing 70 76
-few_of_units true k events = omega arith
-few_of_units false k events = elim (is_write events || lacks_room k.journal events) as (λ t. page_calls (min (units_written k.now events) (page_count k.journal.units)) + cond t 10 4 ≤ 3 * k.journal.units + 76)
-    [ true ↦ omega arith | false ↦ omega arith ]
-
--- what changes no bytes writes as many units as it puts
-written_of_none : (x : Present) (events : List Event) → PutNone events → units_written x events ≡ 0
-written_of_none x [] none = refl
-written_of_none x (Plain (Put node offset contents) ∷ []) (none, other) = absurd (cc)
-written_of_none x (Plain (Cut node size pages) ∷ []) (none, other) = absurd (cc)
-written_of_none x (Plain change ∷ []) none = refl
-written_of_none x (event ∷ events) none = none.0
-
--- ten, where it puts no bytes, and four where it completes a transaction
-few_of_none : (completing : Bool) (k : KernelState) (events : List Event) → PutNone events → most_calls completing k events ≤ cond completing 4 10
-few_of_none true k events none =
-    subst (λ n. page_calls (min n (page_count k.journal.units)) + 4 ≤ 4) (sym (written_of_none k.now events none)) (omega arith)
-few_of_none false k events none =
-    subst (λ n. page_calls (min n (page_count k.journal.units)) + cond (is_write events || lacks_room k.journal events) 10 4 ≤ 10) (sym (written_of_none k.now events none))
-    (elim (is_write events || lacks_room k.journal events) as (λ t. page_calls (min 0 (page_count k.journal.units)) + cond t 10 4 ≤ 10) [ true ↦ omega arith | false ↦ omega arith ])
-
-pub few_calls : (completing : Bool) (k : KernelState) (told : Option DiskState) (events : List Event) → (k.now.machine.is_up ≡ false → events ≡ []) → (w : World) → KernelAt k told w → most_calls completing k events ≤ 3 * w.base.units + cond completing 70 76
-few_calls completing k told events quiet w at = go k.now.machine.is_up refl
-  where
-    none_few : (b : Bool) → most_calls b k [] ≤ 3 * w.base.units + cond b 70 76
-    none_few true = let few = few_of_none true k [] (refl, refl) in omega (arith, few)
-    none_few false = let few = few_of_none false k [] (refl, refl) in omega (arith, few)
-
-    go : (b : Bool) → k.now.machine.is_up ≡ b → most_calls completing k events ≤ 3 * w.base.units + cond completing 70 76
-    go true on = subst (λ n. most_calls completing k events ≤ 3 * n + cond completing 70 76) (units_of k told w (stands_up k told w at on).1) (few_of_units completing k events)
-    go false off = subst (λ (es : List Event). most_calls completing k es ≤ 3 * w.base.units + cond completing 70 76) (sym (quiet off)) (none_few completing)
-
-pub few_later_calls : (k : KernelState) (told : Option DiskState) (ms : ℕ) (w : World) → KernelAt k told w → most_calls true k (decide_tick k.now ms).events ≤ 4
-few_later_calls k told ms w at = few_of_none true k (decide_tick k.now ms).events (tick_puts_none k.now ms sound)
-  where
-    sound : k.now.machine.is_up ≡ true → IsSoundCourse k.now
-    sound on = let (power, there) = stands_up k told w at on in subst IsSoundCourse (sym there.now) there.standing.running.now.sound.course
-
--- a line that changed nothing
-pub not_executed : LeftLaw → (k n : KernelState) (before now : Option DiskState) (a b : DiskStatus) (line : List ℕ) → now ≡ before → b ≡ a → (w : World) → KernelAt k before w
-    → Unanswered w (on k before a) (on n now b) line
-not_executed left k n before now a b line told same w at = record {
-  leaves = subst (λ (o : Option DiskState). IsSomeAnd o (LeavesStates w)) (sym told) (left k before w at);
-  counts = inl (quiet k n before now a b same);
-}
+-- it may have read
+pub out_of_memory : LeftLaw → (old new : OnDisk KernelState) (line : List ℕ) → IsUnanswered old new → (w : World) → KernelAt old.it old.told w → Unanswered w old new line
+out_of_memory left old new line is w at =
+    let calls = is.reads.calls in record {
+      leaves = subst (λ (o : Option DiskState). IsSomeAnd o (LeavesStates w)) (sym is.reads.same) (left old.it old.told w at);
+      counts = inl (record { rose = RoseBy-none old.status.downs new.status.downs calls.later; plan_is = calls.plan ∙ sym (append-nil old.status.plan); few = calls.few });
+    }
 
 -- ---- a crash
 
@@ -236,7 +167,7 @@ failed_again law k before now a b pick off is rose goes = λ w at.
       world = interrupted_restart w;
       does = subst (λ b. RestartDoes b w interrupted (Refused MachineDown) (interrupted_restart w)) (sym down) (refl, refl);
       stands = (law k before now w down at).1 goes;
-      counts = counted k k before now a b (4 * w.base.units + 91) (Power pick ∷ []) 1 rose (ap (λ s. s.plan) is) (let few = ap (λ s. s.calls) is in omega arith);
+      counts = counted k k before now a b (2 * w.base.units + 27) (Power pick ∷ []) 1 rose (ap (λ s. s.plan) is) (let few = ap (λ s. s.calls) is in omega arith);
     }
 
 -- the power is back
@@ -269,13 +200,13 @@ started_rose w new pick (worn log) reply a b does cause later = RoseBy-none a.do
 -- a machine that starts again, on a disk whose power came back
 module _ (law : PowerLaw) (k n : KernelState) (before mid now : Option DiskState) (a m b : DiskStatus) (pick : ℕ)
     (off : k.now.machine.is_up ≡ false) (power : m ≡ powered a pick) (goes : Goes Restored before mid)
-    (calls : DeviceCalls (4 * MOST_UNITS + 91) m b b.is_down) (few : (w : World) → FoundAt k mid w → b.calls ≤ m.calls + (4 * w.base.units + 91)) where
+    (calls : DeviceCalls (2 * MOST_UNITS + 27) m b b.is_down) (few : (w : World) → FoundAt k mid w → b.calls ≤ m.calls + (2 * w.base.units + 27)) where
   starts_counted : (w : World) (fell : ℕ) → KernelAt k before w → RoseBy fell m.downs b.downs
-      → Counts (on k before a) (on n now b) (4 * w.base.units + 91) (Power pick ∷ []) fell
-  starts_counted w fell at rose = counted k n before now a b (4 * w.base.units + 91) (Power pick ∷ []) fell
+      → Counts (on k before a) (on n now b) (2 * w.base.units + 27) (Power pick ∷ []) fell
+  starts_counted w fell at rose = counted k n before now a b (2 * w.base.units + 27) (Power pick ∷ []) fell
       (subst (λ d. RoseBy fell d b.downs) (ap (λ s. s.downs) power) rose)
       (calls.plan ∙ ap (λ s. s.plan) power)
-      (subst (λ d. b.calls ≤ d + (4 * w.base.units + 91)) (ap (λ s. s.calls) power) (few w (found_at law k before mid off goes w at)))
+      (subst (λ d. b.calls ≤ d + (2 * w.base.units + 27)) (ap (λ s. s.calls) power) (few w (found_at law k before mid off goes w at)))
 
   pub started : (reply : Reply) → ((pick : ℕ) (w : World) → FoundAt k mid w → DoesLine w (Some (Restart pick)) reply n now) → (reply ≡ Refused MachineDown → Rose m.downs b.downs)
       → Answers (on k before a) (on n now b) (Some (Restart pick)) reply
@@ -286,7 +217,7 @@ module _ (law : PowerLaw) (k n : KernelState) (before mid now : Option DiskState
         world = new;
         does = done;
         stands = stands;
-        counts = subst (λ (p : List PowerCall). Counts (on k before a) (on n now b) (4 * w.base.units + 91) p (falls_of (Some (Restart pick)) step reply))
+        counts = subst (λ (p : List PowerCall). Counts (on k before a) (on n now b) (2 * w.base.units + 27) p (falls_of (Some (Restart pick)) step reply))
             (sym (started_plan w new pick step reply starts))
             (starts_counted w (falls_of (Some (Restart pick)) step reply) at (started_rose w new pick step reply m b starts cause calls.later));
       }

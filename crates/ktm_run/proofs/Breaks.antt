@@ -61,7 +61,7 @@ module _ (machine : KernelState) (disk mid_disk : Option DiskState) (same : mid_
       let h = leaves w (subst (λ (d : Option DiskState). KernelAt machine d w) (sym same) stands) in record {
         leaves = h.leaves;
         counts = elim h.counts [
-          | inl none ↦ inl (counted 0 [] 0 none)
+          | inl none ↦ inl (counted _ [] 0 none)
           | inr some ↦ inr (some.0, some.1, some.2, counted _ _ 0 some.3)
         ];
       }

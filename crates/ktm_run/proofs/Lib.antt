@@ -6,6 +6,7 @@ pub mod Runs
 pub mod Generating
 pub mod Breaks
 pub mod Answering
+pub mod FewCalls
 pub mod Theorems
 pub mod Summarized
 pub mod Lawful

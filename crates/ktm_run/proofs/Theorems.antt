@@ -18,6 +18,7 @@ use Rattle.ktm_run.proofs.Lasting.{before_few, between_few, cut_few, front_few, 
 use Rattle.ktm_run.specs.Lawful.{RunIsLawful, most_lines}
 use Rattle.ktm_run.specs.Executed.{IsStopped, Position, ScriptLeaves, position}
 use Rattle.ktm_log.specs.OnDisk.{OnDisk, on}
+use Rattle.ktm_run.specs.Plan.{calls_unanswered}
 use Rattle.ktm_run.specs.Progress.{Now, Counts, Went, Ran, Progress, Broke, Unanswered as Undone}
 use Rattle.ktm_run.specs.Script.{Means, cut_lines, lines_from}
 use Rattle.ktm_kernel.specs.declared.fault.OpenFault.{OpenFault}
@@ -55,11 +56,11 @@ module _ (w : World) (at new : Now) (line : List ℕ) (lengths : IfSome new.scen
   line_counts : (n : ℕ) (plan : List PowerCall) (fell : ℕ) → Counts at.scene new.scene n plan fell → LineCounts at.scene.status new.scene.status n plan fell
   line_counts n plan fell counts = record { rose = counts.rose; plan_is = counts.plan_is; few = counts.few }
 
-  unanswered_counts : Counts at.scene new.scene 0 [] 0 ⊎ ((pick : ℕ) × Means line (Some (Restart pick)) × (is_up w.power ≡ false) × Counts at.scene new.scene (4 * w.base.units + 91) (Power pick ∷ []) 0)
-      → LineCounts at.scene.status new.scene.status 0 [] 0
-      ⊎ ((pick : ℕ) × Means line (Some (Restart pick)) × (is_up w.power ≡ false) × LineCounts at.scene.status new.scene.status (4 * w.base.units + 91) (Power pick ∷ []) 0)
-  unanswered_counts (inl none) = inl (line_counts 0 [] 0 none)
-  unanswered_counts (inr (pick, mean, off, some)) = inr (pick, mean, off, line_counts (4 * w.base.units + 91) (Power pick ∷ []) 0 some)
+  unanswered_counts : Counts at.scene new.scene calls_unanswered [] 0 ⊎ ((pick : ℕ) × Means line (Some (Restart pick)) × (is_up w.power ≡ false) × Counts at.scene new.scene (2 * w.base.units + 27) (Power pick ∷ []) 0)
+      → LineCounts at.scene.status new.scene.status calls_unanswered [] 0
+      ⊎ ((pick : ℕ) × Means line (Some (Restart pick)) × (is_up w.power ≡ false) × LineCounts at.scene.status new.scene.status (2 * w.base.units + 27) (Power pick ∷ []) 0)
+  unanswered_counts (inl none) = inl (line_counts calls_unanswered [] 0 none)
+  unanswered_counts (inr (pick, mean, off, some)) = inr (pick, mean, off, line_counts (2 * w.base.units + 27) (Power pick ∷ []) 0 some)
 
   pub unanswered_of : Appends at.taken new.taken [] → Undone w at.scene new.scene line → Unanswered w (moment_at at) (moment_at new) line
   unanswered_of wrote undone = record { wrote = wrote; holds = holds_of new.scene.told w lengths undone.leaves; counts = unanswered_counts undone.counts }

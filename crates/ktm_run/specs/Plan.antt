@@ -60,15 +60,20 @@ abbrev pub RoseBy : ℕ → ℕ → ℕ → Type 0
 RoseBy n before now = min (before + n) (2 ^ 64 - 1) ≤ now
 
 -- the most device calls of a line, on an image of so many units: a call of a process records with four, and with six more where the log has not enough
--- room, which it always has for what completes a transaction, and also writes the bytes that it puts; the passing of time records with four; a restart reads
--- the image and records that it started; and no other line makes any
+-- room, which it always has for what completes a transaction, and also writes the bytes that it puts, or those that wait in memory, and reads the pages at both
+-- ends of what it writes, or those that it is asked for; the passing of time records with four; a restart reads the image and records that it started; and no
+-- other line makes any
 abbrev pub calls_of : ℕ → Option Line → ℕ
 calls_of units None = 0
-calls_of units (Some (Process process command)) = 3 * units + (if completes command then 70 else 76)
+calls_of units (Some (Process process command)) = 3 * units + (if completes command then 70 else 77)
 calls_of units (Some (Tick ms)) = 4
 calls_of units (Some (Cut calls)) = 0
 calls_of units (Some Crash) = 0
-calls_of units (Some (Restart pick)) = 4 * units + 91
+calls_of units (Some (Restart pick)) = 2 * units + 27
+
+-- the most device calls of a line that was not executed: it may have read the pages at both ends of what it was to write
+abbrev pub calls_unanswered : ℕ
+calls_unanswered = 2
 
 -- the most device calls of lines
 abbrev pub calls : ℕ → List (Option Line) → ℕ

@@ -7,7 +7,7 @@ use Rattle.ktm_base.specs.declared.power.PowerCall.TheVariants.{Power}
 use Rattle.ktm_base.specs.Disk.{DiskState, DiskStatus, HasLengths}
 use Rattle.ktm_kernel.specs.Stands.{KernelState, KernelAt, LeavesStates}
 use Rattle.ktm_log.specs.OnDisk.{OnDisk, on}
-use Rattle.ktm_run.specs.Plan.{plan_of, plans, falls_of, falls, RoseBy, calls_of, calls}
+use Rattle.ktm_run.specs.Plan.{plan_of, plans, falls_of, falls, RoseBy, calls_unanswered, calls_of, calls}
 use Rattle.ktm_dump.specs.Written.{AppendsPart}
 use Rattle.ktm_run.specs.Script.{has_reply, Means, MeanAll, reply_line, written_replies}
 use Rattle.ktm_world.specs.declared.command.Line.{Line}
@@ -47,7 +47,7 @@ Answers old new line reply = (w : World) → KernelAt old.it old.told w → Did 
 -- a line was not executed, or it was a restart that found no memory: what may be left is of the same world
 pub record Unanswered (w : World) (old new : OnDisk KernelState) (line : List ℕ) : Type 0 where
   pub leaves : IsSomeAnd new.told (LeavesStates w)
-  pub counts : Counts old new 0 [] 0
+  pub counts : Counts old new calls_unanswered [] 0
       ⊎ ((pick : ℕ) × Means line (Some (Restart pick)) × (is_up w.power ≡ false) × Counts old new (calls_of w.base.units (Some (Restart pick))) (Power pick ∷ []) 0)
 
 -- the lines came by a transcript to a world for which the machine then stands

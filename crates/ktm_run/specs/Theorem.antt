@@ -17,7 +17,7 @@ use Rattle.ktm_world.specs.World.{World, opened, possible_logs}
 use Rattle.ktm_kernel.specs.Begins.{BeginsAs}
 use Rattle.ktm_kernel.specs.Opening.{opening_calls}
 use Rattle.ktm_run.specs.Early.{Outside, Untouched}
-use Rattle.ktm_run.specs.Plan.{plan_of, plans, falls_of, falls, RoseBy, calls_of, calls}
+use Rattle.ktm_run.specs.Plan.{plan_of, plans, falls_of, falls, RoseBy, calls_unanswered, calls_of, calls}
 use Rattle.ktm_dump.specs.Written.{AppendsPart}
 use Rattle.ktm_run.specs.Form.{worn_line}
 use Rattle.ktm_run.specs.Script.{has_reply, cut_lines, lines_from, MayExecute, Means, MeanAll, reply_line, written_replies}
@@ -110,7 +110,7 @@ pub record EndedBetween (base : Durable) (old new : Outside) (script lines : Lis
 pub record Unanswered (w : World) (old new : Moment) (line : List ℕ) : Type 0 where
   pub wrote : Appends old.taken new.taken []
   pub holds : IsSomeAnd new.disk (HoldsStates w)
-  pub counts : LineCounts old.status new.status 0 [] 0
+  pub counts : LineCounts old.status new.status calls_unanswered [] 0
       ⊎ ((pick : ℕ) × Means line (Some (Restart pick)) × (is_up w.power ≡ false) × LineCounts old.status new.status (calls_of w.base.units (Some (Restart pick))) (Power pick ∷ []) 0)
 
 -- a line was answered, and a part of its reply was written

@@ -1,7 +1,12 @@
 pub mod Bytes
-pub mod Fills
+pub mod Contents
+pub mod Filled
+pub mod Framing
 pub mod Free
-pub mod Reading
-pub mod Units
+pub mod Letting
+pub mod Making
+pub mod Owning
+pub mod Rows
+pub mod Taking
 pub mod Wanted
 pub mod offered

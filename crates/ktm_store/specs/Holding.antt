@@ -1,7 +1,7 @@
 -- Contents of which the pages come to be held.
 use Rattle.std.specs.Prelude.{◌≡◌, ◌⊎◌, ℕ, ◌+◌, ◌≤◌, true, List, length, All, Contains}
 use Rattle.ktm_store.specs.Marks.{free_ahead, is_held}
-use Rattle.ktm_store.specs.Store.{AreBelow, AreHeld, StoreState, page_at}
+use Rattle.ktm_store.specs.Store.{AreBelow, AreHeld, StoreOf, page_at}
 
 -- one of these contents has a place on the page
 pub record HavePage (contents : List (List ℕ)) (page : ℕ) : Type 0 where
@@ -12,11 +12,11 @@ pub record HavePage (contents : List (List ℕ)) (page : ℕ) : Type 0 where
   pub on : page_at place ≡ page
 
 -- all places of these contents are on pages that there are
-abbrev pub AreAllBelow : StoreState → List (List ℕ) → Type 0
+abbrev pub AreAllBelow : {B : Type 0} → StoreOf B → List (List ℕ) → Type 0
 AreAllBelow store contents = All (AreBelow (length store.marks.held)) contents
 
 -- the pages of these contents are held, which are so many at most, and no others but those that were; nothing else changed
-pub record HoldsContents (contents : List (List ℕ)) (pages : ℕ) (old new : StoreState) : Type 0 where
+pub record HoldsContents (contents : List (List ℕ)) (pages : ℕ) {B : Type 0} (old new : StoreOf B) : Type 0 where
   pub seen : new.seen ≡ old.seen
   pub stored : new.stored ≡ old.stored
   pub wanted : new.wanted ≡ old.wanted

@@ -1,5 +1,5 @@
--- The bytes of all pages in memory, and contents that lie on them.
-use Rattle.std.specs.Prelude.{◌≡◌, ◌≢◌, ◌⊎◌, ℕ, ◌+◌, ◌-◌, ◌*◌, ◌/◌, ◌<◌, ◌≤◌, min, max, Bool, true, false, List, length, map, slice_index, All, Contains}
+-- Pages, and contents that lie on them.
+use Rattle.std.specs.Prelude.{◌≡◌, ◌≢◌, ◌⊎◌, ℕ, ◌+◌, ◌-◌, ◌*◌, ◌/◌, ◌<◌, ◌≤◌, min, max, Bool, true, false, List, length, map, slice_index, All, Contains, Option}
 use Rattle.ktm_base.specs.declared.limits.TheConstants.{UNIT_BYTES}
 use Rattle.ktm_page.specs.Row.{page_of}
 use Rattle.ktm_content.specs.Contents.{put_over}
@@ -7,12 +7,20 @@ use Rattle.ktm_content.specs.Places.{CanBePut, LieOn, byte_at}
 use Rattle.ktm_store.specs.Marks.{MarksState, free_ahead, is_held}
 use Rattle.ktm_store.specs.Stored.{is_stored}
 
--- the bytes of all pages, one behind another, which pages are held, which are stored, and which of these are still to be written
-pub record StoreState : Type 0 where
-  pub seen : List ℕ
+-- what is known of the bytes of all pages, which pages are held, which are stored, and which of these are still to be written
+pub record StoreOf (Bytes : Type 0) : Type 0 where
+  pub seen : Bytes
   pub marks : MarksState
   pub stored : List Bool
   pub wanted : List ℕ
+
+-- the bytes of all pages are known, one behind another
+abbrev pub StoreState : Type 0
+StoreState = StoreOf (List ℕ)
+
+-- those of the pages in memory are known, each whole
+abbrev pub PoolState : Type 0
+PoolState = StoreOf (List (Option (List ℕ)))
 
 -- how many pages an image of so many units has
 abbrev pub pages_of : ℕ → ℕ
@@ -56,7 +64,7 @@ pub record KeepsHeld (old new : StoreState) : Type 0 where
   pub wanted : new.wanted ≡ old.wanted
 
 -- some pages more are to be written, none of which was stored, and no other is stored that was not
-pub record WantsMore (old new : StoreState) : Type 0 where
+pub record WantsMore {B : Type 0} (old new : StoreOf B) : Type 0 where
   pub seen : new.seen ≡ old.seen
   pub marks : new.marks ≡ old.marks
   pub stored : (page : ℕ) → is_stored old.stored page ≡ true → is_stored new.stored page ≡ true

@@ -1,60 +1,66 @@
-// The bytes of all pages.
-ghost use Rattle.std.specs.Prelude.{◌≡◌, ◌≢◌, ℕ, ◌+◌, ◌-◌, ◌*◌, ◌/◌, ◌%◌, ◌<◌, ◌≤◌, ◌^◌, ◌∷◌, ◌++◌, [], min, true, false, All, IfOk, OnErr, drop, length, replicate, set, take, vec_capacity, vec_len};
-ghost use Rattle.ktm_base.specs.Bytes.{written};
-ghost use Rattle.ktm_base.specs.Reading.{IsRead};
-ghost use Rattle.ktm_content.specs.Contents.{units_of};
-ghost use Rattle.ktm_page.specs.Row.{page_of};
-ghost use Rattle.ktm_content.specs.Contents.{cut_to, put_over};
-ghost use Rattle.ktm_store.specs.Filling.{AreUnits, Fills, unit_byte};
+// The pages of an image.
+ghost use Rattle.std.specs.Prelude.{◌≡◌, ℕ, ◌+◌, ◌-◌, ◌*◌, ◌<◌, ◌≤◌, ◌^◌, ◌∷◌, [], List, true, All, IfOk, OnErr, OnOk, Some, None, length, replicate};
+ghost use Rattle.ktm_content.specs.Contents.{units_of, cut_to, put_over};
+ghost use Rattle.ktm_store.specs.Filling.{MadeUnits};
 ghost use Rattle.ktm_store.specs.Holding.{HoldsContents};
-ghost use Rattle.ktm_store.specs.Marks.{Holds, IsClear, Took, free_ahead, is_held};
-ghost use Rattle.ktm_store.specs.Store.{AreBelow, AreHeld, IsStoredAt, IsTouched, Made, WantsMore, bytes_at, pages_of, touched};
+ghost use Rattle.ktm_store.specs.Marks.{Holds, IsClear, free_ahead};
+ghost use Rattle.ktm_store.specs.Pool.{AreSomewhere, FillsPages, KeepsAll, LetIn, Shows, TookPages, head_of, is_kept, kept_at, tail_of};
+ghost use Rattle.ktm_store.specs.Store.{AreBelow, AreHeld, IsStoredAt, IsTouched, WantsMore, pages_of, touched};
 ghost use Rattle.ktm_store.specs.Stored.{is_stored};
 
+use crate::change::Change;
+use crate::frames::Frames;
 use crate::marks::Marks;
 use crate::stored::Stored;
-use crate::unit::{PAGE_BYTES, begin_of, fill_unit, put};
+use crate::units::take_units;
 use ktm_base::{NoMemory, PageList, UNIT_BYTES};
 use ktm_content::{Content, Placed, PlacedRef};
 use std::alloc::Global;
 use std::marker::Model;
 
-/// The bytes of all pages of an image, which pages are held, and which are stored. What is held is not written over: a change of contents
-/// is made on pages that are free. A page that is stored is on the disk as it is here, or it is among those that are wanted there.
+// Up to so many frames no page is to be written for want of room.
+const MOST_FRAMES: usize = 128;
+
+// Nor where no more pages than these are not stored: the frames of the others are enough.
+const MOST_MISSING: u32 = 64;
+
+/// The pages of an image: which are held, which are stored, and the bytes of some of them. What is held is not written over: a change of
+/// contents is made on pages that are free. A page that is stored is on the disk, or it is among those that are wanted there. The bytes of a
+/// page that is not stored are in memory; of those that are stored some are, and they go where others want their room.
 #[derive(Drop)]
 pub struct Store {
-    // the pages, one behind another
-    bytes: Vec<u8>,
+    frames: Frames,
     marks: Marks,
     stored: Stored,
 }
 
 impl Model for Store {
-    ghost use Rattle.std.specs.Prelude.{◌≡◌, ◌*◌, length};
-    ghost use Rattle.ktm_store.specs.Store.{StoreState};
+    ghost use Rattle.std.specs.Prelude.{◌≡◌, length};
+    ghost use Rattle.ktm_store.specs.Pool.{AreSomewhere};
+    ghost use Rattle.ktm_store.specs.Store.{PoolState};
 
-    ghost Value = { StoreState };
+    ghost Value = { PoolState };
 
-    ghost view = { λ s. record { seen = s.bytes.items; marks = s.marks; stored = s.stored.stored; wanted = s.stored.wanted } };
+    ghost view = { λ s. record { seen = s.frames.kept; marks = s.marks; stored = s.stored.stored; wanted = s.stored.wanted } };
 
-    ghost invariant = { λ s. (length s.bytes.items ≡ length s.marks.held * 4096) × (length s.stored.stored ≡ length s.marks.held) };
+    ghost invariant = { λ s. (length s.frames.kept ≡ length s.marks.held) × (length s.stored.stored ≡ length s.marks.held) × AreSomewhere (record { seen = s.frames.kept; marks = s.marks; stored = s.stored.stored; wanted = s.stored.wanted }) };
 }
 
 impl Store {
-    /// The pages of an image of so many units: all bytes are zero, and none is held, stored or wanted. It takes all memory for them.
+    /// The pages of an image of so many units: all are on the disk alone, and none is held or wanted. It takes the memory for 64 pages.
     pub fn new(alloc: Global, units: u32) -> Result<Self, NoMemory>
         requires { units ≤ 2 ^ 14 }
-        ensures seen { IfOk result (λ store. store.seen ≡ replicate (pages_of units * 4096) 0) }
+        ensures seen { IfOk result (λ store. store.seen ≡ replicate (pages_of units) None) }
         ensures marks { IfOk result (λ store. IsClear (pages_of units) store.marks) }
-        ensures stored { IfOk result (λ store. store.stored ≡ replicate (pages_of units) false) }
+        ensures stored { IfOk result (λ store. store.stored ≡ replicate (pages_of units) true) }
         ensures wanted { IfOk result (λ store. store.wanted ≡ []) }
     {
         let count = 2 * units + 64;
-        let bytes = vec![in alloc; 0u8; begin_of(count)]?;
+        let frames = Frames::new(alloc, count)?;
         let marks = Marks::new(alloc, count)?;
         let stored = Stored::new(alloc, count)?;
         Ok(Store {
-            bytes,
+            frames,
             marks,
             stored,
         })
@@ -74,40 +80,42 @@ impl Store {
         self.marks.free()
     }
 
-    /// The bytes of a page.
-    pub fn page(&self, page: u32) -> &[u8]
+    /// Are the bytes of a page in memory.
+    pub fn is_kept(&self, page: u32) -> bool
         requires { page < length self.now.marks.held }
-        ensures bytes { result.now ≡ page_of self.now.seen page }
+        ensures { result ≡ is_kept self.now.seen page }
+    {
+        self.frames.is_kept(page)
+    }
+
+    /// The bytes of a page that is in memory.
+    pub fn page(&self, page: u32) -> &[u8]
+        requires below { page < length self.now.marks.held }
+        requires kept { is_kept self.now.seen page ≡ true }
+        ensures bytes { Some result.now ≡ kept_at self.now.seen page }
         ensures whole { length result.now ≡ 4096 }
     {
-        let begin = begin_of(page);
-        &self.bytes[begin..begin + PAGE_BYTES]
+        self.frames.page(page)
     }
 
-    /// Puts 4,096 bytes on a page, as they were read from a disk: it is stored.
-    pub fn load(&mut self, page: u32, bytes: &[u8])
+    /// Keeps 4,096 bytes of a page that is stored, as they were read from a disk, in the room of pages that are stored too, or in more memory
+    /// where there is none. Out of memory nothing changes.
+    pub fn keep(&mut self, alloc: Global, page: u32, bytes: &[u8]) -> Result<(), NoMemory>
         requires below { page < length self.old.marks.held }
         requires whole { length bytes.now ≡ 4096 }
-        ensures seen { self.new.seen ≡ written self.old.seen (page * 4096) bytes.now }
-        ensures marks { self.new.marks ≡ self.old.marks }
-        ensures stored { self.new.stored ≡ set self.old.stored page true }
-        ensures bytes { page_of self.new.seen page ≡ bytes.now }
-        ensures others { (other : ℕ) → other ≢ page → page_of self.new.seen other ≡ page_of self.old.seen other }
-        ensures there { is_stored self.new.stored page ≡ true }
-        ensures wanted { self.new.wanted ≡ self.old.wanted }
+        requires stored { is_stored self.old.stored page ≡ true }
+        requires none { self.old.wanted ≡ [] }
+        ensures ok { OnOk result (LetIn page bytes.now self.old self.new) }
+        ensures err { OnErr result (self.new ≡ self.old) }
     {
-        put(&mut self.bytes, begin_of(page), bytes);
-        self.stored.store(page);
+        self.frames.reserve(self.stored.all(), 1)?;
+        self.frames.put(page, &[], 0, bytes, &[]);
+        Ok(())
     }
 
-    /// Each page of these contents that is not stored is wanted on the disk.
-    pub fn want(&mut self, contents: PlacedRef<'_>)
-        requires { AreBelow (length self.old.marks.held) contents }
-        ensures wants { WantsMore self.old self.new }
-        ensures stored { All (IsStoredAt self.new.stored) contents.entry }
-        ensures few { length self.new.wanted ≤ length self.old.wanted + units_of contents.entry }
-    {
-        self.want_pages(contents.pages());
+    /// Are so many pages in memory that those which are not stored are to be written.
+    pub fn is_full(&self) -> bool {
+        self.frames.count() > MOST_FRAMES && self.stored.missing() > MOST_MISSING
     }
 
     /// The pages that are to be written to the disk before anything there names them.
@@ -115,6 +123,7 @@ impl Store {
         ensures wanted { result.now ≡ self.now.wanted }
         ensures below { All (λ page. page < length self.now.marks.held) result.now }
         ensures stored { All (λ page. is_stored self.now.stored page ≡ true) result.now }
+        ensures kept { All (λ page. is_kept self.now.seen page ≡ true) result.now }
         ensures few { length result.now ≤ length self.now.marks.held }
     {
         self.stored.wanted()
@@ -127,6 +136,26 @@ impl Store {
         self.stored.forget_wanted();
     }
 
+    // A page is wanted on the disk, unless it is stored.
+    fn want_page(&mut self, page: u32)
+        requires { page < length self.old.marks.held }
+        ensures wants { WantsMore self.old self.new }
+        ensures stored { is_stored self.new.stored page ≡ true }
+        ensures few { length self.new.wanted ≤ length self.old.wanted + 1 }
+    {
+        self.stored.want(page);
+    }
+
+    /// Each page that is not stored is wanted on the disk.
+    pub fn want_all(&mut self)
+        ensures wants { WantsMore self.old self.new }
+        ensures stored { (page : ℕ) → page < length self.old.marks.held → is_stored self.new.stored page ≡ true }
+    {
+        for page in 0..self.count() {
+            self.want_page(page);
+        }
+    }
+
     /// No page is held any more.
     pub fn clear(&mut self)
         ensures seen { self.new.seen ≡ self.old.seen }
@@ -135,25 +164,6 @@ impl Store {
         ensures wanted { self.new.wanted ≡ self.old.wanted }
     {
         self.marks.clear();
-    }
-
-    /// No page is held, stored or wanted any more.
-    pub fn reset(&mut self)
-        ensures seen { self.new.seen ≡ self.old.seen }
-        ensures marks { IsClear (length self.old.marks.held) self.new.marks }
-        ensures stored { self.new.stored ≡ replicate (length self.old.stored) false }
-        ensures wanted { self.new.wanted ≡ [] }
-    {
-        self.marks.clear();
-        self.stored.clear();
-    }
-
-    /// Is a page held.
-    pub fn is_held(&self, page: u32) -> bool
-        requires { page < length self.now.marks.held }
-        ensures { result ≡ is_held self.now.marks.held page }
-    {
-        self.marks.is_held(page)
     }
 
     /// Holds these pages.
@@ -175,16 +185,6 @@ impl Store {
         self.hold_all(contents.pages());
     }
 
-    // A page is wanted on the disk, unless it is stored.
-    fn want_page(&mut self, page: u32)
-        requires { page < length self.old.marks.held }
-        ensures wants { WantsMore self.old self.new }
-        ensures stored { is_stored self.new.stored page ≡ true }
-        ensures few { length self.new.wanted ≤ length self.old.wanted + 1 }
-    {
-        self.stored.want(page);
-    }
-
     /// Each of these pages is wanted on the disk, unless it is stored.
     pub fn want_pages(&mut self, pages: &[u32])
         requires { All (λ page. page < length self.old.marks.held) pages.now }
@@ -197,160 +197,101 @@ impl Store {
         }
     }
 
-    // The bytes of contents from an offset on, up to an end or to that of the unit.
-    fn rest_of_unit(&self, content: &PlacedRef<'_>, at: u64, end: u64) -> &[u8]
-        requires below { AreBelow (length self.now.marks.held) content.now }
-        requires some { at < end }
-        requires within { end ≤ length content.now }
-        ensures bytes { result.now ≡ take (min (end - at) (4096 - at % 4096)) (drop at (bytes_at self.now.seen content.now)) }
-        ensures many { length result.now ≡ min (end - at) (4096 - at % 4096) }
+    /// Each page of these contents that is not stored is wanted on the disk.
+    pub fn want(&mut self, contents: PlacedRef<'_>)
+        requires { AreBelow (length self.old.marks.held) contents }
+        ensures wants { WantsMore self.old self.new }
+        ensures stored { All (IsStoredAt self.new.stored) contents.entry }
+        ensures few { length self.new.wanted ≤ length self.old.wanted + units_of contents.entry }
     {
-        let skip = (at % UNIT_BYTES) as usize;
-        let many = (end - at).min(UNIT_BYTES - at % UNIT_BYTES) as usize;
-        let page = content.pages()[(at / UNIT_BYTES) as usize];
-        &self.page(page)[skip..skip + many]
+        self.want_pages(contents.pages());
     }
 
-    // Puts bytes of contents behind those that are there, for which there is room.
-    fn copy_onto(&self, content: &PlacedRef<'_>, from: u64, end: u64, onto: &mut Vec<u8>)
-        requires below { AreBelow (length self.now.marks.held) content.now }
-        requires order { from ≤ end }
-        requires within { end ≤ length content.now }
-        requires room { vec_len onto.old + (end - from) ≤ vec_capacity onto.old }
-        ensures { onto.new.items ≡ onto.old.items ++ take (end - from) (drop from (bytes_at self.now.seen content.now)) }
-    {
-        let mut at = from;
-        while at < end {
-            let part = self.rest_of_unit(content, at, end);
-            onto.extend_from_slice(part).unwrap();
-            at += part.len() as u64;
-        }
-    }
-
-    /// Puts bytes of contents from the offset on, at most so many, behind those that are there.
-    pub fn read(
-        &self,
-        content: PlacedRef<'_>,
-        offset: u64,
-        most: u64,
-        onto: &mut Vec<u8>,
-    ) -> Result<(), NoMemory>
-        requires { AreBelow (length self.now.marks.held) content }
-        ensures { IsRead (bytes_at self.now.seen content.entry) offset most onto.old onto.new result }
-    {
-        let from = offset.min(content.len());
-        let many = most.min(content.len() - from);
-        onto.reserve(many as usize)?;
-        self.copy_onto(&content, from, from + many, onto);
-        Ok(())
-    }
-
-    // Takes a page that is free, and puts on it what a unit holds where bytes are put over contents.
-    fn take_unit(&mut self, old: &PlacedRef<'_>, unit: u64, at: u64, bytes: &[u8]) -> u32
-        requires held { AreHeld self.old.marks.held old.now }
-        requires none { self.old.wanted ≡ [] }
-        requires free { 0 < free_ahead self.old.marks }
-        requires begins { unit * 4096 < at + length bytes.now }
-        requires ends { at + length bytes.now < 2 ^ 63 }
-        ensures took { Took self.old.marks result self.new.marks }
-        ensures stored { self.new.stored ≡ set self.old.stored result false }
-        ensures wanted { self.new.wanted ≡ [] }
-        ensures fills { Fills (result * 4096) (result * 4096 + 4096) (unit_byte (put_over (bytes_at self.old.seen old.now) at bytes.now) unit result) self.old.seen self.new.seen }
-    {
-        let Some(page) = self.marks.take() else {
-            unreachable!();
-        };
-        self.stored.forget(page);
-        fill_unit(&mut self.bytes, old, unit, page, at, bytes);
-        page
-    }
-
-    // Takes a page for each unit from the first one on.
-    fn take_units(
-        &mut self,
-        old: &PlacedRef<'_>,
-        first: u64,
-        at: u64,
-        bytes: &[u8],
-        pages: &mut [u32],
-    )
-        requires held { AreHeld self.old.marks.held old.now }
-        requires none { self.old.wanted ≡ [] }
-        requires free { length pages.old ≤ free_ahead self.old.marks }
-        requires begins { (first + length pages.old) * 4096 < at + length bytes.now + 4096 }
-        requires ends { at + length bytes.now < 2 ^ 63 }
-        ensures { AreUnits (put_over (bytes_at self.old.seen old.now) at bytes.now) first pages.new self.old self.new }
-    {
-        for i in 0..pages.len() {
-            pages[i] = self.take_unit(old, first + i as u64, at, bytes);
-        }
-    }
-
-    // Makes the units that change where bytes are put over contents, some of them behind the begin of the first one.
-    fn rewrite(
+    // Makes the units that change of contents of this size.
+    fn make(
         &mut self,
         alloc: Global,
-        old: &PlacedRef<'_>,
-        at: u64,
-        bytes: &[u8],
+        size: u64,
+        change: &Change<'_>,
     ) -> Result<(u64, Placed), NoMemory>
-        requires held { AreHeld self.old.marks.held old.now }
         requires none { self.old.wanted ≡ [] }
-        requires some { min (length old.now) at < at + length bytes.now }
-        requires ends { at + length bytes.now < 2 ^ 63 }
-        requires free { touched (length old.now) at (at + length bytes.now) ≤ free_ahead self.old.marks }
-        ensures ok { IfOk result (λ made. Made (λ before. put_over before at bytes.now) (touched (length old.now) at (at + length bytes.now)) old.now self.old self.new made.0 made.1) }
-        ensures touched { IfOk result (λ made. IsTouched (length old.now) at (at + length bytes.now) made.0 made.1) }
-        ensures err { OnErr result (self.new ≡ self.old) }
+        requires free { change.now.behind - change.now.first ≤ free_ahead self.old.marks }
+        ensures ok { IfOk result (λ made. MadeUnits change.now size self.old self.new made.0 made.1) }
+        ensures err { OnErr result (KeepsAll self.old self.new) }
     {
-        let end = at + bytes.len() as u64;
-        let first = old.len().min(at) / UNIT_BYTES;
-        let behind = (end - 1) / UNIT_BYTES + 1;
-        let mut pages = vec![in alloc; 0u32; (behind - first) as usize]?;
-        self.take_units(old, first, at, bytes, &mut pages);
-        let start = first * UNIT_BYTES;
-        let size = old.len().max(end).min(behind * UNIT_BYTES) - start;
-        let content = Content::on_pages(size, PageList::new(pages));
-        Ok((start, Placed::new(content)))
+        let mut pages = vec![in alloc; 0u32; change.units()]?;
+        self.frames.reserve(self.stored.all(), change.frames())?;
+        take_units(
+            &mut self.frames,
+            &mut self.marks,
+            &mut self.stored,
+            change,
+            &mut pages,
+        );
+        let content = Content::on_pages(change.size(size), PageList::new(pages));
+        Ok((change.first() * UNIT_BYTES, Placed::new(content)))
     }
 
-    /// Makes the units that change where bytes are put over contents, on pages that are free, while no page is wanted; a gap is filled with zeros. It answers where the
-    /// first of these units begins, and their content. Each byte of a unit that changes is copied once. Out of memory nothing changes.
+    /// Makes the units that change where bytes are put over contents, on pages that are free, while no page is wanted; a gap is filled with
+    /// zeros. It is given what the contents have at both ends of these units. It answers where the first of them begins, and their content.
+    /// Out of memory nothing changes, but that pages that are stored may be in memory no longer.
     pub fn write(
         &mut self,
         alloc: Global,
         old: PlacedRef<'_>,
         at: u64,
         bytes: &[u8],
+        head: &[u8],
+        tail: &[u8],
     ) -> Result<(u64, Placed), NoMemory>
         requires held { AreHeld self.old.marks.held old }
         requires none { self.old.wanted ≡ [] }
         requires some { 0 < length bytes.now }
         requires ends { at + length bytes.now < 2 ^ 63 }
         requires free { touched (length old) at (at + length bytes.now) ≤ free_ahead self.old.marks }
-        ensures ok { IfOk result (λ made. Made (λ before. put_over before at bytes.now) (touched (length old.entry) at (at + length bytes.now)) old.entry self.old self.new made.0 made.1) }
+        requires head { length head.now ≡ length (head_of old at) }
+        requires tail { length tail.now ≡ length (tail_of old (at + length bytes.now)) }
+        ensures took { IfOk result (λ made. TookPages (touched (length old.entry) at (at + length bytes.now)) old.entry self.old self.new made.0 made.1) }
         ensures touched { IfOk result (λ made. IsTouched (length old.entry) at (at + length bytes.now) made.0 made.1) }
-        ensures err { OnErr result (self.new ≡ self.old) }
+        ensures fills { IfOk result (λ made. FillsPages (λ before. put_over before at bytes.now) old.entry self.old self.new made.0 made.1 (λ before. (head.now ≡ head_of before at) × (tail.now ≡ tail_of before (at + length bytes.now)))) }
+        ensures err { OnErr result (KeepsAll self.old self.new) }
     {
-        self.rewrite(alloc, &old, at, bytes)
+        let len = old.len();
+        let change = Change::new(len, at, bytes, head, tail);
+        self.make(alloc, len, &change)
     }
 
-    /// Makes the units that change where contents become longer, with zeros, as `write` does.
+    /// Makes the units that change where contents become longer, with zeros, as `write` does. It is given what they have in their last unit,
+    /// where that is not whole. A unit of zeros alone takes no memory for its bytes.
     pub fn grow(
         &mut self,
         alloc: Global,
         old: PlacedRef<'_>,
         size: u64,
+        head: &[u8],
     ) -> Result<(u64, Placed), NoMemory>
         requires held { AreHeld self.old.marks.held old }
         requires none { self.old.wanted ≡ [] }
         requires longer { length old < size }
         requires ends { size < 2 ^ 63 }
         requires free { touched (length old) size size ≤ free_ahead self.old.marks }
-        ensures ok { IfOk result (λ made. Made (λ before. cut_to before size) (touched (length old.entry) size size) old.entry self.old self.new made.0 made.1) }
+        requires head { length head.now ≡ length (head_of old size) }
+        ensures took { IfOk result (λ made. TookPages (touched (length old.entry) size size) old.entry self.old self.new made.0 made.1) }
         ensures touched { IfOk result (λ made. IsTouched (length old.entry) size size made.0 made.1) }
-        ensures err { OnErr result (self.new ≡ self.old) }
+        ensures fills { IfOk result (λ made. FillsPages (λ before. cut_to before size) old.entry self.old self.new made.0 made.1 (λ before. head.now ≡ head_of before size)) }
+        ensures err { OnErr result (KeepsAll self.old self.new) }
     {
-        self.rewrite(alloc, &old, size, &[])
+        let len = old.len();
+        let change = Change::new(len, size, &[], head, &[]);
+        self.make(alloc, len, &change)
     }
+}
+
+/// What is so of each store: it shows a row, and each of its pages is somewhere.
+pub fn law_of_rows(store: &Store)
+    ensures rows { (row : List ℕ) × Shows store.now row }
+    ensures count { length store.now.seen ≡ length store.now.marks.held }
+    ensures somewhere { AreSomewhere store.now }
+{
+    store.frames.count();
 }

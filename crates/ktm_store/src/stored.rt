@@ -1,54 +1,58 @@
 // Which pages are stored, and which of them are still to be written.
-ghost use Rattle.std.specs.Prelude.{◌≡◌, ◌<◌, ◌≤◌, ◌++◌, ◌∷◌, [], true, false, All, IfOk, length, replicate, set, if◌then◌else◌};
-ghost use Rattle.ktm_store.specs.Stored.{is_stored};
+ghost use Rattle.std.specs.Prelude.{◌≡◌, ◌+◌, ◌<◌, ◌≤◌, ◌++◌, ◌∷◌, [], true, false, All, IfOk, length, replicate, set, if◌then◌else◌};
+ghost use Rattle.ktm_store.specs.Stored.{is_stored, stored_count};
 
 use ktm_base::NoMemory;
 use std::alloc::Global;
 use std::marker::Model;
 
-/// Which pages are stored: each of them is on the disk as it is in memory, or it is among those that are to be written, in the order
-/// in which they came.
+/// Which pages are stored: each of them is on the disk, as it is in memory if it is there, or it is among those that are to be written, in
+/// the order in which they came.
 #[derive(Drop)]
 pub struct Stored {
     stored: Vec<bool>,
     wanted: Vec<u32>,
+    // How many are not stored.
+    missing: u32,
 }
 
 impl Model for Stored {
-    ghost use Rattle.std.specs.Prelude.{◌≤◌, length, vec_capacity};
-    ghost use Rattle.ktm_store.specs.Stored.{AreWanted, StoredState};
+    ghost use Rattle.std.specs.Prelude.{◌≡◌, ◌+◌, ◌<◌, ◌≤◌, ◌^◌, length, vec_capacity};
+    ghost use Rattle.ktm_store.specs.Stored.{AreWanted, StoredState, stored_count};
 
     ghost Value = { StoredState };
 
     ghost view = { λ s. record { stored = s.stored.items; wanted = s.wanted.items } };
 
-    ghost invariant = { λ s. AreWanted (record { stored = s.stored.items; wanted = s.wanted.items }) × (length s.stored.items ≤ vec_capacity s.wanted) };
+    ghost invariant = { λ s. AreWanted (record { stored = s.stored.items; wanted = s.wanted.items }) × (length s.stored.items ≤ vec_capacity s.wanted) × (s.missing + stored_count s.stored.items ≡ length s.stored.items) × (length s.stored.items < 2 ^ 32) };
 }
 
 impl Stored {
-    /// Of so many pages none is stored, and none is to be written. It takes all memory that it ever needs.
+    /// Of so many pages all are stored, and none is to be written. It takes all memory that it ever needs.
     pub fn new(alloc: Global, count: u32) -> Result<Self, NoMemory>
-        ensures { IfOk result (λ s. s ≡ record { stored = replicate count false; wanted = [] }) }
+        ensures { IfOk result (λ s. s ≡ record { stored = replicate count true; wanted = [] }) }
     {
-        let stored = vec![in alloc; false; count as usize]?;
+        let stored = vec![in alloc; true; count as usize]?;
         let wanted = Vec::with_capacity(alloc, count as usize)?;
-        Ok(Stored { stored, wanted })
+        Ok(Stored {
+            stored,
+            wanted,
+            missing: 0,
+        })
     }
 
-    /// None is stored any more, and none is to be written.
-    pub fn clear(&mut self)
-        ensures { self.new ≡ record { stored = replicate (length self.old.stored) false; wanted = [] } }
+    /// Which pages are stored.
+    pub fn all(&self) -> &[bool]
+        ensures { result.now ≡ self.now.stored }
     {
-        self.stored.fill(false);
-        self.wanted.clear();
+        &self.stored
     }
 
-    /// A page is on the disk as it is in memory.
-    pub fn store(&mut self, page: u32)
-        requires { page < length self.old.stored }
-        ensures { self.new ≡ record self.old { stored = set self.old.stored page true } }
+    /// How many pages are not stored.
+    pub fn missing(&self) -> u32
+        ensures { result + stored_count self.now.stored ≡ length self.now.stored }
     {
-        self.stored[page as usize] = true;
+        self.missing
     }
 
     /// A page is not on the disk as it is in memory.
@@ -57,7 +61,11 @@ impl Stored {
         requires none { self.old.wanted ≡ [] }
         ensures { self.new ≡ record self.old { stored = set self.old.stored page false } }
     {
+        if !self.stored[page as usize] {
+            return;
+        }
         self.stored[page as usize] = false;
+        self.missing += 1;
     }
 
     /// A page is to be written, unless it is stored.
@@ -69,6 +77,7 @@ impl Stored {
             return;
         }
         self.stored[page as usize] = true;
+        self.missing -= 1;
         self.wanted.push(page).unwrap();
     }
 

@@ -20,31 +20,32 @@ use Rattle.ktm_tm.specs.declared.steps.Going.{Going}
 use Rattle.ktm_tm.specs.Listed.{AreRecoveredBehind}
 use Rattle.ktm_tm.specs.Steps.{After, after, after_all, only, visits_all, visits_of, with_answer, Carries, Leaves}
 
--- ---- enlistments keep their Ids and those of their resource managers, and stay recovered
+-- ---- enlistments keep their Ids, those of their resource managers and of their transactions, and stay recovered
 
--- the change keeps all three
+-- the change keeps all four
 pub record Keeps (f : Enlistment → Enlistment) : Type 0 where
   pub id : (e : Enlistment) → (f e).id ≡ e.id
   pub manager : (e : Enlistment) → (f e).manager ≡ e.manager
+  pub transaction : (e : Enlistment) → (f e).transaction ≡ e.transaction
   pub recovered : (e : Enlistment) → e.is_recovered ≡ true → (f e).is_recovered ≡ true
 
-asked_keeps : (owed : Option Owed) → Keeps (asked owed)
-asked_keeps None = record { id = λ e. refl; manager = λ e. refl; recovered = λ e is. is }
-asked_keeps (Some owed) = record { id = λ e. refl; manager = λ e. refl; recovered = λ e is. is }
+pub asked_keeps : (owed : Option Owed) → Keeps (asked owed)
+asked_keeps None = record { id = λ e. refl; manager = λ e. refl; transaction = λ e. refl; recovered = λ e is. is }
+asked_keeps (Some owed) = record { id = λ e. refl; manager = λ e. refl; transaction = λ e. refl; recovered = λ e is. is }
 
-answered_keeps : (answer : Answered) → Keeps (answered answer)
-answered_keeps Answered.PrePrepared = record { id = λ e. refl; manager = λ e. refl; recovered = λ e is. is }
-answered_keeps Answered.Prepared = record { id = λ e. refl; manager = λ e. refl; recovered = λ e is. is }
-answered_keeps Answered.ReadOnly = record { id = λ e. refl; manager = λ e. refl; recovered = λ e is. is }
-answered_keeps Answered.Finished = record { id = λ e. refl; manager = λ e. refl; recovered = λ e is. is }
-answered_keeps Answered.Recovered = record { id = λ e. refl; manager = λ e. refl; recovered = λ e is. refl }
+pub answered_keeps : (answer : Answered) → Keeps (answered answer)
+answered_keeps Answered.PrePrepared = record { id = λ e. refl; manager = λ e. refl; transaction = λ e. refl; recovered = λ e is. is }
+answered_keeps Answered.Prepared = record { id = λ e. refl; manager = λ e. refl; transaction = λ e. refl; recovered = λ e is. is }
+answered_keeps Answered.ReadOnly = record { id = λ e. refl; manager = λ e. refl; transaction = λ e. refl; recovered = λ e is. is }
+answered_keeps Answered.Finished = record { id = λ e. refl; manager = λ e. refl; transaction = λ e. refl; recovered = λ e is. is }
+answered_keeps Answered.Recovered = record { id = λ e. refl; manager = λ e. refl; transaction = λ e. refl; recovered = λ e is. refl }
 
--- a test of both Ids comes out the same after the change
-pub changed_test : (test : Id → Id → Bool) (meant : Enlistment → Bool) (f : Enlistment → Enlistment) → Keeps f → (es : List Enlistment)
-    → list_all (λ e. test e.id e.manager) (with_enlistments meant f es) ≡ list_all (λ e. test e.id e.manager) es
+-- a test of the three Ids comes out the same after the change
+pub changed_test : (test : Id → Id → Id → Bool) (meant : Enlistment → Bool) (f : Enlistment → Enlistment) → Keeps f → (es : List Enlistment)
+    → list_all (λ e. test e.id e.manager e.transaction) (with_enlistments meant f es) ≡ list_all (λ e. test e.id e.manager e.transaction) es
 changed_test test meant f keeps [] = refl
 changed_test test meant f keeps (e ∷ es) = elim (cases_Bool (meant e)) [
-  | inl is ↦ rw (is, keeps.id e, keeps.manager e, changed_test test meant f keeps es) refl
+  | inl is ↦ rw (is, keeps.id e, keeps.manager e, keeps.transaction e, changed_test test meant f keeps es) refl
   | inr other ↦ rw (other, changed_test test meant f keeps es) refl
 ]
 
@@ -57,41 +58,56 @@ changed_recovered meant f keeps zero (e ∷ es) all =
 changed_recovered meant f keeps (suc back) [] none = absurd none
 changed_recovered meant f keeps (suc back) (e ∷ es) rest = changed_recovered meant f keeps back es rest
 
--- what is kept by such changes is kept by steps
-module _ (Holds : List Enlistment → Type 0) (kept : (meant : Enlistment → Bool) (f : Enlistment → Enlistment) → Keeps f → (es : List Enlistment) → Holds es → Holds (with_enlistments meant f es)) where
-  after_answer : (caller : Option Id) (answer : Answered) (es : List Enlistment) → Holds es → Holds (with_answer caller answer es)
-  after_answer None answer es holds = holds
-  after_answer (Some id) answer es holds = kept (has_id id) (answered answer) (answered_keeps answer) es holds
-
-  after_step : (g : Going) (step : Step) (t : Transaction) (es : List Enlistment) → Holds es → Holds (after g step t es).enlistments
-  after_step g (Step.Record fact) t es holds = holds
-  after_step g Step.Commit t es holds = holds
-  after_step g (Step.Tell who kind) t es holds = kept (is_one_of t.id g.caller who) (asked None) (asked_keeps None) es holds
-  after_step g (Step.Ask who kind owed) t es holds = kept (is_one_of t.id g.caller who) (asked (Some owed)) (asked_keeps (Some owed)) es holds
-  after_step g (Step.Change answer) t es holds = after_answer g.caller answer es holds
-  after_step g (Step.Enter phase) t es holds = holds
-  after_step g (Step.Decide outcome) t es holds = holds
-  after_step g (Step.End outcome) t es holds = kept _ (asked None) (asked_keeps None) es holds
-  after_step g (Step.EndWhereFinished outcome) t es holds = elim (cases_Bool (list_any (is_unfinished t.id) es)) [
+-- what is kept where enlistments are told and where one answers is kept by steps
+module _ (g : Going) (Holds : List Enlistment → Type 0)
+    (told : (meant : Enlistment → Bool) (owed : Option Owed) (es : List Enlistment) → Holds es → Holds (with_enlistments meant (asked owed) es))
+    (answers : (answer : Answered) (es : List Enlistment) → Holds es → Holds (with_answer g.caller answer es)) where
+  after_step : (step : Step) (t : Transaction) (es : List Enlistment) → Holds es → Holds (after g step t es).enlistments
+  after_step (Step.Record fact) t es holds = holds
+  after_step Step.Commit t es holds = holds
+  after_step (Step.Tell who kind) t es holds = told (is_one_of t.id g.caller who) None es holds
+  after_step (Step.Ask who kind owed) t es holds = told (is_one_of t.id g.caller who) (Some owed) es holds
+  after_step (Step.Change answer) t es holds = answers answer es holds
+  after_step (Step.Enter phase) t es holds = holds
+  after_step (Step.Decide outcome) t es holds = holds
+  after_step (Step.End outcome) t es holds = told _ None es holds
+  after_step (Step.EndWhereFinished outcome) t es holds = elim (cases_Bool (list_any (is_unfinished t.id) es)) [
     | inl is ↦ rw is holds
-    | inr none ↦ rw none (kept _ (asked None) (asked_keeps None) es holds)
+    | inr none ↦ rw none (told _ None es holds)
   ]
 
-  after_steps : (g : Going) (steps : List Step) (t : Transaction) (es : List Enlistment) → Holds es → Holds (after_all g steps t es).enlistments
-  after_steps g [] t es holds = holds
-  after_steps g (step ∷ steps) t es holds = after_steps g steps (after g step t es).transaction (after g step t es).enlistments (after_step g step t es holds)
+  pub after_steps : (steps : List Step) (t : Transaction) (es : List Enlistment) → Holds es → Holds (after_all g steps t es).enlistments
+  after_steps [] t es holds = holds
+  after_steps (step ∷ steps) t es holds = after_steps steps (after g step t es).transaction (after g step t es).enlistments (after_step step t es holds)
 
--- a test of both Ids comes out the same after a step
-pub after_test : (test : Id → Id → Bool) (g : Going) (step : Step) (t : Transaction) (es : List Enlistment) → list_all (λ e. test e.id e.manager) (after g step t es).enlistments ≡ list_all (λ e. test e.id e.manager) es
-after_test test g step t es = after_step (λ l. list_all (λ e. test e.id e.manager) l ≡ list_all (λ e. test e.id e.manager) es) (λ meant f keeps l is. changed_test test meant f keeps l ∙ is) g step t es refl
+-- what is kept by changes that keep the Ids is kept by an answer
+pub after_answer : (Holds : List Enlistment → Type 0) → ((meant : Enlistment → Bool) (f : Enlistment → Enlistment) → Keeps f → (es : List Enlistment) → Holds es → Holds (with_enlistments meant f es))
+    → (caller : Option Id) (answer : Answered) (es : List Enlistment) → Holds es → Holds (with_answer caller answer es)
+after_answer Holds kept None answer es holds = holds
+after_answer Holds kept (Some id) answer es holds = kept (has_id id) (answered answer) (answered_keeps answer) es holds
 
--- a test of both Ids comes out the same after all steps
-pub after_all_test : (test : Id → Id → Bool) (g : Going) (steps : List Step) (t : Transaction) (es : List Enlistment) → list_all (λ e. test e.id e.manager) (after_all g steps t es).enlistments ≡ list_all (λ e. test e.id e.manager) es
-after_all_test test g steps t es = after_steps (λ l. list_all (λ e. test e.id e.manager) l ≡ list_all (λ e. test e.id e.manager) es) (λ meant f keeps l is. changed_test test meant f keeps l ∙ is) g steps t es refl
+-- a test of the three Ids comes out the same after a change
+same_test : (test : Id → Id → Id → Bool) (es : List Enlistment) (meant : Enlistment → Bool) (f : Enlistment → Enlistment) → Keeps f → (fs : List Enlistment)
+    → list_all (λ e. test e.id e.manager e.transaction) fs ≡ list_all (λ e. test e.id e.manager e.transaction) es
+    → list_all (λ e. test e.id e.manager e.transaction) (with_enlistments meant f fs) ≡ list_all (λ e. test e.id e.manager e.transaction) es
+same_test test es meant f keeps fs is = changed_test test meant f keeps fs ∙ is
+
+-- it comes out the same after a step
+pub after_test : (test : Id → Id → Id → Bool) (g : Going) (step : Step) (t : Transaction) (es : List Enlistment)
+    → list_all (λ e. test e.id e.manager e.transaction) (after g step t es).enlistments ≡ list_all (λ e. test e.id e.manager e.transaction) es
+after_test test g step t es =
+    after_step g (λ fs. list_all (λ e. test e.id e.manager e.transaction) fs ≡ list_all (λ e. test e.id e.manager e.transaction) es) (λ meant owed. same_test test es meant (asked owed) (asked_keeps owed)) (after_answer _ (same_test test es) g.caller) step t es refl
+
+-- it comes out the same after all steps
+pub after_all_test : (test : Id → Id → Id → Bool) (g : Going) (steps : List Step) (t : Transaction) (es : List Enlistment)
+    → list_all (λ e. test e.id e.manager e.transaction) (after_all g steps t es).enlistments ≡ list_all (λ e. test e.id e.manager e.transaction) es
+after_all_test test g steps t es =
+    after_steps g (λ fs. list_all (λ e. test e.id e.manager e.transaction) fs ≡ list_all (λ e. test e.id e.manager e.transaction) es) (λ meant owed. same_test test es meant (asked owed) (asked_keeps owed)) (after_answer _ (same_test test es) g.caller) steps t es refl
 
 -- enlistments that are recovered are so after all steps
 pub after_all_recovered : (g : Going) (steps : List Step) (t : Transaction) (back : ℕ) (es : List Enlistment) → AreRecoveredBehind back es → AreRecoveredBehind back (after_all g steps t es).enlistments
-after_all_recovered g steps t back es = after_steps (AreRecoveredBehind back) (λ meant f keeps. changed_recovered meant f keeps back) g steps t es
+after_all_recovered g steps t back es =
+    after_steps g (AreRecoveredBehind back) (λ meant owed. changed_recovered meant (asked owed) (asked_keeps owed) back) (after_answer _ (λ meant f keeps. changed_recovered meant f keeps back) g.caller) steps t es
 
 -- the managers of all are there while these are served
 pub there_all : (took : Option Id) (sent : List Sent) (ms : List Manager) (es : List Enlistment) → list_all (has_manager (map (served took sent) ms)) es ≡ list_all (has_manager ms) es
@@ -134,7 +150,7 @@ next_left g step rest t t' es es' ms ms' all was base left carried =
     record {
       there =
           ap (λ (l : List Manager). list_all (has_manager l) es'.enlistments) carried.managers ∙ there_all None sent ms.managers es'.enlistments
-          ∙ ap (list_all (has_manager ms.managers)) carried.enlistments ∙ after_test (λ id manager. is_some (manager_at ms.managers manager)) g step t es.enlistments ∙ left.there;
+          ∙ ap (list_all (has_manager ms.managers)) carried.enlistments ∙ after_test (λ id manager transaction. is_some (manager_at ms.managers manager)) g step t es.enlistments ∙ left.there;
       transaction = ap (λ (a : After). a.transaction) same ∙ left.transaction;
       enlistments = ap (λ (a : After). a.enlistments) same ∙ left.enlistments;
       managers =

@@ -1,4 +1,5 @@
 mod Carrying
+mod Early
 mod Kept
 mod LiveCounts
 mod Next

@@ -7,6 +7,7 @@ ghost use Rattle.ktm_world.specs.Enlistments.{enlistment_at, has_id, is_live_enl
 ghost use Rattle.ktm_world.specs.TransactionCalls.{no_enlistment_left};
 ghost use Rattle.ktm_tm.specs.TmState.{id_after, with_enlisted, KeepsNow, KeepsOthers};
 
+use crate::live::live_one;
 use crate::tm::Tm;
 use ktm_base::{Bytes, Id, MOST_LIVE, MOST_NUMBER, NoMemory};
 use ktm_phase::Enlistment;
@@ -28,11 +29,7 @@ impl Tm {
     pub fn live_enlistment_count(&self) -> usize
         ensures { result ≡ count_by (is_live_enlistment self.now.now.items) self.now.now.enlistments }
     {
-        let mut live = 0;
-        for t in self.transactions.live() {
-            live += self.enlistments.live(t.id) as usize;
-        }
-        live
+        self.live_enlistments
     }
 
     /// The enlistment of the superior of the transaction, if it has one.
@@ -92,7 +89,7 @@ impl Tm {
         ensures others { KeepsOthers self.old self.new }
     {
         let id = self.next_enlistment_id();
-        self.enlistments.add(Enlistment {
+        let e = Enlistment {
             id,
             manager,
             transaction,
@@ -103,7 +100,9 @@ impl Tm {
             is_finished: false,
             is_recovered: true,
             information: Bytes::new(Vec::new(alloc)),
-        });
+        };
+        self.live_enlistments += live_one(&self.transactions, &e);
+        self.enlistments.add(e);
         self.last_enlistment = id.number;
         id
     }
@@ -118,8 +117,10 @@ impl Tm {
         ensures enlistment_room { self.new.enlistment_room + 1 ≡ self.old.enlistment_room }
         ensures others { KeepsOthers self.old self.new }
     {
+        let live = live_one(&self.transactions, &e);
         self.enlistments.add(e);
         self.back_enlistments = self.enlistments.as_slice().len();
+        self.live_enlistments += live;
     }
 
     /// The enlistment with this Id, if there is one, has this recovery information from now on.

@@ -7,10 +7,13 @@ ghost use Rattle.ktm_world.specs.Phases.{Course};
 ghost use Rattle.ktm_world.specs.Steps.{run, seen};
 ghost use Rattle.ktm_world.specs.Transactions.{change_at, is_live, transaction_at};
 ghost use Rattle.ktm_tm.specs.Courses.{caller_of, GoesBy, IsCourseIn};
+ghost use Rattle.ktm_tm.specs.LiveCounts.{called_in};
 ghost use Rattle.ktm_tm.specs.Steps.{visits_on};
 ghost use Rattle.ktm_tm.specs.TmState.{KeepsRoom};
 
+use crate::live::live_in_either;
 use crate::steps::{Going, carry_all};
+use crate::timeouts::due_time;
 use crate::tm::Tm;
 use ktm_base::Id;
 use ktm_counted::Steps;
@@ -46,6 +49,16 @@ impl Tm {
         }
     }
 
+    // The transaction of the enlistment that calls, if one does, and else this one.
+    fn called_in(&self, caller: Option<Id>, transaction: Id) -> Id
+        ensures { result ≡ called_in (caller_of self.now.now.enlistments caller) transaction }
+    {
+        match self.caller(caller) {
+            Some(e) => e.transaction,
+            None => transaction,
+        }
+    }
+
     // What the steps of a call go by.
     fn going(&self, caller: Option<Id>, has_files: bool, has_keys: bool) -> Going
         ensures { GoesBy self.now caller has_files has_keys result }
@@ -67,7 +80,7 @@ impl Tm {
     }
 
     /// The transaction, which has not ended, goes on by these steps, where this enlistment calls, and the files and the keys take part or not. It takes
-    /// no memory. Each enlistment that is visited to tell it is counted.
+    /// no memory. Each enlistment that is visited to tell it is counted. Those of other transactions stay live or not, so that none of them is looked at.
     pub fn carry_out<L: Ledger>(
         &mut self,
         t: Transaction,
@@ -87,6 +100,9 @@ impl Tm {
         ensures counted { (c : Course) → IsCourseIn self.old t caller has_files has_keys c → visits.new ≡ visits.old + visits_on steps.now c }
     {
         let going = self.going(caller, has_files, has_keys);
+        let transaction = t.id;
+        let calling = self.called_in(caller, transaction);
+        let before = live_in_either(&self.transactions, &self.enlistments, transaction, calling);
         let then = carry_all(
             &mut self.enlistments,
             &mut self.managers,
@@ -95,6 +111,9 @@ impl Tm {
             steps,
             visits,
         );
+        self.earliest = self.earliest.min(due_time(&then));
         self.transactions.arrive(then);
+        let after = live_in_either(&self.transactions, &self.enlistments, transaction, calling);
+        self.live_enlistments = self.live_enlistments - before + after;
     }
 }

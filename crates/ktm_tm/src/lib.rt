@@ -5,12 +5,14 @@
 mod ending;
 mod enlisting;
 mod going;
+mod live;
 mod managing;
 mod place;
 mod recovery;
 mod refusals;
 mod steps;
 mod table;
+mod timeouts;
 mod tm;
 
 pub use refusals::{active_refusal, is_active, may_roll_back, rollback_refusal, state_of};

@@ -150,7 +150,8 @@ impl TransactionTable {
         requires next { t.id ≡ id_after self.old.boot self.old.made }
         requires live { is_live t ≡ true }
         requires room { 1 ≤ self.old.room }
-        ensures { self.new ≡ record self.old { made = self.old.made + 1; items = self.old.items ++ t ∷ []; room = self.old.room - 1 } }
+        ensures now { self.new ≡ record self.old { made = self.old.made + 1; items = self.old.items ++ t ∷ []; room = self.old.room - 1 } }
+        ensures rising { are_rising (λ t. t.id) (self.old.items ++ t ∷ []) ≡ true }
     {
         self.endings.push_reserved(ending_of(&t));
         self.live.push_reserved(t);
@@ -164,7 +165,8 @@ impl TransactionTable {
         requires first { self.old.made ≡ 0 }
         requires live { is_live t ≡ true }
         requires room { 1 ≤ self.old.room }
-        ensures { self.new ≡ record self.old { items = self.old.items ++ t ∷ []; room = self.old.room - 1 } }
+        ensures now { self.new ≡ record self.old { items = self.old.items ++ t ∷ []; room = self.old.room - 1 } }
+        ensures rising { are_rising (λ t. t.id) (self.old.items ++ t ∷ []) ≡ true }
     {
         self.back.push_reserved(t.id);
         self.endings.push_reserved(ending_of(&t));

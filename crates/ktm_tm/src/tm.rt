@@ -1,13 +1,14 @@
 // The transactions of a boot, with those that a restart brought back.
-ghost use Rattle.std.specs.Prelude.{◌≡◌, ◌+◌, ◌-◌, ◌≤◌, ◌<◌, ◌++◌, ◌∷◌, ◌&&◌, IsOk, MatchOption, OnOk, Some, false, true, [], count_by, filter, find, nat_le, option_and_then, slice_get};
+ghost use Rattle.std.specs.Prelude.{◌≡◌, ◌+◌, ◌-◌, ◌≤◌, ◌<◌, ◌++◌, ◌∷◌, ◌&&◌, IsOk, MatchOption, OnOk, Some, false, true, [], count_by, drop, filter, find, option_and_then, slice_get};
 ghost use Rattle.ktm_world.specs.Transactions.{transaction_at, is_live, same_id};
-ghost use Rattle.ktm_world.specs.TransactionCalls.{is_due, later, never_times_out, no_transaction_left};
+ghost use Rattle.ktm_world.specs.TransactionCalls.{is_due, later, no_transaction_left};
 ghost use Rattle.std.specs.List.{list_all};
 ghost use Rattle.ktm_world.specs.Durable.{is_before};
+ghost use Rattle.ktm_tm.specs.Timeouts.{NoneDueBefore};
 ghost use Rattle.ktm_tm.specs.TmState.{if_live, next_id, with_new, KeepsManaging, KeepsNow};
 
-use crate::refusals::may_roll_back;
 use crate::table::TransactionTable;
+use crate::timeouts::{due_time, earliest_of, is_due};
 use ktm_base::{Id, MOST_LIVE, MOST_NUMBER, NoMemory};
 use ktm_enlist::Enlistments;
 use ktm_manager::Managers;
@@ -20,9 +21,12 @@ use std::marker::Model;
 pub struct Tm {
     // In milliseconds since the boot.
     pub(crate) clock: u64,
+    // The time before which no timeout is reached.
+    pub(crate) earliest: u64,
     pub(crate) transactions: TransactionTable,
     pub(crate) enlistments: Enlistments,
-    // How many of the enlistments were brought back; those of this boot, behind them, are recovered.
+    // How many of the enlistments are live, and how many were brought back; those of this boot, behind them, are recovered.
+    pub(crate) live_enlistments: usize,
     pub(crate) back_enlistments: usize,
     pub(crate) managers: Managers,
     // The number of the resource manager and of the enlistment that were made last, or 0.
@@ -31,10 +35,12 @@ pub struct Tm {
 }
 
 impl Model for Tm {
-    ghost use Rattle.std.specs.Prelude.{◌≡◌, true};
+    ghost use Rattle.std.specs.Prelude.{◌≡◌, count_by, true};
     ghost use Rattle.std.specs.List.{list_all};
+    ghost use Rattle.ktm_world.specs.Enlistments.{is_live_enlistment};
     ghost use Rattle.ktm_enlist.specs.Telling.{has_manager};
     ghost use Rattle.ktm_tm.specs.Listed.{are_before_next, AreRecoveredBehind};
+    ghost use Rattle.ktm_tm.specs.Timeouts.{NoneDueBefore};
     ghost use Rattle.ktm_tm.specs.TmState.{TmState};
 
     ghost Value = { TmState };
@@ -60,28 +66,9 @@ impl Model for Tm {
         (are_before_next (λ m. m.id) tm.transactions.boot tm.last_manager tm.managers.managers ≡ true)
         × (are_before_next (λ e. e.id) tm.transactions.boot tm.last_enlistment tm.enlistments.enlistments ≡ true)
         × (list_all (has_manager tm.managers.managers) tm.enlistments.enlistments ≡ true)
-        × AreRecoveredBehind tm.back_enlistments tm.enlistments.enlistments };
-}
-
-// Is it one of the two timeouts that mean none.
-fn never_times_out(timeout: u32) -> bool
-    ensures { result ≡ never_times_out timeout }
-{
-    timeout == 0 || timeout == u32::MAX
-}
-
-// Is the clock at the time of creation and the timeout, or later.
-fn is_reached(created: u64, timeout: u32, clock: u64) -> bool
-    ensures { result ≡ nat_le (created + timeout) clock }
-{
-    created <= clock && timeout as u64 <= clock - created
-}
-
-// Is its timeout reached at this time, in a phase in which that rolls it back.
-fn is_due(clock: u64, t: &Transaction) -> bool
-    ensures { result ≡ is_due clock t.now }
-{
-    !never_times_out(t.timeout) && is_reached(t.created, t.timeout, clock) && may_roll_back(t)
+        × AreRecoveredBehind tm.back_enlistments tm.enlistments.enlistments
+        × (tm.live_enlistments ≡ count_by (is_live_enlistment tm.transactions.items) tm.enlistments.enlistments)
+        × NoneDueBefore tm.earliest tm.transactions.items };
 }
 
 impl Tm {
@@ -93,8 +80,10 @@ impl Tm {
     {
         Tm {
             clock: 0,
+            earliest: u64::MAX,
             transactions: TransactionTable::new(alloc, boot),
             enlistments: Enlistments::new(alloc),
+            live_enlistments: 0,
             back_enlistments: 0,
             managers: Managers::new(alloc),
             last_manager: 0,
@@ -148,6 +137,29 @@ impl Tm {
         is_due(self.clock.saturating_add(ms), t)
     }
 
+    /// The place among the live transactions from which on those stand that will be due so many milliseconds later: behind all, where
+    /// no timeout is reached by then.
+    pub fn due_from(&self, ms: u64) -> usize
+        ensures { filter (is_due (later self.now.now.clock ms)) (drop result (filter is_live self.now.now.items)) ≡ filter (is_due (later self.now.now.clock ms)) (filter is_live self.now.now.items) }
+    {
+        if self.clock.saturating_add(ms) < self.earliest {
+            self.live_count()
+        } else {
+            0
+        }
+    }
+
+    // The time before which none is due. It is looked for anew where the one that is known has passed.
+    fn earliest_now(&self) -> u64
+        ensures { NoneDueBefore result self.now.now.items }
+    {
+        if self.clock < self.earliest {
+            self.earliest
+        } else {
+            earliest_of(self.transactions.live())
+        }
+    }
+
     /// So many milliseconds pass. The clock stays at its greatest value.
     pub fn advance(&mut self, ms: u64)
         ensures boot { self.new.boot ≡ self.old.boot }
@@ -155,6 +167,7 @@ impl Tm {
         ensures room { self.new.room ≡ self.old.room }
         ensures rest { KeepsManaging self.old self.new }
     {
+        self.earliest = self.earliest_now();
         self.clock = self.clock.saturating_add(ms);
     }
 
@@ -206,14 +219,18 @@ impl Tm {
         ensures rest { KeepsManaging self.old self.new }
     {
         let id = self.next_id();
-        self.transactions.add(Transaction {
+        let t = Transaction {
             id,
             timeout,
             created: self.clock,
             phase: Phase::Active,
             outcome: TransactionOutcome::Undetermined,
             is_recorded: false,
-        });
+        };
+        self.earliest = self.earliest.min(due_time(&t));
+        self.transactions.add(t);
+        // What is enlisted in it counts from now on.
+        self.live_enlistments += self.enlistments.live(id) as usize;
         id
     }
 
@@ -229,6 +246,10 @@ impl Tm {
         ensures room { self.new.room + 1 ≡ self.old.room }
         ensures rest { KeepsManaging self.old self.new }
     {
+        let id = t.id;
+        self.earliest = self.earliest.min(due_time(&t));
         self.transactions.bring_back(t);
+        // What is enlisted in it counts from now on.
+        self.live_enlistments += self.enlistments.live(id) as usize;
     }
 }

@@ -1,9 +1,9 @@
 -- What is committed, and what a loss of power leaves of it around a call.
-use Rattle.std.specs.Prelude.{◌≡◌, ◌⊎◌, true, List, [], ◌∷◌, fold, Contains, Result, IfOk, OnErr}
+use Rattle.std.specs.Prelude.{◌≡◌, ◌⊎◌, true, List, [], ◌∷◌, fold, Contains, Result, IfOk}
 use Rattle.ktm_base.specs.declared.fault.NoMemory.{NoMemory}
 use Rattle.ktm_base.specs.declared.id.Pid.{Pid}
 use Rattle.ktm_base.specs.declared.refusal.Refusal.{Refusal}
-use Rattle.ktm_kernel.specs.Answers.{CallLeaves, IsAsItWas}
+use Rattle.ktm_kernel.specs.Answers.{CallLeaves}
 use Rattle.ktm_kernel.specs.Stands.{KernelAt, KernelState}
 use Rattle.ktm_laws.specs.Running.{HasEventsLeft}
 use Rattle.ktm_log.specs.OnDisk.{OnDisk}
@@ -19,7 +19,7 @@ use Rattle.ktm_world.specs.Logs.{Group}
 use Rattle.ktm_world.specs.Outcome.{Outcome, apply}
 use Rattle.ktm_world.specs.Present.{Present}
 use Rattle.ktm_world.specs.Tree.{Tree}
-use Rattle.ktm_world.specs.World.{World, possible_logs}
+use Rattle.ktm_world.specs.World.{World, possible_logs, present}
 
 -- the committed files and keys
 pub record Contents : Type 0 where
@@ -56,25 +56,24 @@ pub record Keeps (cs : List Contents) (m : OnDisk KernelState) : Type 0 where
   pub stands : KernelAt m.it m.told world
   pub leaves : Leaves cs world
 
--- the outcome came: it was told, a loss of power leaves what is so after it, and that is so now
+-- the outcome came: it was told, a loss of power leaves what is so after it, and that is so now, in the world that the machine stands for then
 pub record HasCome (x : Present) (o : Outcome) (reply : Reply) (m : OnDisk KernelState) : Type 0 where
   pub says : reply ≡ o.reply
   pub keeps : Keeps (contents_after x o ∷ []) m
-  pub now : m.it.now ≡ apply x o
+  pub now : present keeps.world ≡ apply x o
   pub up : m.it.now.machine.is_up ≡ true
 
 -- the reply refuses nothing
 abbrev pub IsNoRefusal : Reply → Type 0
 IsNoRefusal reply = (refusal : Refusal) → reply ≡ Refused refusal → ⊥
 
--- what a loss of power leaves around a call that was answered so
+-- what a loss of power leaves around a call that was answered so, for each world that the machine stood for
 pub record Commits (process : Pid) (command : Command) (old new : OnDisk KernelState) (answer : Result Reply NoMemory) : Type 0 where
   -- whatever came of it, what it left before, or that with what the call commits
-  pub either : (cs : List Contents) → Keeps cs old → (old.it.now.machine.is_up ≡ true → Contains cs (contents_after old.it.now (decide old.it.now process command))) → Keeps cs new
+  pub either : (cs : List Contents) (w : World) → KernelAt old.it old.told w → Leaves cs w → (old.it.now.machine.is_up ≡ true → Contains cs (contents_after (present w) (decide (present w) process command))) → Keeps cs new
   -- and the latter where the call was not refused, or the machine is up then
-  pub comes : IfOk answer (λ reply. IsNoRefusal reply ⊎ (new.it.now.machine.is_up ≡ true) → (cs : List Contents) → Keeps cs old → HasCome old.it.now (decide old.it.now process command) reply new)
+  pub comes : IfOk answer (λ reply. IsNoRefusal reply ⊎ (new.it.now.machine.is_up ≡ true) → (w : World) → KernelAt old.it old.told w → HasCome (present w) (decide (present w) process command) reply new)
 
 -- so it is around every call
 abbrev pub WorksLaw : Type 0
-WorksLaw = (process : Pid) (command : Command) (old new : OnDisk KernelState) (answer : Result Reply NoMemory) → HasEventsLeft old.it.now → CallLeaves process command old new answer
-    → OnErr answer (IsAsItWas old.it new.it) → Commits process command old new answer
+WorksLaw = (process : Pid) (command : Command) (old new : OnDisk KernelState) (answer : Result Reply NoMemory) → HasEventsLeft old.it.now → CallLeaves process command old new answer → Commits process command old new answer

@@ -299,6 +299,7 @@ impl DurableFiles {
     }
 
     // Makes a change if it applies, and tells whether it does.
+    #[inline(always)]
     fn make(&mut self, change: Change) -> Result<bool, NoMemory>
         requires { CanBeMade (tree_of self.old.tree) change }
         ensures applies { IfOk result (λ done. done ≡ applies (tree_of self.old.tree) change) }

@@ -54,6 +54,7 @@ impl<C> NodeTable<C> {
     }
 
     // May a node with this number come into the directory under this name, if the name is free.
+    #[inline(always)]
     pub(crate) fn is_new_place(&self, node: u64, parent: u64, name: &[u8]) -> bool
         ensures { (bytes : C → List ℕ) → result ≡ (is_node_number node && not (is_there (tree_by bytes self.now) node) && is_directory (tree_by bytes self.now) parent && is_name name.now) }
     {

@@ -41,13 +41,14 @@ fn write_child(room: &mut [u8], directory: u64, name: &[u8])
 }
 
 /// The place of a child of the directory.
+#[inline(always)]
 pub fn child_name(directory: u64, name: &[u8]) -> ChildName
     requires { length name.now ≤ MOST_NAME_BYTES }
     ensures { result ≡ child_name directory name.now }
 {
     let mut room = [0; 263];
     write_child(&mut room, directory, name);
-    InlineName::new(&room[..8 + name.len()])
+    InlineName::of(room, 8 + name.len())
 }
 
 // Writes bytes at the front.

@@ -57,6 +57,7 @@ fn has_number<C>(nodes: &List<StoredNode<C>>, key: Key, number: u64) -> bool
 }
 
 // The key that stands under the number. It is searched for only where the hint is not that of a node with this number.
+#[inline(always)]
 fn key_of<C>(
     hints: &Hints,
     nodes: &List<StoredNode<C>>,
@@ -167,6 +168,7 @@ impl<C> Nodes<C> {
     }
 
     /// Puts a node whose number is free at its place, and takes no memory.
+    #[inline(always)]
     pub(crate) fn insert(&mut self, node: StoredNode<C>)
         requires spare { 0 < self.old.spare }
         requires free { now_at self.old.nodes node.number ≡ None }

@@ -368,6 +368,7 @@ impl<C> NodeTable<C> {
     }
 
     // Puts a node whose number is free at its place, or hands it back where its name is not. It takes no memory.
+    #[inline(always)]
     fn put(&mut self, node: StoredNode<C>) -> Result<(), StoredNode<C>>
         requires spare { 0 < self.old.spare }
         requires number { now_at self.old.nodes node.number ≡ None }

@@ -2,7 +2,7 @@
 use Rattle.std.proofs.Common.{◌≡◌, ◌+◌, ◌*◌, ◌≤◌, ◌++◌, ℕ, List, length, sum_by, All, subst, sym, arith}
 use Rattle.ktm_each.specs.Each.{EachOfFiles}
 use Rattle.ktm_store.specs.Holding.{AreAllBelow, HoldsContents}
-use Rattle.ktm_store.specs.Store.{AreBelow, IsHeldAt, StoreState}
+use Rattle.ktm_store.specs.Store.{AreBelow, IsHeldAt, StoreOf}
 use Rattle.ktm_store.proofs.offered.HoldingContents.{all-left, all-right, below-among, holds-among, holds-both}
 use Rattle.ktm_world.specs.FileUses.{units_used}
 use Rattle.txf_laws.specs.Elements.{IsIn}
@@ -18,7 +18,7 @@ use Rattle.txf_volume.proofs.EachNamed.{all-files, files-all}
 use Rattle.txf_volume.proofs.Named.{held-among, held_contents, named-among}
 use Rattle.txf_volume.proofs.Steady.{units-now}
 
-module _ (h : FilesHeld) (units : ℕ) (counts : Counts) (tied : AreTied h units counts) (held : AreHeld h.versions.opens h.versions.older) (old : StoreState)
+module _ (h : FilesHeld) (units : ℕ) (counts : Counts) (tied : AreTied h units counts) (held : AreHeld h.versions.opens h.versions.older) {B : Type 0} (old : StoreOf B)
     (below : EachOfFiles (λ file index place. place ≤ length old.marks.held * 4096) (files_of h)) where
   owns : (o : OwnHeld) → IsIn o h.overlays → IsOwn o.overlay
   owns o there = (All-in (λ (o : OwnHeld). IsOver (tree_of h.tree) o.overlay) h.overlays tied.over o there).own
@@ -44,11 +44,11 @@ module _ (h : FilesHeld) (units : ℕ) (counts : Counts) (tied : AreTied h units
   others-below : AreAllBelow old (older ++ written)
   others-below = all-right (AreBelow (length old.marks.held)) trees (older ++ written) all-below
 
-  module _ (first : StoreState) (one : HoldsContents trees (tree_units (tree_of h.tree)) old first) where
+  module _ (first : StoreOf B) (one : HoldsContents trees (tree_units (tree_of h.tree)) old first) where
     pub older-below : AreAllBelow first older
     older-below = subst (λ (n : ℕ). All (AreBelow n) older) (sym one.count) (all-left (AreBelow (length old.marks.held)) older written others-below)
 
-    module _ (second : StoreState) (two : HoldsContents older (older_units h.versions.older) first second) where
+    module _ (second : StoreOf B) (two : HoldsContents older (older_units h.versions.older) first second) where
       pub written-below : AreAllBelow second written
       written-below =
           subst (λ (n : ℕ). All (AreBelow n) written) (sym two.count)
@@ -56,7 +56,7 @@ module _ (h : FilesHeld) (units : ℕ) (counts : Counts) (tied : AreTied h units
 
       -- ---- all of them
 
-      module _ (new : StoreState) (three : HoldsContents written (sum_by units_held h.overlays) second new) where
+      module _ (new : StoreOf B) (three : HoldsContents written (sum_by units_held h.overlays) second new) where
         pub all-held : HoldsContents (named_contents (files_of h)) (units_used (files_of h)) old new
         all-held =
             let m = tree_units (tree_of h.tree) in

@@ -10,7 +10,7 @@ use Rattle.ktm_base.proofs.offered.Images.{safe_law}
 use Rattle.ktm_base.proofs.offered.ToldSteps.{IsSomeAnd-map}
 use Rattle.ktm_kernel.proofs.offered.Standing.{up_is}
 use Rattle.ktm_kernel.specs.Answers.{IfUnwrittenBy, IsAsBefore, StartAgainLeaves}
-use Rattle.ktm_kernel.specs.Stands.{FoundAt, HasFallen, KernelAt, KernelState, LeavesStates, PowerLaw, StandsBy}
+use Rattle.ktm_kernel.specs.Stands.{FoundAt, HasFallen, KernelAt, KernelState, LeavesStates, PowerLaw, StandsBy, machine_on}
 use Rattle.ktm_log.specs.OnDisk.{on}
 use Rattle.ktm_restart.specs.Logs.{StandsFor}
 use Rattle.ktm_world.specs.declared.reply.Reply.{Reply}
@@ -27,15 +27,18 @@ off_of k told w off at = sym (up_is k told w at) ∙ off
 
 -- a machine whose disk was found safe stands for the same world
 found_stands : (k : KernelState) (told : Option DiskState) (w : World) → FoundAt k told w → KernelAt k told w
-found_stands k told w at = subst (λ up. StandsBy up k told w) (sym at.off) (let fallen : HasFallen k told w = record {
-  off = at.down;
-  recorded = at.recorded;
-  standing = at.standing;
-  disk = IsSomeAnd-map told _ (LeavesStates w) at.disk (λ s both image may.
-      let (safe, held) = both in
-      let (log, possible, stands) = held in
-      (log, possible, subst (StandsFor (stand w.base log)) (sym ((safe_law s image safe).0 may)) stands));
-} in fallen)
+found_stands k told w (row, shows, at) = (row, shows, subst (λ up. StandsBy up (machine_on k row) told w) (sym at.off) fallen)
+  where
+    fallen : HasFallen (machine_on k row) told w
+    fallen = record {
+      off = at.down;
+      recorded = at.recorded;
+      standing = at.standing;
+      disk = IsSomeAnd-map told _ (LeavesStates w) at.disk (λ s both image may.
+          let (safe, held) = both in
+          let (log, possible, stands) = held in
+          (log, possible, subst (StandsFor (stand w.base log)) (sym ((safe_law s image safe).0 may)) stands));
+    }
 
 -- what a reply says of what was not written, said of something that follows from it
 unwritten_with : (reply : Reply) (P Q : Type 0) → (P → Q) → IfUnwrittenBy reply P → IfUnwrittenBy reply Q

@@ -1,9 +1,9 @@
 -- What is so of each place that memory has of files is so of each that is recorded.
-use Rattle.std.proofs.Common.{◌≡◌, ℕ, ◌||◌, Bool, true, false, List, [], ◌∷◌, ◌++◌, map, Option, Some, None, All, refl, sym, ap, subst, inl, inr}
+use Rattle.std.proofs.Common.{◌≡◌, ℕ, Bool, true, false, List, [], ◌∷◌, ◌++◌, map, Option, Some, None, All, refl, sym, subst, inl, inr}
 use Rattle.std.specs.Prelude.{if◌then◌else◌}
 use Rattle.std.specs.List.{list_any}
 use Rattle.std.proofs.lemmas.Bool.{cases_Bool, or_left, or_right}
-use Rattle.std.proofs.lemmas.List.Elements.{All-append, All-cons, All-head, All-map, All-nil, All-tail, All-weaker}
+use Rattle.std.proofs.lemmas.List.Elements.{All-append, All-cons, All-head, All-nil, All-tail, All-weaker}
 use Rattle.ktm_base.specs.declared.id.Id.{Id}
 use Rattle.ktm_course.specs.Moved.{is_of_changes, records_changes, records_files}
 use Rattle.ktm_each.specs.Each.{AreZerosSuch, EachOfChange, EachOfChanges, EachOfDurable, EachOfEvent, EachOfFiles, EachOfGroup, EachOfOwn, EachOfPart, EachOfRecorded}
@@ -15,13 +15,12 @@ use Rattle.ktm_world.specs.declared.change.Change.{Change}
 use Rattle.ktm_world.specs.declared.event.DonePart.{DonePart}
 use Rattle.ktm_world.specs.declared.event.Event.{Event}
 use Rattle.ktm_world.specs.declared.event.Event.TheVariants.{Ready, Single, Held, Decide, Undo, Done}
-use Rattle.ktm_world.specs.declared.event.Part.{Part}
 use Rattle.ktm_world.specs.declared.event.Part.TheVariants.{Changes, Settings}
 use Rattle.ktm_world.specs.declared.step.Fact.{Fact}
 use Rattle.ktm_world.specs.declared.step.Step.{Step}
 use Rattle.ktm_world.specs.declared.step.Step.TheVariants.{Record, Tell, Ask, Enter, Decide as DecideIt, End, EndWhereFinished}
 use Rattle.ktm_world.specs.Changes.{has_changes}
-use Rattle.ktm_world.specs.Durable.{Recorded, is_decided}
+use Rattle.ktm_world.specs.Durable.{is_decided}
 use Rattle.ktm_world.specs.Enlistments.{Enlistment, Manager, is_durable_at}
 use Rattle.ktm_world.specs.Files.{FilesNow, OwnChanges, own_changes}
 use Rattle.ktm_world.specs.Keys.{Own, OwnSettings, own_settings}

@@ -1,5 +1,5 @@
 -- What a list holds that is recorded.
-use Rattle.std.proofs.Common.{◌≡◌, [], All, refl, sym, subst}
+use Rattle.std.proofs.Common.{◌≡◌, [], All, sym, subst}
 use Rattle.std.proofs.lemmas.List.Elements.{All-nil}
 use Rattle.ktm_event.specs.Kept.{EventsState, Holds}
 use Rattle.ktm_paged.proofs.offered.Recording.{bare-recorded}

@@ -14,7 +14,7 @@ use Rattle.ktm_store.specs.Marks.{is_held}
 use Rattle.ktm_store.specs.Store.{AreBelow, AreHeld, KeepsHeld, StoreState, bytes_at, page_at}
 use Rattle.ktm_content.specs.Contents.{cut_to, put_over}
 use Rattle.ktm_store.proofs.Bytes.{get_or-cut_to, get_or-page, length-cut_to, put-inside, put-outside, same-page}
-use Rattle.ktm_store.proofs.Fills.{get_or-bytes_at, length-bytes_at}
+use Rattle.ktm_store.proofs.Contents.{get_or-bytes_at, length-bytes_at}
 
 -- a page that is held is one
 pub held-page : (held : List Bool) (page : ℕ) → is_held held page ≡ true → page < length held

@@ -9,7 +9,7 @@ use Rattle.ktm_content.specs.Places.{LieOn}
 use Rattle.ktm_content.proofs.offered.Bytes.{place-lie}
 use Rattle.ktm_store.specs.Holding.{AreAllBelow, HavePage, HoldsContents}
 use Rattle.ktm_store.specs.Marks.{Holds, is_held}
-use Rattle.ktm_store.specs.Store.{AreBelow, AreHeld, StoreState, page_at}
+use Rattle.ktm_store.specs.Store.{AreBelow, AreHeld, StoreOf, page_at}
 use Rattle.ktm_store.proofs.offered.Holding.{held-lie, held-more}
 
 -- ---- one content
@@ -40,7 +40,7 @@ page-of pages places page lie there =
       on = omega (arith, place, same);
     }
 
-pub holds-one : (pages places : List ℕ) (old new : StoreState) → LieOn pages places → new.seen ≡ old.seen → new.stored ≡ old.stored → new.wanted ≡ old.wanted → Holds pages old.marks new.marks
+pub holds-one : (pages places : List ℕ) {B : Type 0} (old new : StoreOf B) → LieOn pages places → new.seen ≡ old.seen → new.stored ≡ old.stored → new.wanted ≡ old.wanted → Holds pages old.marks new.marks
     → HoldsContents (places ∷ []) (units_of places) old new
 holds-one pages places old new lie seen stored wanted holds = record {
   seen = seen;
@@ -62,7 +62,7 @@ all-left P first second all k d low = subst P (get_or_append_left first second d
 pub all-right : {X : Type 0} (P : X → Type 0) (first second : List X) → All P (first ++ second) → All P second
 all-right P first second all k d low = subst P (get_or-append-add first second k d) (all (length first + k) d (omega (arith, low, length-append first second)))
 
-pub holds-none : (now : StoreState) → HoldsContents [] 0 now now
+pub holds-none : {B : Type 0} (now : StoreOf B) → HoldsContents [] 0 now now
 holds-none now = record {
   seen = refl;
   stored = refl;
@@ -76,7 +76,7 @@ holds-none now = record {
 }
 
 -- contents without bytes hold none
-pub holds-empty : (now : StoreState) → HoldsContents ([] ∷ []) 0 now now
+pub holds-empty : {B : Type 0} (now : StoreOf B) → HoldsContents ([] ∷ []) 0 now now
 holds-empty now = record {
   seen = refl;
   stored = refl;
@@ -96,7 +96,7 @@ module _ (first second : List (List ℕ)) where
   pub page-right : (page : ℕ) → HavePage second page → HavePage (first ++ second) page
   page-right page named = record { places = named.places; place = named.place; among = Contains-append_right first second named.places named.among; has = named.has; on = named.on }
 
-  pub holds-both : (m n : ℕ) (old mid new : StoreState) → HoldsContents first m old mid → HoldsContents second n mid new → HoldsContents (first ++ second) (m + n) old new
+  pub holds-both : (m n : ℕ) {B : Type 0} (old mid new : StoreOf B) → HoldsContents first m old mid → HoldsContents second n mid new → HoldsContents (first ++ second) (m + n) old new
   holds-both m n old mid new one two = record {
     seen = two.seen ∙ one.seen;
     stored = two.stored ∙ one.stored;
@@ -116,19 +116,19 @@ module _ (first second : List (List ℕ)) where
 -- ---- one after another
 
 -- the pages of those that are not left are held, and with those that are left they are all
-pub record HoldsUpTo (all left : List (List ℕ)) (pages : ℕ) (old now : StoreState) : Type 0 where
+pub record HoldsUpTo (all left : List (List ℕ)) (pages : ℕ) {B : Type 0} (old now : StoreOf B) : Type 0 where
   pub done : List (List ℕ)
   pub count : ℕ
   pub is : done ++ left ≡ all
   pub many : count + sum_by units_of left ≡ pages
   pub holds : HoldsContents done count old now
 
-pub upto-begin : (all : List (List ℕ)) (now : StoreState) → HoldsUpTo all all (sum_by units_of all) now now
+pub upto-begin : (all : List (List ℕ)) {B : Type 0} (now : StoreOf B) → HoldsUpTo all all (sum_by units_of all) now now
 upto-begin all now = record { done = []; count = 0; is = refl; many = omega arith; holds = holds-none now }
 
-module _ (all left : List (List ℕ)) (pages : ℕ) (old now : StoreState) where
+module _ (all left : List (List ℕ)) (pages : ℕ) {B : Type 0} (old now : StoreOf B) where
   -- some of those that were left are held, too
-  pub upto-next : (first : List (List ℕ)) (next : StoreState) → HoldsUpTo all (first ++ left) pages old now → HoldsContents first (sum_by units_of first) now next → HoldsUpTo all left pages old next
+  pub upto-next : (first : List (List ℕ)) (next : StoreOf B) → HoldsUpTo all (first ++ left) pages old now → HoldsContents first (sum_by units_of first) now next → HoldsUpTo all left pages old next
   upto-next first next upto more = record {
     done = upto.done ++ first;
     count = upto.count + sum_by units_of first;
@@ -144,8 +144,8 @@ module _ (all left : List (List ℕ)) (pages : ℕ) (old now : StoreState) where
       subst (λ count. All (AreBelow count) left) (sym upto.holds.count) rest
 
 -- one more is held
-module _ (all left : List (List ℕ)) (one : List ℕ) (pages : ℕ) (old now : StoreState) (upto : HoldsUpTo all (one ∷ left) pages old now) where
-  pub upto-one : (next : StoreState) → HoldsContents (one ∷ []) (units_of one) now next → HoldsUpTo all left pages old next
+module _ (all left : List (List ℕ)) (one : List ℕ) (pages : ℕ) {B : Type 0} (old now : StoreOf B) (upto : HoldsUpTo all (one ∷ left) pages old now) where
+  pub upto-one : (next : StoreOf B) → HoldsContents (one ∷ []) (units_of one) now next → HoldsUpTo all left pages old next
   upto-one next more =
       let same : units_of one ≡ sum_by units_of (one ∷ []) = omega (arith, sum_by-cons units_of one []) in
       upto-next all left pages old now (one ∷ []) next upto (subst (λ (n : ℕ). HoldsContents (one ∷ []) n now next) same more)
@@ -154,7 +154,7 @@ module _ (all left : List (List ℕ)) (one : List ℕ) (pages : ℕ) (old now : 
   below-one below = All-head (AreBelow (length now.marks.held)) one left (upto-below all (one ∷ left) pages old now upto below)
 
 -- none is left
-pub upto-end : (all : List (List ℕ)) (pages : ℕ) (old now : StoreState) → HoldsUpTo all [] pages old now → HoldsContents all pages old now
+pub upto-end : (all : List (List ℕ)) (pages : ℕ) {B : Type 0} (old now : StoreOf B) → HoldsUpTo all [] pages old now → HoldsContents all pages old now
 upto-end all pages old now upto =
     let done : upto.done ≡ all = sym (append-nil upto.done) ∙ upto.is in
     let count : upto.count ≡ pages = omega (arith, upto.many) in
@@ -166,13 +166,13 @@ upto-end all pages old now upto =
 abbrev pub AreAmong : List (List ℕ) → List (List ℕ) → Type 0
 AreAmong contents others = All (λ places. (places ≡ []) ⊎ Contains others places) contents
 
-pub below-among : (store : StoreState) (contents others : List (List ℕ)) → AreAmong contents others → AreAllBelow store others → AreAllBelow store contents
+pub below-among : {B : Type 0} (store : StoreOf B) (contents others : List (List ℕ)) → AreAmong contents others → AreAllBelow store others → AreAllBelow store contents
 below-among store contents others among below k d low = elim (among k d low) [
   | inl none ↦ subst (AreBelow (length store.marks.held)) (sym none) (All-nil (λ (place : ℕ). place ≤ length store.marks.held * 4096))
   | inr there ↦ All-contains (AreBelow (length store.marks.held)) others (get_or contents k d) below there
 ]
 
-pub holds-among : (contents others : List (List ℕ)) (pages : ℕ) (old new : StoreState) → AreAmong contents others → AreAmong others contents → HoldsContents contents pages old new → HoldsContents others pages old new
+pub holds-among : (contents others : List (List ℕ)) (pages : ℕ) {B : Type 0} (old new : StoreOf B) → AreAmong contents others → AreAmong others contents → HoldsContents contents pages old new → HoldsContents others pages old new
 holds-among contents others pages old new among back holds = record {
   seen = holds.seen;
   stored = holds.stored;

@@ -1,18 +1,16 @@
 -- What a loss of power leaves around a call.
-use Rattle.std.proofs.Common.{◌≡◌, ◌⊎◌, ℕ, ◌++◌, not, Bool, true, false, List, [], ◌∷◌, length, zero, suc, map, fold, Option, Some, None, Result, Ok, Err, OnErr, refl, sym, ◌∙◌, ap, subst, inl, inr, arith}
+use Rattle.std.proofs.Common.{◌≡◌, ◌⊎◌, ℕ, ◌++◌, not, Bool, true, false, List, [], ◌∷◌, length, zero, suc, map, fold, Option, Some, None, Result, Ok, Err, refl, sym, ◌∙◌, ap, subst, inl, inr, arith}
 use Rattle.std.proofs.lemmas.Bool.{both_ways}
 use Rattle.std.proofs.lemmas.List.{append-nil, drop-map}
 use Rattle.std.proofs.lemmas.List.Sums.{fold-append}
-use Rattle.std.specs.Prelude.{Contains, IsSomeAnd}
+use Rattle.std.specs.Prelude.{Contains}
 use Rattle.ktm_base.specs.declared.fault.NoMemory.{NoMemory}
 use Rattle.ktm_base.specs.declared.id.Pid.{Pid}
 use Rattle.ktm_base.specs.declared.refusal.Refusal.{Refusal}
 use Rattle.ktm_base.specs.declared.refusal.Refusal.TheVariants.{MachineDown}
-use Rattle.ktm_base.specs.Disk.{DiskState}
-use Rattle.ktm_base.proofs.offered.ToldSteps.{IsSomeAnd-map}
 use Rattle.ktm_kernel.proofs.offered.Standing.{recorded_is, stands_up, up_is}
-use Rattle.ktm_kernel.specs.Answers.{CallLeaves, IsAsItWas}
-use Rattle.ktm_kernel.specs.Stands.{HoldsRecorded, KernelAt, KernelState, LeavesStates, StandsBy}
+use Rattle.ktm_kernel.specs.Answers.{CallLeaves}
+use Rattle.ktm_kernel.specs.Stands.{KernelAt, KernelState}
 use Rattle.ktm_laws.specs.Running.{HasEventsLeft, IsRunning, LawfulWorldsLaw}
 use Rattle.ktm_log.specs.OnDisk.{OnDisk}
 use Rattle.ktm_records.specs.Kept.{IsKept}
@@ -27,7 +25,7 @@ use Rattle.ktm_world.specs.Durable.{Durable, stand}
 use Rattle.ktm_world.specs.Keys.{stored_all}
 use Rattle.ktm_world.specs.Lawful.{Agrees}
 use Rattle.ktm_world.specs.Logs.{Group, Power, up, down, is_up, as_groups, kept_after, possible_by, prefixes, prefixes_from}
-use Rattle.ktm_world.specs.Outcome.{Outcome, apply, first_refusal, refuse_or}
+use Rattle.ktm_world.specs.Outcome.{Outcome, first_refusal, refuse_or}
 use Rattle.ktm_world.specs.Present.{Present}
 use Rattle.ktm_world.specs.Transcript.{Step, answered, interrupted, found, worn, CallDoes}
 use Rattle.ktm_world.specs.World.{World, committed, extend, possible_logs, present}
@@ -174,103 +172,64 @@ module _ (lawful : LawfulWorldsLaw) (w : World) (process : Pid) (command : Comma
   came (found log) reply new none clear = absurd none
   came (worn log) reply new none clear = absurd none
 
--- ---- machines
-
--- a machine that holds what it held stands for what it stood for
-moved : (b : Bool) (old new : OnDisk KernelState) (w : World) → new.told ≡ old.told → IsAsItWas old.it new.it → StandsBy b old.it old.told w → StandsBy b new.it new.told w
-moved true old new w told same stands = record {
-  is = same.is;
-  now = same.now ∙ stands.now;
-  standing = stands.standing;
-  disk = subst (λ (t : Option DiskState). IsSomeAnd t (HoldsRecorded new.it)) (sym told) (IsSomeAnd-map old.told (HoldsRecorded old.it) (HoldsRecorded new.it) stands.disk same.disk);
-}
-moved false old new w told same fallen = record {
-  off = ap (λ (x : Present). x.machine.is_up) same.now ∙ fallen.off;
-  recorded = ap (λ (x : Present). x.recorded) same.now ∙ fallen.recorded;
-  standing = fallen.standing;
-  disk = subst (λ (t : Option DiskState). IsSomeAnd t (LeavesStates w)) (sym told) fallen.disk;
-}
-
 -- ---- what is left now
 
--- of a machine that is up it is what is committed now
-pub begins : (m : OnDisk KernelState) (w : World) → KernelAt m.it m.told w → m.it.now.machine.is_up ≡ true → Keeps (contents_now m.it.now ∷ []) m
-begins m w stands on = let (power, there) = stands_up m.it m.told w stands on in record {
-  world = w;
-  stands = stands;
-  leaves = subst (λ (x : Present). Leaves (contents_now x ∷ []) w) (sym there.now) (whole-left w there.standing.running power);
-}
+-- a world for which a machine stands runs
+runs-of : (m : OnDisk KernelState) (w : World) → KernelAt m.it m.told w → IsRunning w
+runs-of m w at = (recorded_is m.it m.told w at).1.running
 
-pub committed-now : (cs : List Contents) (m : OnDisk KernelState) → Keeps cs m → m.it.now.machine.is_up ≡ true → Contains cs (contents_now m.it.now)
-committed-now cs m keeps on =
-    let w = keeps.world in
-    let (power, there) = stands_up m.it m.told w keeps.stands on in
-    let running = there.standing.running in
-    subst (Contains cs) (ap contents_of running.comes_to ∙ agreed (present w) running.now.agrees ∙ ap contents_now (sym there.now))
-    (keeps.leaves w.log (whole-possible w (ap is_up power) running.kept))
+-- of a machine that is up it is what is committed now
+pub begins : (m : OnDisk KernelState) (w : World) → KernelAt m.it m.told w → m.it.now.machine.is_up ≡ true → Leaves (contents_now (present w) ∷ []) w
+begins m w at on = whole-left w (runs-of m w at) (stands_up m.it m.told w at on).0
+
+pub committed-now : (cs : List Contents) (m : OnDisk KernelState) (w : World) → KernelAt m.it m.told w → Leaves cs w → m.it.now.machine.is_up ≡ true → Contains cs (contents_now (present w))
+committed-now cs m w at leaves on =
+    let running = runs-of m w at in
+    subst (Contains cs) (ap contents_of running.comes_to ∙ agreed (present w) running.now.agrees) (leaves w.log (whole-possible w (ap is_up (stands_up m.it m.told w at on).0) running.kept))
 
 -- and what is so now is kept
-pub kept-now : (cs : List Contents) (m : OnDisk KernelState) → Keeps cs m → m.it.now.machine.is_up ≡ true → IsKept m.it.now
-kept-now cs m keeps on = let (power, there) = stands_up m.it m.told keeps.world keeps.stands on in subst IsKept (sym there.now) there.standing.running.now
+pub kept-now : (m : OnDisk KernelState) (w : World) → KernelAt m.it m.told w → IsKept (present w)
+kept-now m w at = (runs-of m w at).now
 
 -- ---- calls
 
 -- the count of events goes on in the world
-events-left : (x : Present) (w : World) → x.recorded ≡ (present w).recorded → HasEventsLeft x → HasEventsLeft (present w)
-events-left x w recorded counts = let same = ap (λ (d : Durable). d.events) recorded in omega (arith, counts, same)
+events-left : (m : OnDisk KernelState) (w : World) → KernelAt m.it m.told w → HasEventsLeft m.it.now → HasEventsLeft (present w)
+events-left m w at counts = let ((row, recorded), standing) = recorded_is m.it m.told w at in let same = ap (λ (d : Durable). d.events) recorded in omega (arith, counts, same)
 
 module _ (lawful : LawfulWorldsLaw) where
-  calls : (process : Pid) (command : Command) (old new : OnDisk KernelState) (answer : Result Reply NoMemory) → HasEventsLeft old.it.now → CallLeaves process command old new answer → OnErr answer (IsAsItWas old.it new.it)
-      → (cs : List Contents) → Keeps cs old → (old.it.now.machine.is_up ≡ true → Contains cs (contents_after old.it.now (decide old.it.now process command))) → Keeps cs new
-  calls process command old new (Ok reply) counts leaves same cs keeps then =
-      let w = keeps.world in
-      let (recorded, standing) = recorded_is old.it old.told w keeps.stands in
-      let (step, after, does, stands) = leaves.does w keeps.stands in
+  calls : (process : Pid) (command : Command) (old new : OnDisk KernelState) (answer : Result Reply NoMemory) → HasEventsLeft old.it.now → CallLeaves process command old new answer
+      → (cs : List Contents) (w : World) → KernelAt old.it old.told w → Leaves cs w → (old.it.now.machine.is_up ≡ true → Contains cs (contents_after (present w) (decide (present w) process command))) → Keeps cs new
+  calls process command old new (Ok reply) counts leaves cs w at before then =
+      let (step, after, does, stands) = leaves.does w at in
       record {
         world = after;
         stands = stands;
-        leaves = left lawful w process command (events-left old.it.now w recorded counts) standing.running cs keeps.leaves (λ on.
-            let is-on = up_is old.it old.told w keeps.stands ∙ on in
-            let (power, there) = stands_up old.it old.told w keeps.stands is-on in
-            subst (λ (x : Present). Contains cs (contents_after x (decide x process command))) there.now (then is-on)) step reply after does;
+        leaves = left lawful w process command (events-left old w at counts) (runs-of old w at) cs before (λ on. then (up_is old.it old.told w at ∙ on)) step reply after does;
       }
-  calls process command old new (Err fault) counts untouched same cs keeps then = record {
-    world = keeps.world;
-    stands = moved (is_up keeps.world.power) old new keeps.world untouched.told same keeps.stands;
-    leaves = keeps.leaves;
-  }
+  calls process command old new (Err fault) counts unanswered cs w at before then = record { world = w; stands = unanswered.at w at; leaves = before }
 
   comes : (process : Pid) (command : Command) (old new : OnDisk KernelState) (reply : Reply) → HasEventsLeft old.it.now → CallLeaves process command old new (Ok reply) → IsNoRefusal reply ⊎ (new.it.now.machine.is_up ≡ true)
-      → (cs : List Contents) → Keeps cs old → HasCome old.it.now (decide old.it.now process command) reply new
-  comes process command old new reply counts leaves clear cs keeps =
-      let w = keeps.world in
-      let (recorded, standing) = recorded_is old.it old.told w keeps.stands in
-      let events_left = events-left old.it.now w recorded counts in
-      let (step, after, does, stands) = leaves.does w keeps.stands in
+      → (w : World) → KernelAt old.it old.told w → HasCome (present w) (decide (present w) process command) reply new
+  comes process command old new reply counts leaves clear w at =
+      let running = runs-of old w at in
+      let events_left = events-left old w at counts in
+      let (step, after, does, stands) = leaves.does w at in
       let clear_after : IsNoRefusal reply ⊎ (is_up after.power ≡ true) = elim clear [ inl told ↦ inl told | inr on ↦ inr (sym (up_is new.it new.told after stands) ∙ on) ] in
-      let came = came lawful w process command events_left standing.running step reply after does clear_after in
-      let ran = lawful.commands w process command events_left standing.running in
+      let came = came lawful w process command events_left running step reply after does clear_after in
       let then = extend w (decide (present w) process command) in
-      let at = subst (λ v. KernelAt new.it new.told v) came.1 stands in
-      let is-on : new.it.now.machine.is_up ≡ true = up_is new.it new.told then at ∙ ap is_up came.2 in
-      let was-on : old.it.now.machine.is_up ≡ true = up_is old.it old.told w keeps.stands ∙ ap is_up came.2 in
-      let is = (stands_up old.it old.told w keeps.stands was-on).1.now in
-      let at_then = (stands_up new.it new.told then at is-on).1.now in
+      let at-then = subst (λ v. KernelAt new.it new.told v) came.1 stands in
       record {
-        says = subst (λ (x : Present). reply ≡ (decide x process command).reply) (sym is) came.0;
+        says = came.0;
         keeps = record {
           world = then;
-          stands = at;
-          leaves = subst (λ (c : Contents). Leaves (c ∷ []) then)
-              (after-is lawful w process command events_left standing.running ∙ ap (λ (x : Present). contents_after x (decide x process command)) (sym is)) (whole-left then ran came.2);
+          stands = at-then;
+          leaves = subst (λ (c : Contents). Leaves (c ∷ []) then) (after-is lawful w process command events_left running) (whole-left then (lawful.commands w process command events_left running) came.2);
         };
-        now = subst (λ (x : Present). new.it.now ≡ apply x (decide x process command)) (sym is) (at_then ∙ step_law.0 w (decide (present w) process command) standing.running.openings);
-        up = is-on;
+        now = step_law.0 w (decide (present w) process command) running.openings;
+        up = up_is new.it new.told then at-then ∙ ap is_up came.2;
       }
 
   pub works_law : WorksLaw
-  works_law process command old new (Ok reply) counts leaves same = record {
-    either = calls process command old new (Ok reply) counts leaves same;
-    comes = comes process command old new reply counts leaves;
-  }
-  works_law process command old new (Err fault) counts leaves same = record { either = calls process command old new (Err fault) counts leaves same; comes = tt }
+  works_law process command old new (Ok reply) counts leaves = record { either = calls process command old new (Ok reply) counts leaves; comes = comes process command old new reply counts leaves }
+  works_law process command old new (Err fault) counts leaves = record { either = calls process command old new (Err fault) counts leaves; comes = tt }

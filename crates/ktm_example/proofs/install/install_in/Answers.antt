@@ -27,9 +27,9 @@ returns-in_err-set g c = λ before keeps. (
 pub returns-in-Ok : goal.returns-in-Ok
 returns-in-Ok g c = λ before keeps.
     installed before c.args.transaction.now.label c.args.release c.args.machine.now c.replace.new.machine c.replace-2.new.machine c.set.new.self c.commit.new.self (Ok c.in-Ok.state)
-    c.replace.ensures.nothing c.in_ok-replace.ensures.done c.replace-2.ensures.nothing c.in_ok-replace-2.ensures.done c.in_ok-set.ensures c.in-Ok.ensures keeps
+    c.in_ok-replace.ensures.done c.in_ok-replace-2.ensures.done c.in_ok-set.ensures c.in-Ok.ensures keeps
 
 pub returns-in-Err : goal.returns-in-Err
 returns-in-Err g c = λ before keeps.
     rw c.from.ensures (installed before c.args.transaction.now.label c.args.release c.args.machine.now c.replace.new.machine c.replace-2.new.machine c.set.new.self c.commit.new.self (Err c.in-Err.fault)
-    c.replace.ensures.nothing c.in_ok-replace.ensures.done c.replace-2.ensures.nothing c.in_ok-replace-2.ensures.done c.in_ok-set.ensures c.in-Err.ensures keeps)
+    c.in_ok-replace.ensures.done c.in_ok-replace-2.ensures.done c.in_ok-set.ensures c.in-Err.ensures keeps)

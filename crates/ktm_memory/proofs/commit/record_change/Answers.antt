@@ -1,4 +1,4 @@
-use Rattle.std.proofs.Common.{Option, None, List, ◌∷◌, [], sym, subst}
+use Rattle.std.proofs.Common.{Option, ◌∷◌, [], sym, subst}
 use Rattle.ktm_paged.specs.Meaning.{size_before}
 use Rattle.ktm_world.specs.declared.change.Change.{Change}
 use Rattle.ktm_world.specs.declared.event.Event.TheVariants.{Plain}

@@ -1,6 +1,3 @@
-use Rattle.std.proofs.Common.{ℕ, ◌≤◌, sym, subst}
-use Rattle.ktm_world.specs.declared.change.Change.TheVariants.{Put}
-use Rattle.ktm_world.specs.declared.change.Contents.TheVariants.{Whole}
 use Rattle.ktm_memory.proofs.PlainRecords.{put_recorded}
 use Rattle.ktm_memory.proofs.commit.record_put.Goals as goal
 

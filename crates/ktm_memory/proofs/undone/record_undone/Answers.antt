@@ -9,7 +9,7 @@ use Rattle.ktm_world.specs.declared.object.Transaction.{Transaction}
 use Rattle.ktm_world.specs.Transactions.{is_live}
 use Rattle.ktm_world.specs.TransactionCalls.{later}
 use Rattle.ktm_standing.specs.Effects.{undo_of}
-use Rattle.ktm_memory.proofs.UndoneLive.{undone_all, undone_here, undone_over}
+use Rattle.ktm_memory.proofs.UndoneLive.{undone_all, undone_here, undone_over, undone_same}
 use Rattle.ktm_memory.proofs.undone.record_undone.Goals as goal
 use Rattle.ktm_memory.proofs.undone.record_undone.Goals.{In-loop-place, in-Some, in_default}
 
@@ -25,7 +25,15 @@ module _ (c : In-loop-place) where
   behind = flat_map (undo_of clock) (drop (c.loop-place.place + 1) live)
 
 pub loop-place-init : goal.loop-place-init
-loop-place-init c = record { spelled = c.requires.spelled; fits = c.requires.fits; holds = ([], c.requires.empty, refl); room = refl }
+loop-place-init c =
+    let live = filter is_live c.args.tm.now.now.items in
+    let same = undone_same (later c.args.tm.now.now.clock c.args.ms) (drop c.due_from-place.result live) live c.due_from-place.ensures in
+    record {
+      spelled = subst (All IsSpellableEvent) (sym same) c.requires.spelled;
+      fits = omega (arith, c.requires.fits, ap (sum_by event_size) same);
+      holds = ([], c.requires.empty, same);
+      room = refl;
+    }
 
 pub record_one-requires-clause-spelled : goal.record_one-requires-clause-spelled
 record_one-requires-clause-spelled c =

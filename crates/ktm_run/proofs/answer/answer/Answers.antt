@@ -1,5 +1,5 @@
-use Rattle.std.proofs.Common.{refl}
-use Rattle.ktm_run.proofs.Answering.{meant, answers_so, OnErr-map, not_executed}
+use Rattle.ktm_run.proofs.Answering.{meant, answers_so, OnErr-map}
+use Rattle.ktm_run.proofs.Breaks.{unanswered_here}
 use Rattle.ktm_run.proofs.answer.answer.Goals as goal
 
 pub returns-in-Process-clause-does : goal.returns-in-Process-clause-does
@@ -26,4 +26,4 @@ returns-in-Restart-clause-no_memory g c =
 
 pub returns-in-Err-NoMemory-clause-no_memory : goal.returns-in-Err-NoMemory-clause-no_memory
 returns-in-Err-NoMemory-clause-no_memory g c =
-    not_executed c.law_of_what_is_left.ensures c.args.kernel.now c.args.kernel.now (g.D.Disk.told c.args.disk.now) (g.D.Disk.told c.args.disk.now) (g.D.Disk.status c.args.disk.now) (g.D.Disk.status c.args.disk.now) c.args.line.now refl refl
+    λ w stands. unanswered_here c.law_of_what_is_left.ensures w _ c.args.line.now stands

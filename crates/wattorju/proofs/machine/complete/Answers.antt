@@ -10,7 +10,7 @@ returns-clause-completed g c = record {
   leaves = c.complete.ensures;
   no_memory = tt;
   enough = λ none. refl;
-  commits = c.law_of_works.ensures own (command_of c.args.completion) (on c.args.kernel.now _ _) (on c.complete.new.self _ _) (Ok c.complete.result) (c.has_events_left.ensures.0 c.if-not-has_events_left.false) c.complete.ensures tt;
+  commits = c.law_of_works.ensures own (command_of c.args.completion) (on c.args.kernel.now _ _) (on c.complete.new.self _ _) (Ok c.complete.result) (c.has_events_left.ensures.0 c.if-not-has_events_left.false) c.complete.ensures;
 }
 
 pub returns-clause-told : goal.returns-clause-told

@@ -7,7 +7,7 @@ use Rattle.ktm_enlist.proofs.enlistments.Enlistments.has_unfinished.Goals as goa
 pub returns-in-Some : goal.returns-in-Some
 returns-in-Some c =
     any_counted (is_unfinished c.args.transaction) c.args.self.now.enlistments c.in-Some.group.unfinished
-    (subst (λ (id : Id). c.in-Some.group.unfinished ≡ count_by (is_unfinished id) c.args.self.now.enlistments) c.in-Some.ensures.1 c.in-Some.ensures.0.counted.unfinished)
+    (subst (λ (id : Id). c.in-Some.group.unfinished ≡ count_by (is_unfinished id) c.args.self.now.enlistments) c.in-Some.ensures.group.1 c.in-Some.ensures.group.0.counted.unfinished)
 
 pub returns-in-None : goal.returns-in-None
-returns-in-None c = any_counted (is_unfinished c.args.transaction) c.args.self.now.enlistments 0 (none_counted c.args.self.now.enlistments c.args.transaction c.in-None.ensures 0).unfinished
+returns-in-None c = any_counted (is_unfinished c.args.transaction) c.args.self.now.enlistments 0 (none_counted c.args.self.now.enlistments c.args.transaction c.in-None.ensures.group 0).unfinished

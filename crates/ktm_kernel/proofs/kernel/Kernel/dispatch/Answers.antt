@@ -1,25 +1,14 @@
-use Rattle.std.proofs.Common.{false, sym, ◌∙◌, subst}
-use Rattle.ktm_log.specs.OnDisk.{on}
-use Rattle.ktm_world.specs.declared.command.Command.{Command}
-use Rattle.ktm_core.specs.Debts.{completes, may_owe_more}
-use Rattle.ktm_units.specs.Units.{IsOfNoBytes}
-use Rattle.ktm_world.specs.Decide.{decide}
-use Rattle.ktm_kernel.specs.Answers.{AnswerLeaves}
-use Rattle.ktm_kernel.proofs.Given.{command-same}
-use Rattle.ktm_kernel.proofs.Reading.{no-bytes, read-answered, takes-over}
+use Rattle.ktm_kernel.proofs.Calls.{call-answered, call-askable, no-bytes, of-places}
+use Rattle.ktm_kernel.proofs.Given.{given, rows-seen}
 use Rattle.ktm_kernel.proofs.kernel.Kernel.dispatch.Goals as goal
 
-pub returns-in-ReadFile-clause-leaves : goal.returns-in-ReadFile-clause-leaves
-returns-in-ReadFile-clause-leaves g c = subst (λ (command : Command). AnswerLeaves (completes command) (may_owe_more command) (decide c.args.self.now.now c.args.process command) (on c.args.self.now (g.D.Disk.told c.args.disk.now) (g.D.Disk.status c.args.disk.now)) (on c.args.self.now (g.D.Disk.told c.args.disk.now) (g.D.Disk.status c.args.disk.now)) c.read.result) (sym c.in-ReadFile.is)
-    (read-answered false false c.args.self.now (g.D.Disk.told c.args.disk.now) (g.D.Disk.status c.args.disk.now) _ c.read.result c.requires.up c.requires.ready c.read.ensures.reply)
+pub answer-requires-clause-askable : goal.answer-requires-clause-askable
+answer-requires-clause-askable g c = call-askable c.args.self.now _ _ c.requires.up c.requires.ready c.args.process c.args.command
+    (of-places c.args.self.now.now c.args.process c.args.command c.requires.command c.in_default.not-ReadFile c.in_default.not-WriteFile c.in_default.not-SetEndOfFile)
 
 pub returns-in_default : goal.returns-in_default
-returns-in_default g c = record {
-  leaves = c.answer.ensures.leaves (decide c.args.self.now.now c.args.process c.args.command)
-      (command-same c.law_of_units.ensures c.law_of_alike_presents.ensures c.args.self.now (c.requires.ready.core c.requires.up).is c.args.process c.args.command none);
-  no_memory = c.answer.ensures.no_memory;
-  enough = λ takes. c.answer.ensures.enough (sym (takes-over c.law_of_alike_presents.ensures c.args.self.now (c.requires.ready.core c.requires.up).is c.args.process c.args.command none) ∙ takes);
-}
-  where
-    none : IsOfNoBytes c.args.command
-    none = no-bytes c.args.command c.requires.command c.in_default.not-ReadFile c.in_default.not-WriteFile
+returns-in_default g c = let leaves = call-answered (record { standing = c.law_of_standing.ensures; kept = c.law_of_kept.ensures; reserves = c.law_of_reserved_files.ensures; spelling = c.law_of_spelling.ensures; alike = c.law_of_alike_presents.ensures; seen = rows-seen c.law_of_paged_records.ensures; pages = c.law_of_pages.ensures })
+    c.law_of_units.ensures c.args.self.now _ _ c.requires.up c.requires.ready c.requires.counts c.answer.new.self _ _ c.args.process c.args.command (given c.args.command c.requires.command)
+    (of-places c.args.self.now.now c.args.process c.args.command c.requires.command c.in_default.not-ReadFile c.in_default.not-WriteFile c.in_default.not-SetEndOfFile)
+    (no-bytes c.args.command c.requires.command c.in_default.not-ReadFile c.in_default.not-WriteFile) c.answer.result c.answer.ensures.asked in
+    record { leaves = leaves.0; no_memory = leaves.1; enough = c.answer.ensures.enough }

@@ -1,6 +1,5 @@
 use Rattle.std.proofs.Common.{◌≡◌, [], ap, arith, refl, subst, sym, ◌∙◌}
 use Rattle.std.specs.Prelude.{vec_capacity}
-use Rattle.ktm_core.specs.Core.{core_of}
 use Rattle.ktm_core.specs.declared.machine.Core.{Core}
 use Rattle.ktm_event.specs.Kept.{EventsState}
 use Rattle.ktm_journal.specs.Image.{JournalState}
@@ -9,14 +8,14 @@ use Rattle.ktm_world.specs.declared.reply.Reply.TheVariants.{Restarted}
 use Rattle.ktm_world.specs.Sizes.{area_len, frame_size}
 use Rattle.ktm_kernel.specs.Answers.{IsRestartAnswered}
 use Rattle.ktm_kernel.specs.Buffers.{BuffersState}
-use Rattle.ktm_kernel.specs.Stands.{KernelState, machine_of}
+use Rattle.ktm_kernel.specs.Stands.{KernelState, kernel_of}
 use Rattle.ktm_kernel.proofs.Restarts.{kept_by}
 use Rattle.ktm_kernel.proofs.StartAgain.{calls_up, found_few, restart_answered, unstarted_answered}
 use Rattle.ktm_kernel.proofs.kernel.Kernel.start_again.Goals as goal
 
 pub returns-in-Ok-clause-leaves : goal.returns-in-Ok-clause-leaves
 returns-in-Ok-clause-leaves g c =
-    let is = ap (λ (core : Core). machine_of (core_of core.memory core.store)) c.replace-in-Ok.ensures.after ∙ c.kernel.view_is in
+    let is = ap (λ (core : Core). kernel_of core.memory core.store) c.replace-in-Ok.ensures.after ∙ c.kernel.view_is in
     subst (λ (k : KernelState). IsRestartAnswered (on c.args.self.now (g.D.Disk.told c.args.disk.now) (g.D.Disk.status c.args.disk.now)) (on k (g.D.Disk.told c.restart.new.disk) (g.D.Disk.status c.restart.new.disk)) (Restarted c.in-Ok.restarted.events c.in-Ok.restarted.in_doubt)) (sym is)
     (restart_answered c.law_of_standing.ensures c.args.self.now _ _ _ _ _ _ c.in-Ok.restarted c.in-Ok.ensures.leaves)
 

@@ -1,45 +1,51 @@
-use Rattle.std.proofs.Common.{◌≡◌, OnErr, true, false, refl, sym, subst}
-use Rattle.std.proofs.lemmas.Result.{on_err_weaker}
-use Rattle.ktm_core.specs.Core.{core_of}
+use Rattle.std.proofs.Common.{◌≡◌, false, refl, subst, arith}
+use Rattle.std.specs.Prelude.{IsOk}
+use Rattle.ktm_core.specs.Memory.{present_of}
 use Rattle.ktm_core.specs.Takes.{takes_memory}
 use Rattle.ktm_world.specs.declared.command.Command.TheVariants.{WriteFile}
-use Rattle.ktm_world.specs.Decide.{decide}
-use Rattle.ktm_kernel.specs.Answers.{IsAsItWas}
-use Rattle.ktm_kernel.specs.Stands.{IsReady, machine_of}
-use Rattle.ktm_kernel.proofs.Given.{command-same, write-takes}
-use Rattle.ktm_kernel.proofs.Staged.{as-was-then, asked-none, enough-of, on-err, staged-as-was, staged-leaves, unstaged-none}
+use Rattle.ktm_world.specs.declared.command.Line.TheVariants.{Process}
+use Rattle.ktm_world.specs.Decide.{decide, refusal_of}
+use Rattle.ktm_kernel.specs.Stands.{KernelState}
+use Rattle.ktm_kernel.proofs.Calls.{call-answered, call-askable}
+use Rattle.ktm_kernel.proofs.Given.{write-takes, rows-seen}
+use Rattle.ktm_kernel.proofs.StagedCalls.{write-done, may-stage, staged-askable, staged-call, staged-enough, staged-ready}
 use Rattle.ktm_kernel.proofs.kernel.Kernel.write.Goals as goal
 
-pub returns-then-is_empty-clause-leaves : goal.returns-then-is_empty-clause-leaves
-returns-then-is_empty-clause-leaves g c = c.answer.ensures.leaves (decide c.args.self.now.now c.args.process (WriteFile c.args.file c.args.offset c.args.bytes))
-    (command-same c.law_of_units.ensures c.law_of_alike_presents.ensures c.args.self.now (c.requires.ready.core c.requires.up).is c.args.process (WriteFile c.args.file c.args.offset c.args.bytes) (c.if-is_empty.ensures.0 refl))
+pub stage_write-staged-requires-clause-may : goal.stage_write-staged-requires-clause-may
+stage_write-staged-requires-clause-may g c = may-stage c.self.inside.core.memory c.self.inside.core.store _ _ (rw (← c.self.view_is) at c.requires.up) refl (rw (← c.self.view_is) at c.requires.ready)
 
-pub returns-in_err-staged-clause-no_memory : goal.returns-in_err-staged-clause-no_memory
-returns-in_err-staged-clause-no_memory g c = on-err c.from_residual.result (subst (λ k. IsAsItWas k (machine_of (core_of c.self.inside.core.memory c.stage_write.new.store))) c.self.view_is
-    (staged-as-was c.law_of_units.ensures.0 c.self.inside.core.memory c.self.inside.core.store c.stage_write.new.store c.stage_write.ensures.keeps))
-
-pub returns-in_err-staged-clause-enough : goal.returns-in_err-staged-clause-enough
-returns-in_err-staged-clause-enough g c = enough-of c.from_residual.result (takes_memory c.args.self.now.now c.args.process (WriteFile c.args.file c.args.offset c.args.bytes))
-    (on-err c.from_residual.result (subst (λ k. takes_memory k.now c.args.process (WriteFile c.args.file c.args.offset c.args.bytes) ≡ true) c.self.view_is
-    ((write-takes c.law_of_units.ensures (core_of c.self.inside.core.memory c.self.inside.core.store) c.args.process c.args.file c.args.offset c.args.bytes (c.if-is_empty.ensures.1)) (unstaged-none c.in_err-staged.field-0.0 _ c.in_err-staged.ensures.passes))))
+pub stage_write-staged-requires-clause-headed : goal.stage_write-staged-requires-clause-headed
+stage_write-staged-requires-clause-headed g c = (rw (← c.self.view_is) at c.requires.ready).powered.image (rw (← c.self.view_is) at c.requires.up)
 
 pub ask-requires-clause-ready : goal.ask-requires-clause-ready
-ask-requires-clause-ready g c = (staged-as-was c.law_of_units.ensures.0 c.self.inside.core.memory c.self.inside.core.store c.stage_write.new.store c.in_ok-staged.ensures.keeps).ready _ _ (subst (λ k. IsReady k (g.D.Disk.told c.args.disk.now) (g.D.Disk.status c.args.disk.now)) (sym c.self.view_is) c.requires.ready)
+ask-requires-clause-ready g c = staged-ready c.self.inside.core.memory c.self.inside.core.store c.stage_write-staged.new.store (Process c.args.process (WriteFile c.args.file c.args.offset c.args.bytes)) (decide (present_of c.self.inside.core.memory) c.args.process (WriteFile c.args.file c.args.offset c.args.bytes)) (refusal_of (present_of c.self.inside.core.memory) c.args.process (WriteFile c.args.file c.args.offset c.args.bytes))
+    _ _ _ _ 2 (rw (← c.self.view_is) at c.requires.up) (rw (← c.self.view_is) at c.requires.ready) c.stage_write-staged.ensures.places c.stage_write-staged.result c.stage_write-staged.ensures.reads
+
+pub ask-requires-clause-askable : goal.ask-requires-clause-askable
+ask-requires-clause-askable g c = staged-askable c.self.inside.core.memory c.self.inside.core.store c.stage_write-staged.new.store (Process c.args.process (WriteFile c.args.file c.args.offset c.args.bytes)) (decide (present_of c.self.inside.core.memory) c.args.process (WriteFile c.args.file c.args.offset c.args.bytes)) (refusal_of (present_of c.self.inside.core.memory) c.args.process (WriteFile c.args.file c.args.offset c.args.bytes))
+    (g.D.Disk.told c.args.disk.now) (g.D.Disk.told c.args.disk.now) (g.D.Disk.status c.args.disk.now) _ 2 (rw (← c.self.view_is) at c.requires.up) (rw (← c.self.view_is) at c.requires.ready) c.stage_write-staged.ensures.places c.stage_write-staged.result c.stage_write-staged.ensures.asks
 
 pub returns-clause-leaves : goal.returns-clause-leaves
-returns-clause-leaves g c = staged-leaves false true c.args.self.now (machine_of (core_of c.self.inside.core.memory c.stage_write.new.store)) (λ y. decide y c.args.process (WriteFile c.args.file c.args.offset c.args.bytes)) _ _ _ c.ask.result
-    (subst (λ k. IsAsItWas k (machine_of (core_of c.self.inside.core.memory c.stage_write.new.store))) c.self.view_is
-    (staged-as-was c.law_of_units.ensures.0 c.self.inside.core.memory c.self.inside.core.store c.stage_write.new.store c.in_ok-staged.ensures.keeps))
-    (c.ask.ensures.leaves (λ y. decide y c.args.process (WriteFile c.args.file c.args.offset c.args.bytes)) c.in_ok-staged.ensures.ok)
+returns-clause-leaves g c = rw (← c.self.view_is) (staged-call (record { standing = c.law_of_standing.ensures; kept = c.law_of_kept.ensures; reserves = c.law_of_reserved_files.ensures; spelling = c.law_of_spelling.ensures; alike = c.law_of_alike_presents.ensures; seen = rows-seen c.law_of_paged_records.ensures; pages = c.law_of_pages.ensures }) c.law_of_units.ensures.0 c.args.process (WriteFile c.args.file c.args.offset c.args.bytes) c.requires.command c.self.inside.core.memory c.self.inside.core.store c.stage_write-staged.new.store
+    _ _ _ _ 2 (rw (← c.self.view_is) at c.requires.up) (rw (← c.self.view_is) at c.requires.ready) (rw (← c.self.view_is) at c.requires.counts) (omega arith) (omega arith) refl (refusal_of (present_of c.self.inside.core.memory) c.args.process (WriteFile c.args.file c.args.offset c.args.bytes)) (write-done (present_of c.self.inside.core.memory) c.args.process c.args.file c.args.offset c.args.bytes)
+    c.stage_write-staged.result c.stage_write-staged.ensures.reads c.stage_write-staged.ensures.places c.stage_write-staged.ensures.rows c.stage_write-staged.ensures.asks c.ask.new.self _ _ c.ask.result c.ask.ensures).0
 
 pub returns-clause-no_memory : goal.returns-clause-no_memory
-returns-clause-no_memory g c = on_err_weaker c.ask.result
-    (as-was-then c.args.self.now (machine_of (core_of c.self.inside.core.memory c.stage_write.new.store)) c.ask.new.self
-    (subst (λ k. IsAsItWas k (machine_of (core_of c.self.inside.core.memory c.stage_write.new.store))) c.self.view_is
-    (staged-as-was c.law_of_units.ensures.0 c.self.inside.core.memory c.self.inside.core.store c.stage_write.new.store c.in_ok-staged.ensures.keeps)))
-    c.ask.ensures.no_memory
+returns-clause-no_memory g c = rw (← c.self.view_is) (staged-call (record { standing = c.law_of_standing.ensures; kept = c.law_of_kept.ensures; reserves = c.law_of_reserved_files.ensures; spelling = c.law_of_spelling.ensures; alike = c.law_of_alike_presents.ensures; seen = rows-seen c.law_of_paged_records.ensures; pages = c.law_of_pages.ensures }) c.law_of_units.ensures.0 c.args.process (WriteFile c.args.file c.args.offset c.args.bytes) c.requires.command c.self.inside.core.memory c.self.inside.core.store c.stage_write-staged.new.store
+    _ _ _ _ 2 (rw (← c.self.view_is) at c.requires.up) (rw (← c.self.view_is) at c.requires.ready) (rw (← c.self.view_is) at c.requires.counts) (omega arith) (omega arith) refl (refusal_of (present_of c.self.inside.core.memory) c.args.process (WriteFile c.args.file c.args.offset c.args.bytes)) (write-done (present_of c.self.inside.core.memory) c.args.process c.args.file c.args.offset c.args.bytes)
+    c.stage_write-staged.result c.stage_write-staged.ensures.reads c.stage_write-staged.ensures.places c.stage_write-staged.ensures.rows c.stage_write-staged.ensures.asks c.ask.new.self _ _ c.ask.result c.ask.ensures).1
 
 pub returns-clause-enough : goal.returns-clause-enough
-returns-clause-enough g c = enough-of c.ask.result (takes_memory c.args.self.now.now c.args.process (WriteFile c.args.file c.args.offset c.args.bytes))
-    (subst (λ k. OnErr c.ask.result (takes_memory k.now c.args.process (WriteFile c.args.file c.args.offset c.args.bytes) ≡ true)) c.self.view_is
-    (on_err_weaker c.ask.result (write-takes c.law_of_units.ensures (core_of c.self.inside.core.memory c.self.inside.core.store) c.args.process c.args.file c.args.offset c.args.bytes (c.if-is_empty.ensures.1)) (asked-none c.ask.result c.in_ok-staged.staged _ c.ask.ensures.enough c.in_ok-staged.ensures.passes)))
+returns-clause-enough g c = subst (λ (k : KernelState). takes_memory k.now c.args.process (WriteFile c.args.file c.args.offset c.args.bytes) ≡ false → IsOk c.ask.result) c.self.view_is (staged-enough (present_of c.self.inside.core.memory) c.stage_write-staged.new.store (Process c.args.process (WriteFile c.args.file c.args.offset c.args.bytes)) (decide (present_of c.self.inside.core.memory) c.args.process (WriteFile c.args.file c.args.offset c.args.bytes)) (refusal_of (present_of c.self.inside.core.memory) c.args.process (WriteFile c.args.file c.args.offset c.args.bytes))
+    _ _ (takes_memory (present_of c.self.inside.core.memory) c.args.process (WriteFile c.args.file c.args.offset c.args.bytes)) (write-takes (present_of c.self.inside.core.memory) c.args.process c.args.file c.args.offset c.args.bytes c.if-is_empty.ensures.1) c.stage_write-staged.result c.stage_write-staged.ensures.asks _ _ c.ask.result c.ask.ensures)
+
+pub answer-requires-clause-askable : goal.answer-requires-clause-askable
+answer-requires-clause-askable g c = call-askable c.args.self.now _ _ c.requires.up c.requires.ready c.args.process (WriteFile c.args.file c.args.offset c.args.bytes) (c.requires.command, c.if-is_empty.ensures.0 refl)
+
+pub returns-then-is_empty-clause-leaves : goal.returns-then-is_empty-clause-leaves
+returns-then-is_empty-clause-leaves g c = (call-answered (record { standing = c.law_of_standing.ensures; kept = c.law_of_kept.ensures; reserves = c.law_of_reserved_files.ensures; spelling = c.law_of_spelling.ensures; alike = c.law_of_alike_presents.ensures; seen = rows-seen c.law_of_paged_records.ensures; pages = c.law_of_pages.ensures }) c.law_of_units.ensures c.args.self.now _ _ c.requires.up c.requires.ready c.requires.counts c.answer.new.self _ _ c.args.process (WriteFile c.args.file c.args.offset c.args.bytes) c.requires.command
+    (c.requires.command, c.if-is_empty.ensures.0 refl) (c.if-is_empty.ensures.0 refl) c.answer.result c.answer.ensures.asked).0
+
+pub returns-then-is_empty-clause-no_memory : goal.returns-then-is_empty-clause-no_memory
+returns-then-is_empty-clause-no_memory g c = (call-answered (record { standing = c.law_of_standing.ensures; kept = c.law_of_kept.ensures; reserves = c.law_of_reserved_files.ensures; spelling = c.law_of_spelling.ensures; alike = c.law_of_alike_presents.ensures; seen = rows-seen c.law_of_paged_records.ensures; pages = c.law_of_pages.ensures }) c.law_of_units.ensures c.args.self.now _ _ c.requires.up c.requires.ready c.requires.counts c.answer.new.self _ _ c.args.process (WriteFile c.args.file c.args.offset c.args.bytes) c.requires.command
+    (c.requires.command, c.if-is_empty.ensures.0 refl) (c.if-is_empty.ensures.0 refl) c.answer.result c.answer.ensures.asked).1

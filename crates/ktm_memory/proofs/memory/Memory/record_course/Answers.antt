@@ -18,7 +18,7 @@ use Rattle.ktm_world.specs.TransactionCalls.{course_of}
 use Rattle.txf_overlay.specs.OverlayState.{is_of_names}
 use Rattle.txf_volume.specs.Held.{files_of}
 use Rattle.txf_volume.specs.Shown.{shown}
-use Rattle.ktm_memory.specs.Memory.{MemoryState, course_then, present_of}
+use Rattle.ktm_memory.specs.Memory.{MemoryState, present_of}
 use Rattle.ktm_memory.proofs.CourseRecords.{AreKnown, AreParts, known}
 use Rattle.ktm_memory.proofs.WorkRecords.{AllMean, IsFinal, all-mean, names-recordable, recorded-final}
 use Rattle.ktm_memory.proofs.memory.Memory.record_course.Goals as goal

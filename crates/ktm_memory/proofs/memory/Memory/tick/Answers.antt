@@ -12,13 +12,18 @@ use Rattle.ktm_world.specs.TransactionCalls.{aborted_by, is_due, tick}
 use Rattle.ktm_world.specs.Transactions.{is_live}
 use Rattle.ktm_memory.specs.Memory.{MemoryState, Settles, TellsWithin, present_of}
 use Rattle.ktm_memory.proofs.Behind.{settles-behind, settles-same, shows-held, told-first, told-rest, told-same}
-use Rattle.ktm_memory.proofs.Ticks.{fewer_over, fewer_rolled, from-behind, from-over, from_here, held_rolled, left_from, live_at, live_if_due, looks-from, rolled_few, rolled_rise, settles-over, settles-tick, told-tick}
+use Rattle.ktm_memory.proofs.Ticks.{due_from, fewer_over, fewer_rolled, from-behind, from-later, from-over, from_here, held_rolled, left_from, live_at, live_if_due, looks-from, rolled_few, rolled_rise, settles-over, settles-tick, told-tick}
 use Rattle.ktm_memory.proofs.memory.Memory.tick.Goals as goal
 
 pub loop-t-init : goal.loop-t-init
 loop-t-init c =
     let m : MemoryState = record { is_up = c.self.inside.is_up; journal = c.self.inside.journal; handles = c.self.inside.handles; tm = c.self.inside.tm; trace = c.self.inside.trace; files = c.self.inside.files; next_node = c.self.inside.next_node; keys = c.self.inside.keys } in
     let rise : Rise m.tm.now.items = subst (λ (old : MemoryState). Rise old.tm.now.items) (sym c.self.view_is) c.requires.may.0 in
+    let later_now = c.advance.new.self.now in
+    let place = c.due_from-place.result in
+    let passed : MemoryState = record m { tm = c.advance.new.self } in
+    let same : due_from later_now place ≡ due_from later_now 0 =
+    ap (λ all. due_from all place) c.advance.ensures.now ∙ c.due_from-place.ensures ∙ sym (ap (λ all. due_from all 0) c.advance.ensures.now) in
     let items : c.advance.new.self.now.items ≡ c.args.self.now.tm.now.items = ap (λ now. now.items) c.advance.ensures.now ∙ ap (λ m. m.tm.now.items) c.self.view_is in
     record {
       rise = subst Rise (sym items) c.requires.may.0;
@@ -26,9 +31,10 @@ loop-t-init c =
       journal = ap (λ m. m.journal) c.self.view_is;
       rules = λ rule none each. subst (λ (old : MemoryState). EachOfFiles (Follows rule) (files_of old.files)) (sym c.self.view_is) each;
       settles = λ new rest. subst (λ (old : MemoryState). Settles old (λ x. tick x c.args.ms) new) c.self.view_is
-          (settles-tick m new c.advance.new.self c.args.ms rise c.advance.ensures.boot c.advance.ensures.now c.advance.ensures.rest rest);
-      told = told-tick m c.advance.new.self c.args.ms rise c.advance.ensures.boot c.advance.ensures.now c.advance.ensures.rest
-          (subst (λ (old : MemoryState). TellsWithin old (λ x. tick x c.args.ms)) (sym c.self.view_is) c.requires.told);
+          (settles-tick m new c.advance.new.self c.args.ms rise c.advance.ensures.boot c.advance.ensures.now c.advance.ensures.rest (settles-same passed new (from_here place) (from_here 0) (from-later passed place same) rest));
+      told = told-same passed (from_here place) (from_here 0) (from-later passed place same)
+          (told-tick m c.advance.new.self c.args.ms rise c.advance.ensures.boot c.advance.ensures.now c.advance.ensures.rest
+          (subst (λ (old : MemoryState). TellsWithin old (λ x. tick x c.args.ms)) (sym c.self.view_is) c.requires.told));
     }
 
 pub loop-t-preserved : goal.loop-t-preserved

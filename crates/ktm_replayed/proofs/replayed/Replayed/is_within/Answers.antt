@@ -1,9 +1,10 @@
-use Rattle.std.proofs.Common.{◌≡◌, ◌∙◌, true, false, sym, ap}
+use Rattle.std.proofs.Common.{◌≡◌, ◌∙◌, true, false, refl, sym, ap}
 use Rattle.txf_tree.specs.TreeState.{tree_of}
 use Rattle.ktm_replayed.specs.Replayed.{ReplayedState}
 use Rattle.ktm_waiting.specs.declared.amounts.Amounts.{Amounts}
 use Rattle.ktm_waiting.specs.Waiting.{committed, fits_in, limits, minus, total}
 use Rattle.ktm_waiting.proofs.offered.Limits.{rest-fits, too-many, too-much}
+use Rattle.ktm_replayed.proofs.Within.{within_alone}
 use Rattle.ktm_replayed.proofs.replayed.Replayed.is_within.Goals as goal
 
 pub returns-in_default : goal.returns-in_default
@@ -27,3 +28,6 @@ returns-then-are_few c =
     ∙ ap (λ (a : Amounts). fits_in a c.in-Some.room) (c.taken.ensures tree (λ t there. (c.self.invariant.kept.each t there).apply))
     ∙ ap (λ (r : ReplayedState). fits_in (total r.state.tree r.state.transactions) c.in-Some.room) c.self.view_is
     ∙ rest-fits s c.in-Some.room fits left (sym c.if-are_few.ensures)
+
+pub returns-then-has_no_transactions : goal.returns-then-has_no_transactions
+returns-then-has_no_transactions c = c.is_committed_within.ensures ∙ sym (within_alone c.args.self.now.state (c.if-has_no_transactions.ensures refl))

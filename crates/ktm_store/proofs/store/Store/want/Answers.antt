@@ -1,5 +1,5 @@
 use Rattle.std.proofs.Common.{arith}
-use Rattle.ktm_store.proofs.Wanted.{pages-below}
+use Rattle.ktm_store.proofs.offered.HoldingContents.{pages-below}
 use Rattle.ktm_store.proofs.offered.Holding.{held-lie}
 use Rattle.ktm_store.proofs.store.Store.want.Goals as goal
 

@@ -24,8 +24,11 @@ invariant_of-self c =
       omega (arith, room, c.self.invariant.4, c.push_reserved.ensures.len),
     ))
 
-pub returns : goal.returns
-returns c =
+pub returns-clause-rising : goal.returns-clause-rising
+returns-clause-rising c = rw (← c.self.view_is) (table c).listed.rising
+
+pub returns-clause-now : goal.returns-clause-now
+returns-clause-now c =
     let many = as_many c.self.inside.endings.items _ c.self.invariant.0.endings_are in
     let made : length (c.self.inside.endings.items ++ c.ending_of.result ∷ []) - length c.self.inside.back.items ≡ length c.self.inside.endings.items - length c.self.inside.back.items + 1 =
     omega (arith, many, c.self.invariant.0.listed.within, length-append c.self.inside.endings.items (c.ending_of.result ∷ [])) in

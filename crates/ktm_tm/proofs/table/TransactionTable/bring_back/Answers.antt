@@ -26,8 +26,11 @@ invariant_of-self c =
       omega (arith, room, c.self.invariant.4, c.push_reserved-2.ensures.len),
     ))
 
-pub returns : goal.returns
-returns c =
+pub returns-clause-rising : goal.returns-clause-rising
+returns-clause-rising c = rw (← c.self.view_is) (table c).listed.rising
+
+pub returns-clause-now : goal.returns-clause-now
+returns-clause-now c =
     let made : length (c.self.inside.endings.items ++ c.ending_of.result ∷ []) - length (c.self.inside.back.items ++ c.args.t.id ∷ []) ≡ length c.self.inside.endings.items - length c.self.inside.back.items =
     omega (arith, length-append c.self.inside.endings.items (c.ending_of.result ∷ []), length-append c.self.inside.back.items (c.args.t.id ∷ [])) in
     rw (← c.self.view_is, c.push_reserved.ensures.items, c.push_reserved-2.ensures.items, c.push_reserved-3.ensures.items) (as_seen c.self.inside.boot (c.self.inside.room - 1) _ _ _ _ made (all_are _ _ _ _ _ (table c)))

@@ -11,4 +11,6 @@ invariant_of-self c = (
   c.self.invariant.1,
   rw c.add.ensures.managers (there_more c.self.inside.managers.managers _ c.self.inside.enlistments.enlistments c.self.invariant.2),
   c.self.invariant.3,
+  c.self.invariant.4,
+  c.self.invariant.5,
 )

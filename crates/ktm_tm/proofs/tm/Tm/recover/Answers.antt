@@ -36,6 +36,8 @@ invariant_of-self c =
       rw (c.send.ensures.managers, c.tell_each.ensures.managers)
           (there_all None (last_note c.args.manager ∷ []) _ c.self.inside.enlistments.enlistments ∙ there_all None _ c.self.inside.managers.managers c.self.inside.enlistments.enlistments ∙ c.self.invariant.2),
       c.self.invariant.3,
+      c.self.invariant.4,
+      c.self.invariant.5,
     )
 
 pub returns-clause-managers : goal.returns-clause-managers

@@ -11,4 +11,6 @@ invariant_of-self c = (
   c.self.invariant.1,
   rw c.take.ensures.managers (there_all (Some c.args.id) [] c.self.inside.managers.managers c.self.inside.enlistments.enlistments ∙ c.self.invariant.2),
   c.self.invariant.3,
+  c.self.invariant.4,
+  c.self.invariant.5,
 )
